@@ -1,0 +1,75 @@
+-- What the four plausible faults give in the cases, and that their starts are not smooth.
+use Prim.Native.Nat.{ℕ, _+_, _-_, _*_, _/_, _≤_, _<_}
+use mathlib.Core.Path.{_≡_, refl}
+use mathlib.Core.List.{List, [], _∷_}
+use native.Mathlib.Omega.{arith}
+use native.Mathlib.Decide.{decLe}
+use borrow.Author.Tests.{le-ltb}
+use Rattle.lines.specs.declared.Slot.{Slot}
+use Rattle.lines.specs.Slots.{total}
+use Rattle.lines.specs.Demand.{due, newDemand, Smooth, lastEnd}
+use Rattle.lines.specs.Grounds.{stretched, asked}
+use Rattle.lines.specs.Ask.{every, endsBefore, endsOf}
+use Rattle.lines.specs.Cases.{caseA, caseD, caseM}
+use Rattle.lines.specs.Faults.{closedStart, excessWith, floorStart, QuietAtEnds}
+
+-- an excess anywhere: not smooth
+pub not-smooth : (t0 : ℕ) (l : List Slot) (Cn Tn r t : ℕ) → t0 ≤ t → 0 < excessWith t0 l Cn Tn r t → Smooth t0 l (newDemand Cn Tn) r → ⊥
+not-smooth t0 l Cn Tn r t h x s = omega (arith, s .no-excess t h)
+
+-- "In case B it gives 8"
+pub closed-formula-B : closedStart 6 (record { need = 8; period = 16; age = 6; remaining = 2 }) 32 ≡ 8
+unfolding closedStart
+closed-formula-B = refl
+
+-- "In case D it gives 103", and with 103 the line due at 108 is a tick short
+pub floor-D : floorStart 100 (asked (caseD .table) (caseD .request)) 2 4 108 ≡ 103
+unfolding floorStart total due stretched
+floor-D = refl
+
+floor-D-excess : excessWith 100 (asked (caseD .table) (caseD .request)) 2 4 103 108 ≡ 1
+unfolding total due stretched
+floor-D-excess = refl
+
+pub floor-D-not-smooth : Smooth 100 (asked (caseD .table) (caseD .request)) (newDemand 2 4) 103 → ⊥
+floor-D-not-smooth = not-smooth 100 (asked (caseD .table) (caseD .request)) 2 4 103 108 (omega arith) (omega (arith, floor-D-excess))
+
+-- "In case M that gives 103": it is the least start with no excess at the running lines' ends
+ends-M : endsOf 100 (lastEnd 100 (asked (caseM .table) (caseM .request))) (asked (caseM .table) (caseM .request)) ≡ 108 ∷ []
+unfolding every endsBefore endsOf lastEnd stretched
+ends-M = refl
+
+pub only-ends-M : QuietAtEnds 100 (asked (caseM .table) (caseM .request)) 3 6 103
+unfolding total due stretched
+only-ends-M = rw ends-M (omega arith, tt)
+
+demand-M : (u : ℕ) → excessWith 100 (asked (caseM .table) (caseM .request)) 3 6 u 108 ≡ 7 + newDemand 3 6 u 108 - 8
+unfolding total due stretched
+demand-M u = refl
+
+pub only-ends-M-least : (u : ℕ) → 100 ≤ u → QuietAtEnds 100 (asked (caseM .table) (caseM .request)) 3 6 u → 103 ≤ u
+unfolding due
+only-ends-M-least u h q = by (decLe 103 u)
+  where
+    by : Dec (103 ≤ u) → 103 ≤ u
+    by (yes b) = b
+    by (no b) =
+        let e : newDemand 3 6 u 108 ≡ 0 + 3 * ((108 - u) / 6) = rw (le-ltb 108 u (omega arith)) in
+        let a = rw ends-M at q in
+        omega (arith, a .0, demand-M u, e)
+
+-- "the bench's own first end would then be 109, with an excess of 1"
+pub only-ends-M-excess : excessWith 100 (asked (caseM .table) (caseM .request)) 3 6 103 109 ≡ 1
+unfolding total due stretched
+only-ends-M-excess = refl
+
+pub only-ends-M-not-smooth : Smooth 100 (asked (caseM .table) (caseM .request)) (newDemand 3 6) 103 → ⊥
+only-ends-M-not-smooth = not-smooth 100 (asked (caseM .table) (caseM .request)) 3 6 103 109 (omega arith) (omega (arith, only-ends-M-excess))
+
+-- "In case A the bench's share, 1/4, is below both old shares, and the start is still 13": at once there is an excess of 2 at 16
+at-once-A-excess : excessWith 8 (asked (caseA .table) (caseA .request)) 1 4 8 16 ≡ 2
+unfolding total due stretched
+at-once-A-excess = refl
+
+pub at-once-A-not-smooth : (1 * 16 < 8 * 4) × (Smooth 8 (asked (caseA .table) (caseA .request)) (newDemand 1 4) 8 → ⊥)
+at-once-A-not-smooth = (omega arith, not-smooth 8 (asked (caseA .table) (caseA .request)) 1 4 8 16 (omega arith) (omega (arith, at-once-A-excess)))

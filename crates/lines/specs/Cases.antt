@@ -1,0 +1,82 @@
+-- Benches by example: cases A to M, as whole tables and requests.
+use Prim.Native.Nat.{ℕ, _-_}
+use mathlib.Core.List.{List, [], _∷_, _++_, map}
+use lib.ListN.{length, replicate}
+use Rattle.lines.specs.declared.Held.the-variants.{Running}
+use Rattle.lines.specs.declared.Slot.{Slot}
+use Rattle.lines.specs.declared.Table.{Table}
+use Rattle.lines.specs.declared.Request.{Request}
+use Rattle.lines.specs.declared.Answer.{Answer}
+use Rattle.lines.specs.declared.Answer.the-variants.{Start, Refused}
+use Rattle.lines.specs.Slots.{empty, refusal}
+
+-- "Lines as (C, T, T', age, remaining)"
+pub record Bench : Type 0 where
+  pub need : ℕ
+  pub period : ℕ
+  pub stretched : ℕ
+  pub age : ℕ
+  pub remaining : ℕ
+
+pub record Case : Type 0 where
+  pub table : Table
+  pub request : Request
+  pub answer : Answer
+
+abbrev pub line : (C T T' age remaining : ℕ) → Bench
+line C T T' a c = record { need = C; period = T; stretched = T'; age = a; remaining = c }
+
+abbrev pub slotFor : Bench → Slot
+slotFor b = record { held = Running (record { need = b .need; period = b .period; age = b .age; remaining = b .remaining }) }
+
+abbrev pub tableFor : (clock : ℕ) → List Bench → Table
+tableFor t0 bs = record { clock = t0; slots = map slotFor bs ++ replicate (16 - length bs) empty }
+
+abbrev pub requestFor : List Bench → (Cn Tn : ℕ) → Request
+requestFor bs Cn Tn =
+    record { stretched = map (λ (b : Bench). b .stretched) bs ++ replicate (16 - length bs) 0; need = Cn; period = Tn }
+
+abbrev pub case : (clock : ℕ) → List Bench → (Cn Tn : ℕ) → Answer → Case
+case t0 bs Cn Tn a = record { table = tableFor t0 bs; request = requestFor bs Cn Tn; answer = a }
+
+abbrev pub caseA : Case
+caseA = case 8 (line 8 16 32 8 0 ∷ line 8 16 16 8 8 ∷ []) 1 4 (Start 13)
+
+abbrev pub caseB : Case
+caseB = case 6 (line 8 16 32 6 2 ∷ line 12 24 24 6 12 ∷ []) 1 4 (Start 6)
+
+abbrev pub caseC : Case
+caseC = case 0 [] 3 5 (Start 0)
+
+abbrev pub caseD : Case
+caseD = case 100 (line 7 28 28 20 7 ∷ line 8 16 32 8 0 ∷ []) 2 4 (Start 105)
+
+abbrev pub caseE : Case
+caseE = case 40 (line 1 4 4 0 1 ∷ line 16 64 64 52 8 ∷ line 16 32 64 12 0 ∷ []) 1 4 (Start 45)
+
+abbrev pub caseF : Case
+caseF = case 0 (line 4 8 8 4 2 ∷ []) 1 2 (Start 0)
+
+abbrev pub caseG : Case
+caseG = case 0 (line 4 8 8 4 3 ∷ []) 1 2 (Refused (refusal 9 0))
+
+abbrev pub caseH : Case
+caseH = case 0 (line 8 16 16 0 8 ∷ []) 8 16 (Start 0)
+
+abbrev pub caseI : Case
+caseI = case 0 (line 8 16 16 0 8 ∷ []) 9 16 (Refused (refusal 8 0))
+
+abbrev pub caseJ : Case
+caseJ = case 0 (line 5 20 20 17 5 ∷ line 10 20 20 0 0 ∷ []) 1 4 (Refused (refusal 10 0))
+
+abbrev pub caseK : Case
+caseK = case 0 (line 1 64 64 0 1 ∷ []) 1 15625 (Start 0)
+
+abbrev pub caseL : Case
+caseL = case 0 (line 1 64 64 0 1 ∷ []) 1 15629 (Refused (refusal 7 0))
+
+abbrev pub caseM : Case
+caseM = case 100 (line 7 28 28 20 7 ∷ line 8 16 32 8 0 ∷ []) 3 6 (Start 104)
+
+unfoldable pub cases : List Case
+cases = caseA ∷ caseB ∷ caseC ∷ caseD ∷ caseE ∷ caseF ∷ caseG ∷ caseH ∷ caseI ∷ caseJ ∷ caseK ∷ caseL ∷ caseM ∷ []

@@ -1,0 +1,122 @@
+-- The step of the pump: who gets the tick, what a tick does to a line, and the refusals 15, 4, 14.
+use Prim.Native.Nat.{ℕ, zero, suc, _+_, _-_, _^_, _≤_, _<_}
+use mathlib.Core.Bool.{Bool, false, not}
+use mathlib.Core.List.{List, map}
+use mathlib.Core.Option.{Option, none, some}
+use lib.Dec.{ltb, leb}
+use lib.ListN.{length}
+use Rattle.lines.specs.declared.Held.{Held}
+use Rattle.lines.specs.declared.Held.the-variants.{Nothing, Running, Waiting}
+use Rattle.lines.specs.declared.Slot.{Slot}
+use Rattle.lines.specs.declared.Table.{Table}
+use Rattle.lines.specs.declared.Which.{Which}
+use Rattle.lines.specs.declared.Which.the-variants.{None, At}
+use Rattle.lines.specs.declared.Outcome.{Outcome}
+use Rattle.lines.specs.declared.Outcome.the-variants.{Ran, Refused}
+use Rattle.lines.specs.declared.Stepped.{Stepped}
+use Rattle.lines.specs.Slots.{pick, at, lowestOf, slotOf, refusal, Said, gives, refuses}
+use Rattle.lines.specs.Sound.{sound}
+use Rattle.lines.specs.Admit.{fresh, putAt}
+
+-- what the document says for each case of a step's answer: the slot that ran or none, or the refusal
+abbrev pub saysRan : Outcome → Said (Option ℕ)
+saysRan (Ran w) = gives (slotOf w)
+saysRan (Refused x) = refuses x
+
+abbrev pub whichOf : Option ℕ → Which
+whichOf none = None
+whichOf (some k) = At k
+
+-- "running lines with c above 0", said and computed
+abbrev pub Owed : Held → Type 0
+Owed Nothing = ⊥
+Owed (Running r) = 0 < r .remaining
+Owed (Waiting w) = ⊥
+
+abbrev pub isOwed : Held → Bool
+isOwed Nothing = false
+isOwed (Running r) = ltb 0 (r .remaining)
+isOwed (Waiting w) = false
+
+-- T − a
+abbrev pub toEnd : Held → ℕ
+toEnd Nothing = 0
+toEnd (Running r) = r .period - r .age
+toEnd (Waiting w) = 0
+
+-- a least end among those owed, whichever of equals; none only if nobody is owed
+abbrev pub Earliest : Option ℕ → List Slot → Type 0
+Earliest none l = (i : ℕ) → i < length l → Owed (at l i) → ⊥
+Earliest (some j) l = (j < length l) × Owed (at l j) × ((i : ℕ) → i < length l → Owed (at l i) → toEnd (at l j) ≤ toEnd (at l i))
+
+-- "the one with the least T − a gets the tick; equal values go to the lowest slot": among the first n slots
+abbrev pub Chosen : ℕ → Option ℕ → List Slot → Type 0
+Chosen n none l = (i : ℕ) → i < n → Owed (at l i) → ⊥
+Chosen n (some j) l =
+    (j < n) × Owed (at l j) × ((i : ℕ) → i < n → Owed (at l i) → toEnd (at l j) ≤ toEnd (at l i))
+    × ((i : ℕ) → i < j → Owed (at l i) → toEnd (at l j) < toEnd (at l i))
+
+-- the same, computed: slot n against the choice among those below it
+abbrev pub sooner : Option ℕ → ℕ → List Slot → Option ℕ
+sooner none n l = some n
+sooner (some j) n l = pick (ltb (toEnd (at l n)) (toEnd (at l j))) (some n) (some j)
+
+unfoldable pub chosen : ℕ → List Slot → Option ℕ
+chosen zero l = none
+chosen (suc n) l = pick (isOwed (at l n)) (sooner (chosen n l) n l) (chosen n l)
+
+abbrev pub choose : List Slot → Option ℕ
+choose l = chosen (length l) l
+
+-- "Its c falls by one."
+abbrev pub served : Held → Held
+served Nothing = Nothing
+served (Running r) = Running (record { need = r .need; period = r .period; age = r .age; remaining = r .remaining - 1 })
+served (Waiting w) = Waiting w
+
+abbrev pub serve : Option ℕ → List Slot → List Slot
+serve none l = l
+serve (some j) l = putAt (some j) (served (at l j)) l
+
+-- "A line whose age is now T has ended its period: with c above 0 this is refusal 14": said of a line before its age rises
+abbrev pub short : Held → Bool
+short Nothing = false
+short (Running r) = pick (ltb (r .age + 1) (r .period)) false (ltb 0 (r .remaining))
+short (Waiting w) = false
+
+-- "every age rises by one, every wait falls by one"; a period that has ended, and a line whose wait is now 0, begin with age 0, c = C
+abbrev pub passed : Held → Held
+passed Nothing = Nothing
+passed (Running r) =
+    pick (ltb (r .age + 1) (r .period))
+    (Running (record { need = r .need; period = r .period; age = r .age + 1; remaining = r .remaining }))
+    (fresh (r .need) (r .period))
+passed (Waiting w) =
+    pick (ltb 1 (w .wait)) (Waiting (record { need = w .need; period = w .period; wait = w .wait - 1 })) (fresh (w .need) (w .period))
+
+abbrev pub passedSlot : Slot → Slot
+passedSlot s = record { held = passed (s .held) }
+
+abbrev pub pass : List Slot → List Slot
+pass l = map passedSlot l
+
+-- "a refused step names none", and its table is untouched
+abbrev pub refusedStep : Table → (number place : ℕ) → Stepped
+refusedStep t n k = record { table = t; outcome = Refused (refusal n k) }
+
+-- one test of a step: refusal n at the slot found, or else what comes after
+abbrev pub stepUnless : Option ℕ → ℕ → Table → Stepped → Stepped
+stepUnless none n t s = s
+stepUnless (some k) n t s = refusedStep t n k
+
+-- a tick in which the slot named, or none, is served
+unfoldable pub advance : Option ℕ → Table → Stepped
+advance o t =
+    stepUnless (lowestOf short (serve o (t .slots))) 14 t
+    (record { table = record { clock = t .clock + 1; slots = pass (serve o (t .slots)) }; outcome = Ran (whichOf o) })
+
+-- "Step tests 15, 4, then 14."
+unfoldable pub stepOf : Table → Stepped
+stepOf t =
+    pick (leb (2 ^ 48) (t .clock)) (refusedStep t 15 0)
+    (stepUnless (lowestOf (λ h. not (sound h)) (t .slots)) 4 t (advance (choose (t .slots)) t))

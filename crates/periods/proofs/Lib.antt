@@ -1,0 +1,3 @@
+pub mod GcdLcm
+pub mod Frames
+pub mod Whole

@@ -1,0 +1,158 @@
+-- An earlier start misses a period: it is not smooth, so some tick before the last end has excess, and no run gets past that tick.
+use mathlib.Core.Path.{_≡_, refl, sym, ap, _∙_, subst}
+use mathlib.Core.Logic.{_⊎_, inl, inr, ⊎-elim}
+use mathlib.Core.Option.{Option, none, some}
+use mathlib.Core.List.{List, [], _∷_}
+use Prim.Native.Nat.{ℕ, zero, suc, _+_, _-_, _^_, _≤_, _<_}
+use native.Mathlib.Nat.{not-suc-le-zero}
+use native.Mathlib.Numerals.{add-one}
+use native.Mathlib.Omega.{arith}
+use borrow.Author.Tests.{lt-leb}
+use Rattle.lines.specs.declared.Held.{Held}
+use Rattle.lines.specs.declared.Held.the-variants.{Nothing, Running, Waiting}
+use Rattle.lines.specs.declared.Slot.{Slot}
+use Rattle.lines.specs.declared.Table.{Table}
+use Rattle.lines.specs.declared.Request.{Request}
+use Rattle.lines.specs.declared.Answer.the-variants.{Start}
+use Rattle.lines.specs.declared.Stepped.{Stepped}
+use Rattle.lines.specs.Slots.{at, Each, lowestOf, slotOf, refusal, gives, refuses}
+use Rattle.lines.specs.Sound.{Sound}
+use Rattle.lines.specs.Demand.{demands, newDemand, endOf, lastEnd, Smooth}
+use Rattle.lines.specs.Grounds.{entry, stretch, stretched, asked, frame}
+use Rattle.lines.specs.Ask.{askOf}
+use Rattle.lines.specs.Admit.{newLine, admittedAt}
+use Rattle.lines.specs.Step.{saysRan, whichOf, short, choose, serve, refusedStep, advance, stepOf}
+use Rattle.theory.specs.Fine.{wantedAll, May, Kept, ticked}
+use Rattle.theory.specs.Given.{Granted}
+use Rattle.theory.proofs.Numbers.{split}
+use Rattle.theory.proofs.Tail.{tail}
+use Rattle.theory.proofs.Granted.{granted}
+use Rattle.theory.proofs.Stretched.{running-stretched}
+use Rattle.theory.proofs.Pump.{sound-serve, sound-pass, earliest-may, wantedAll-now, excess-kept}
+use Rattle.theory.proofs.Step.{short-none, none-unsound, choose-earliest, advanced}
+use Rattle.theory.proofs.Admitted.{admitted-wanted, admitted-sound}
+use Rattle.promises.specs.Demand3.{stepped, Sixteen, Misses}
+use Rattle.promises.proofs.Good.{slot-empty, admitted-slots}
+
+-- ---- a table with excess ahead
+
+-- the step of a sound table before the last tick is the tick of its own choice, refused or not
+sound-step : (t : Table) → Each Sound (t .slots) → t .clock < 2 ^ 48 → stepOf t ≡ advance (choose (t .slots)) t
+unfolding stepOf
+sound-step t s h = rw (lt-leb (2 ^ 48) (t .clock) h, none-unsound (t .slots) s)
+
+short-step : (t : Table) (i : ℕ) → Each Sound (t .slots) → t .clock < 2 ^ 48 → lowestOf short (serve (choose (t .slots)) (t .slots)) ≡ some i
+    → stepOf t ≡ refusedStep t 14 i
+unfolding advance
+short-step t i s h e = sound-step t s h ∙ rw e
+
+named : (o : Option ℕ) → slotOf (whichOf o) ≡ o
+named none = refl
+named (some k) = refl
+
+-- n ticks ahead there is excess: a step before that reports 14
+pub runs-short : (n last : ℕ) (t : Table) → Each Sound (t .slots) → t .clock + n < last → last ≤ 2 ^ 48
+    → n < wantedAll (t .clock) (t .slots) (t .clock + n) → Misses t last
+runs-short zero last t s b l x =
+    let z : t .clock + 0 ≡ t .clock = omega arith in
+    absurd (omega (arith, wantedAll-now (t .clock) (t .slots) s, rw z at x))
+runs-short (suc n) last t s b l x = go (lowestOf short (serve o (t .slots))) refl (runs-short n last next)
+  where
+    o : Option ℕ
+    o = choose (t .slots)
+
+    next : Table
+    next = ticked o t .table
+
+    later : Misses next last → stepOf t ≡ ticked o t → Misses t last
+    later w e = record {
+      steps = suc (w .steps);
+      slot = w .slot;
+      goes = goes;
+      misses = subst (λ (s : Stepped). saysRan (stepOf (stepped (w .steps) (s .table)) .outcome) ≡ refuses (refusal 14 (w .slot))) (sym e) (w .misses);
+      before = omega (arith, w .before);
+    }
+      where
+        goes : (m : ℕ) → m < suc (w .steps) → (p : Option ℕ) × (saysRan (stepOf (stepped m t) .outcome) ≡ gives p)
+        goes zero h = (o, ap (λ (s : Stepped). saysRan (s .outcome)) e ∙ ap gives (named o))
+        goes (suc m) h =
+            subst (λ (s : Stepped). (p : Option ℕ) × (saysRan (stepOf (stepped m (s .table)) .outcome) ≡ gives p)) (sym e) (w .goes m (omega arith))
+
+    go : (p : Option ℕ) → lowestOf short (serve o (t .slots)) ≡ p
+        → (Each Sound (next .slots) → next .clock + n < last → last ≤ 2 ^ 48 → n < wantedAll (next .clock) (next .slots) (next .clock + n) → Misses next last)
+        → Misses t last
+    go (some i) e rest = record {
+      steps = 0;
+      slot = i;
+      goes = λ m h. absurd (not-suc-le-zero h);
+      misses = ap (λ (s : Stepped). saysRan (s .outcome)) (short-step t i s (omega arith) e);
+      before = omega arith;
+    }
+    go none e rest =
+        let v : Each Kept (serve o (t .slots)) = short-none (serve o (t .slots)) e in
+        let m : May o (t .slots) = earliest-may o (t .slots) (choose-earliest (t .slots)) in
+        let y = excess-kept (t .clock) o (t .slots) (t .clock + suc n) s m v (omega arith) (omega arith) in
+        let a : t .clock + suc n ≡ t .clock + 1 + n = omega arith in
+        let c : wantedAll (t .clock + 1) (next .slots) (t .clock + 1 + n) ≡ wantedAll (suc (t .clock)) (next .slots) (t .clock + suc n) =
+        rw (add-one (t .clock), ← add-one (t .clock), a) refl in
+        later (rest (sound-pass (serve o (t .slots)) (sound-serve o (t .slots) m s)) (omega arith) l (omega (arith, y .0, c)))
+        (sound-step t s (omega arith) ∙ advanced o t v)
+
+-- ---- a start that is not smooth
+
+-- a bounded search: f d is at most d at every d below n, or it is above d at one
+pub search-excess : (f : ℕ → ℕ) (n : ℕ) → ((d : ℕ) → d < n → f d ≤ d) ⊎ ((d : ℕ) × (d < n) × (d < f d))
+search-excess f zero = inl (λ d h. absurd (not-suc-le-zero h))
+search-excess f (suc n) =
+    ⊎-elim
+    (λ a. split (f n) n (λ h. inl (λ d g. split n d (λ b. let z : d ≡ n = omega arith in omega (arith, h, ap f z)) (λ b. a d b))) (λ h. inr (n, omega arith, h)))
+    (λ x. inr (x .0, omega (arith, x .1), x .2))
+    (search-excess f n)
+
+-- the last end is within a sixteen-bit number of the clock
+end-near : (t0 : ℕ) (p : ℕ) (h : Held) → p < 2 ^ 16 → endOf t0 (stretch p h) < t0 + 2 ^ 16
+end-near t0 p Nothing b = omega arith
+end-near t0 p (Running r) b = omega arith
+end-near t0 p (Waiting w) b = omega arith
+
+last-near : (t0 : ℕ) (l : List Slot) (p : ℕ → ℕ) → ((i : ℕ) → p i < 2 ^ 16) → lastEnd t0 (stretched l p) < t0 + 2 ^ 16
+unfolding lastEnd stretched
+last-near t0 [] p b = omega arith
+last-near t0 (s ∷ l) p b = omega (arith, end-near t0 (p 0) (s .held) (b 0), last-near t0 l (λ i. p (suc i)) (λ i. b (suc i)))
+
+-- an earlier start has excess at some tick before the last end
+early-excess : (t : Table) (q : Request) (r r' : ℕ) → Granted t q r → t .clock ≤ r' → r' < r
+    → (d : ℕ) × (t .clock + d < lastEnd (t .clock) (asked t q)) × (d < demands (t .clock) (asked t q) (t .clock + d) + newDemand (q .need) (q .period) r' (t .clock + d))
+early-excess t q r r' g late less =
+    let t0 = t .clock in
+    let l = asked t q in
+    let last = lastEnd t0 l in
+    let f : ℕ → ℕ = λ d. demands t0 l (t0 + d) + newDemand (q .need) (q .period) r' (t0 + d) in
+    ⊎-elim
+    (λ a. let s : Smooth t0 l (newDemand (q .need) (q .period)) r' = record {
+      from-clock = late;
+      no-excess = λ x h.
+          split last x
+          (λ b. omega (arith, tail (frame l (q .period)) t0 l (q .need) (q .period) r' (g .given) late x b))
+          (λ b. let z : t0 + (x - t0) ≡ x = omega arith in omega (arith, rw z at (a (x - t0) (omega arith))));
+    } in
+    absurd (omega (arith, g .least .least r' s)))
+    (λ w. (w .0, omega (arith, w .1), w .2))
+    (search-excess f (last - t0))
+
+pub no-earlier : (t : Table) (q : Request) (r r' : ℕ) → Sixteen q → askOf t q ≡ Start r → t .clock ≤ r' → r' < r
+    → Misses (admittedAt t q r') (lastEnd (t .clock) (asked t q))
+no-earlier t q r r' six e late less =
+    let g = granted t q r e in
+    let d = g .given in
+    let k = slot-empty t q (g .slot) (g .lowest-empty) in
+    let w = early-excess t q r r' g late less in
+    let l = asked t q in
+    let s = admitted-slots t q r' (g .slot) (g .lowest-empty) in
+    let n = newLine (q .need) (q .period) (r' - t .clock) in
+    let same = admitted-wanted (t .clock) l (g .slot) (q .need) (q .period) r' (t .clock + w .0) (running-stretched (t .slots) (entry q) (g .longer) (g .none-waits)) (k .2) (k .3)
+    (omega (arith, d .new-some, d .new-fits)) late in
+    runs-short (w .0) (lastEnd (t .clock) l) (admittedAt t q r')
+    (rw s (admitted-sound l (g .slot) (q .need) (q .period) (r' - t .clock) (d .sound) (d .new-some) (d .new-fits)))
+    (w .1) (omega (arith, last-near (t .clock) (t .slots) (entry q) six, g .early))
+    (rw s (omega (arith, same, w .2)))

@@ -1,0 +1,49 @@
+-- The premises of the promises are met: by the run to case A, its admission, and the nine ticks after it.
+use Prim.Native.Nat.{ℕ, zero, suc, _+_, _^_, _≤_, _<_}
+use mathlib.Core.Path.{_≡_, refl}
+use native.Mathlib.Omega.{arith}
+use lib.ListN.{getD, replicate}
+use Rattle.periods.specs.Multiples.{euclid, gcdOf, lcmOf, frameFrom}
+use Rattle.lines.specs.Slots.{emptyTable, total, lowest}
+use Rattle.lines.specs.Demand.{due, lastEnd}
+use Rattle.lines.specs.Grounds.{stretched, periodsIn}
+use Rattle.lines.specs.Ask.{every, endsBefore, endsOf, slack, bound, greatest, anyOf, start, loadOf, askOf}
+use Rattle.lines.specs.Admit.{admittedAt}
+use Rattle.lines.specs.Step.{chosen, advance, stepOf}
+use Rattle.lines.specs.Runs.{run}
+use Rattle.lines.specs.Cases.{caseA}
+use Rattle.promises.specs.Demand3.{Admission, admitted-table, Unstretched, Sixteen, Misses}
+use Rattle.promises.specs.Example.{toCaseA, onFromCaseA}
+use Rattle.promises.proofs.Demand3.{no-earlier-start}
+
+pub comes-to-case-A : run toCaseA emptyTable ≡ caseA .table
+unfolding euclid gcdOf lcmOf frameFrom total lowest due lastEnd stretched periodsIn every endsBefore endsOf slack bound greatest anyOf start loadOf askOf chosen advance stepOf
+comes-to-case-A = refl
+
+-- an admission in a run: slot 2 is granted 13
+pub case-A-admitted : Admission toCaseA (caseA .request) 13 2
+unfolding euclid gcdOf lcmOf frameFrom total lowest due lastEnd stretched periodsIn every endsBefore endsOf slack bound greatest anyOf start loadOf askOf chosen advance stepOf
+case-A-admitted = record { granted = refl; slot = refl }
+
+-- the steps go on to 17, and none stretches slot 2
+pub case-A-goes-on : 13 + 4 ≤ run onFromCaseA (admitted-table toCaseA (caseA .request)) .clock
+unfolding euclid gcdOf lcmOf frameFrom total lowest due lastEnd stretched periodsIn every endsBefore endsOf slack bound greatest anyOf start loadOf askOf chosen advance stepOf
+case-A-goes-on = omega arith
+
+pub case-A-unstretched : Unstretched 2 (13 + 4) onFromCaseA (admitted-table toCaseA (caseA .request))
+case-A-unstretched = ((λ h s. s), ((λ h s. s), ((λ h s. s), ((λ h s. s), ((λ h s. s), ((λ h s. s), ((λ h s. s), ((λ h s. s), ((λ h s. s), tt)))))))))
+
+-- earlier than 13, at 8 say, a period is missed before 32
+zeros : (n i : ℕ) → getD (replicate n 0) i 0 < 2 ^ 16
+zeros zero i = omega arith
+zeros (suc n) zero = omega arith
+zeros (suc n) (suc i) = zeros n i
+
+sixteen-A : Sixteen (caseA .request)
+sixteen-A zero = omega arith
+sixteen-A (suc zero) = omega arith
+sixteen-A (suc (suc i)) = zeros 14 i
+
+pub case-A-at-once-misses : Misses (admittedAt (caseA .table) (caseA .request) 8) 32
+unfolding euclid gcdOf lcmOf frameFrom total lowest due lastEnd stretched periodsIn every endsBefore endsOf slack bound greatest anyOf start loadOf askOf
+case-A-at-once-misses = no-earlier-start (caseA .table) (caseA .request) 13 8 sixteen-A refl (omega arith) (omega arith)

@@ -1,0 +1,63 @@
+-- What the contracts rule out.
+use Prim.Native.Nat.{ℕ}
+use mathlib.Core.Path.{_≡_, refl, sym, ap, _∙_}
+use native.Mathlib.Omega.{arith}
+use Rattle.lines.specs.declared.Held.{Held}
+use Rattle.lines.specs.declared.Held.the-variants.{Nothing, Running, Waiting}
+use Rattle.lines.specs.declared.Table.{Table}
+use Rattle.lines.specs.declared.Request.{Request}
+use Rattle.lines.specs.declared.Answer.{Answer}
+use Rattle.lines.specs.declared.Answer.the-variants.{Start}
+use Rattle.lines.specs.declared.Stepped.{Stepped}
+use Rattle.lines.specs.Slots.{emptyTable, at, lowest}
+use Rattle.lines.specs.Step.{chosen, advance, stepOf}
+use Rattle.lines.specs.Cases.{cases, caseA}
+use Rattle.theory.proofs.Cases.{cases-answer}
+use Rattle.theory.proofs.Unique.{answers-is}
+use Rattle.promises.specs.Excluded.{MeetsAsk, MeetsStep, RefusesEverything, SaysTheClock, LeavesTheTable, OnlyMovesTheClock}
+
+-- whatever meets ask's contract says 13 in case A
+says-thirteen : (f : Table → Request → Answer) → MeetsAsk f → f (caseA .table) (caseA .request) ≡ Start 13
+unfolding cases
+says-thirteen f m =
+    answers-is (caseA .table) (caseA .request) (f (caseA .table) (caseA .request)) (m (caseA .table) (caseA .request))
+    ∙ sym (answers-is (caseA .table) (caseA .request) (Start 13) (cases-answer .0))
+
+pub no-ask-refuses-everything : (f : Table → Request → Answer) → MeetsAsk f → RefusesEverything f → ⊥
+no-ask-refuses-everything f m r =
+    let e = says-thirteen f m in
+    let x = r (caseA .table) (caseA .request) in
+    let y = x .1 in
+    let z : _≡_ {A = ℕ} 0 1 = cc in omega arith
+
+pub no-ask-says-the-clock : (f : Table → Request → Answer) → MeetsAsk f → SaysTheClock f → ⊥
+no-ask-says-the-clock f m r =
+    let e = says-thirteen f m in
+    let x : f (caseA .table) (caseA .request) ≡ Start 8 = r (caseA .table) (caseA .request) in
+    let z : _≡_ {A = ℕ} 8 13 = cc in omega arith
+
+empty-steps : stepOf emptyTable .table .clock ≡ 1
+unfolding lowest chosen advance stepOf
+empty-steps = refl
+
+pub no-step-leaves-the-table : (f : Table → Stepped) → MeetsStep f → LeavesTheTable f → ⊥
+no-step-leaves-the-table f m r =
+    let x : f emptyTable .table .clock ≡ 0 = ap (λ (t : Table). t .clock) (r emptyTable) in
+    let y : f emptyTable .table .clock ≡ 1 = ap (λ (s : Stepped). s .table .clock) (m emptyTable) ∙ empty-steps in
+    omega arith
+
+abbrev remaining : Held → ℕ
+remaining Nothing = 0
+remaining (Running r) = r .remaining
+remaining (Waiting w) = 0
+
+-- in case A the tick at 8 goes to slot 1
+case-A-serves : at (stepOf (caseA .table) .table .slots) 1 ≡ at (caseA .table .slots) 1 → ⊥
+unfolding lowest chosen advance stepOf
+case-A-serves e = let z : _≡_ {A = ℕ} 7 8 = ap remaining e in omega arith
+
+pub no-step-only-moves-the-clock : (f : Table → Stepped) → MeetsStep f → OnlyMovesTheClock f → ⊥
+no-step-only-moves-the-clock f m r =
+    let x = ap (λ (t : Table). at (t .slots) 1) (r (caseA .table) (omega arith)) in
+    let y = ap (λ (s : Stepped). at (s .table .slots) 1) (m (caseA .table)) in
+    case-A-serves (sym y ∙ x)

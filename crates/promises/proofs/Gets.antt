@@ -1,0 +1,160 @@
+-- What an admitted line gets over a run: it waits untouched to its start, and by the end of its first period it has had all its need.
+use mathlib.Core.Path.{_≡_, refl, sym, ap, _∙_, subst}
+use mathlib.Core.Option.{Option, none, some}
+use mathlib.Core.List.{List, [], _∷_, _++_}
+use Prim.Native.Nat.{ℕ, zero, suc, _+_, _-_, _^_, _≤_, _<_}
+use native.Mathlib.Omega.{arith}
+use borrow.Author.Tests.{lt-ltb}
+use lib.ListN.{length, take, drop}
+use Rattle.lines.specs.declared.Table.{Table}
+use Rattle.lines.specs.declared.Stepped.{Stepped}
+use Rattle.lines.specs.Slots.{at, slotOf}
+use Rattle.lines.specs.Admit.{fresh, newLine}
+use Rattle.lines.specs.Step.{whichOf, Owed, choose, serve, passed, pass, stepOf}
+use Rattle.lines.specs.Runs.{Act, asking, admitting, stepping, after, run, ranIn, trace, isSlot, times}
+use Rattle.theory.specs.Fine.{line, May, Kept, ticked}
+use Rattle.theory.proofs.Numbers.{split}
+use Rattle.theory.proofs.Pump.{never-short, earliest-may}
+use Rattle.theory.proofs.Step.{choose-earliest}
+use Rattle.theory.proofs.Trace.{at-pass, length-serve, length-tick, owed-or-got, not-served, nearer, not-yet}
+use Rattle.promises.specs.Demand3.{Unstretched}
+use Rattle.promises.proofs.Good.{Good, at-last, good-after}
+use Rattle.promises.proofs.Kept.{admit-clock, admit-length, admit-running, admit-kept, admit-waiting, step-table, clock-after}
+
+pub clock-run : (more : List Act) (t : Table) → Good t → t .clock ≤ run more t .clock
+clock-run [] t g = omega arith
+clock-run (a ∷ rest) t g = omega (arith, clock-after a t g, clock-run rest (after a t) (good-after a t g))
+
+named : (o : Option ℕ) → slotOf (whichOf o) ≡ o
+named none = refl
+named (some k) = refl
+
+-- the choice serves nobody who is not owed
+choice-may : (t : Table) → May (choose (t .slots)) (t .slots)
+choice-may t = earliest-may (choose (t .slots)) (t .slots) (choose-earliest (t .slots))
+
+-- what holds after the tick, and of the list with its slot in front, holds after a step and of its trace
+by-tick : (Q : Table → List (Option ℕ) → Type 0) (rest : List Act) (t : Table) → Good t → t .clock < 2 ^ 48
+    → Q (ticked (choose (t .slots)) t .table) (choose (t .slots) ∷ trace rest (ticked (choose (t .slots)) t .table))
+    → Q (stepOf t .table) (trace (stepping ∷ rest) t)
+by-tick Q rest t g h q =
+    subst (λ (s : Stepped). Q (s .table) (ranIn (s .outcome) ++ trace rest (s .table))) (sym (step-table t g h))
+    (subst (λ (o : Option ℕ). Q (ticked (choose (t .slots)) t .table) (o ∷ trace rest (ticked (choose (t .slots)) t .table))) (sym (named (choose (t .slots)))) q)
+
+-- what holds of the table and the rest of the run holds after a step at the last tick, which changes nothing
+by-last : (Q : Table → List (Option ℕ) → Type 0) (rest : List Act) (t : Table) → 2 ^ 48 ≤ t .clock
+    → Q t (trace rest t) → Q (stepOf t .table) (trace (stepping ∷ rest) t)
+by-last Q rest t h q = subst (λ (s : Stepped). Q (s .table) (ranIn (s .outcome) ++ trace rest (s .table))) (sym (at-last t h)) q
+
+-- ---- the rest of a period
+
+-- in the run `more` from t, which has the trace tr: not stretched before `until` and run so far, slot k is named x times in the first n ticks
+abbrev Rest : (k until n x : ℕ) → List Act → Table → List (Option ℕ) → Type 0
+Rest k until n x more t tr = Unstretched k until more t → until ≤ run more t .clock → times k (take n tr) ≡ x
+
+-- the table after the tick of the step's own choice
+abbrev next : Table → Table
+next t = ticked (choose (t .slots)) t .table
+
+good-next : (t : Table) → Good t → t .clock < 2 ^ 48 → Good (next t)
+good-next t g h = subst (λ (s : Stepped). Good (s .table)) (step-table t g h) (good-after stepping t g)
+
+one-tick : (t : Table) (k C P a x : ℕ) → Good t → k < length (t .slots) → at (t .slots) k ≡ line C P a x → a < P
+    → (y : ℕ) × (y + isSlot k (choose (t .slots)) ≡ x) × (P ≤ a + 1 → y ≡ 0)
+    × (a + 1 < P → at (pass (serve (choose (t .slots)) (t .slots))) k ≡ line C P (a + 1) y)
+one-tick t k C P a x g b e h =
+    let o = choose (t .slots) in
+    let s = owed-or-got o (t .slots) k C P a x (choice-may t) e in
+    let v : Kept (line C P a (s .0)) = subst Kept (s .1) (never-short o (g .fine) (choose-earliest (t .slots)) k (rw length-serve b)) in (
+      s .0,
+      s .2,
+      v,
+      λ c. let f : passed (line C P a (s .0)) ≡ line C P (a + 1) (s .0) = rw (lt-ltb (a + 1) P c) in
+          at-pass (serve o (t .slots)) k ∙ ap passed (s .1) ∙ f,
+    )
+
+-- a line's rest of a period from what it has left after one tick of it
+rest-tick : (rest : List Act) (t : Table) (k C P a x : ℕ) → Good t → k < length (t .slots) → at (t .slots) k ≡ line C P a x → a < P
+    → ((y : ℕ) → at (next t .slots) k ≡ line C P (a + 1) y → a + 1 < P → Rest k (next t .clock + (P - (a + 1))) (P - (a + 1)) y rest (next t) (trace rest (next t)))
+    → Rest k (t .clock + (P - a)) (P - a) x rest (next t) (choose (t .slots) ∷ trace rest (next t))
+rest-tick rest t k C P a x g b e h more u r =
+    let s = one-tick t k C P a x g b e h in
+    let o = choose (t .slots) in
+    let m : P - a ≡ suc (P - (a + 1)) = omega arith in
+    let z : t .clock + (P - a) ≡ t .clock + 1 + (P - (a + 1)) = omega arith in
+    split P (a + 1)
+    (λ c. let d : P - (a + 1) ≡ 0 = omega arith in rw (m, d) (omega (arith, s .1, s .2 c)))
+    (λ c. rw m (omega (arith, s .1, more (s .0) (s .3 c) c (rw z at u) (rw z at r))))
+
+-- so a line of age a that is owed x gets exactly x by the end of its period
+pub gets-rest : (more : List Act) (t : Table) (k C P a x : ℕ) → Good t → k < length (t .slots) → at (t .slots) k ≡ line C P a x → a < P
+    → Rest k (t .clock + (P - a)) (P - a) x more t (trace more t)
+gets-rest [] t k C P a x g b e h u r = absurd (omega arith)
+gets-rest (asking q ∷ rest) t k C P a x g b e h u r = gets-rest rest t k C P a x g b e h (u .1) r
+gets-rest (admitting q ∷ rest) t k C P a x g b e h u r =
+    let c = admit-clock t q in
+    gets-rest rest (after (admitting q) t) k C P a x (good-after (admitting q) t g) (rw (admit-length t q) b)
+    (admit-kept t q k C P a x e b (u .0 (omega arith))) h (rw c (u .1)) (rw c r)
+gets-rest (stepping ∷ rest) t k C P a x g b e h u r =
+    split (2 ^ 48) (t .clock)
+    (λ l. by-last (Rest k (t .clock + (P - a)) (P - a) x rest) rest t l (gets-rest rest t k C P a x g b e h) (u .1) r)
+    (λ l. by-tick (Rest k (t .clock + (P - a)) (P - a) x rest) rest t g l
+    (rest-tick rest t k C P a x g b e h (λ y f c. gets-rest rest (next t) k C P (a + 1) y (good-next t g l) (rw (length-tick (choose (t .slots)) (t .slots)) b) f c)) (u .1) r)
+
+-- ---- from the admission on
+
+-- a tick nearer
+waits-on : (t : Table) (k C P w : ℕ) → at (t .slots) k ≡ newLine C P (suc w) → at (next t .slots) k ≡ newLine C P w
+waits-on t k C P w e =
+    let s = not-served (choose (t .slots)) (t .slots) k (choice-may t) (λ v. not-yet C P w (subst Owed e v)) in
+    at-pass (serve (choose (t .slots)) (t .slots)) k ∙ ap passed (s .0 ∙ e) ∙ nearer C P w
+
+-- in the run `more` from t, which has the trace tr: not stretched before `until` and run so far, slot k is named C times in the n ticks after the first w
+abbrev After : (k until w n C : ℕ) → List Act → Table → List (Option ℕ) → Type 0
+After k until w n C more t tr = Unstretched k until more t → until ≤ run more t .clock → times k (take n (drop w tr)) ≡ C
+
+-- a line that starts after w ticks gets all its need in the period after them
+pub gets-need : (more : List Act) (t : Table) (k C P w : ℕ) → Good t → k < length (t .slots) → 1 ≤ P → at (t .slots) k ≡ newLine C P w
+    → After k (t .clock + w + P) w P C more t (trace more t)
+gets-need more t k C P zero g b p e u r =
+    let z : t .clock + 0 + P ≡ t .clock + (P - 0) = omega arith in
+    let y : P ≡ P - 0 = omega arith in
+    subst (λ (n : ℕ). times k (take n (trace more t)) ≡ C) (sym y) (gets-rest more t k C P 0 C g b e (omega arith) (rw z at u) (rw z at r))
+gets-need [] t k C P (suc w) g b p e u r = absurd (omega arith)
+gets-need (asking q ∷ rest) t k C P (suc w) g b p e u r = gets-need rest t k C P (suc w) g b p e (u .1) r
+gets-need (admitting q ∷ rest) t k C P (suc w) g b p e u r =
+    subst (λ (v : Table). After k (t .clock + suc w + P) (suc w) P C rest v (trace rest v)) (sym (admit-waiting t q k C P w e b))
+    (gets-need rest t k C P (suc w) g b p e) (u .1) r
+gets-need (stepping ∷ rest) t k C P (suc w) g b p e u r =
+    split (2 ^ 48) (t .clock)
+    (λ l. by-last (After k (t .clock + suc w + P) (suc w) P C rest) rest t l (gets-need rest t k C P (suc w) g b p e) (u .1) r)
+    (λ l. by-tick (After k (t .clock + suc w + P) (suc w) P C rest) rest t g l
+    (λ u r. let z : t .clock + suc w + P ≡ t .clock + 1 + w + P = omega arith in
+    gets-need rest (next t) k C P w (good-next t g l) (rw (length-tick (choose (t .slots)) (t .slots)) b) p (waits-on t k C P w e) (rw z at u) (rw z at r)) (u .1) r)
+
+-- ---- at the start
+
+-- at the tick of its start the line runs, with all its need before it
+pub at-start : (more : List Act) (t : Table) (k C P w : ℕ) → Good t → k < length (t .slots) → at (t .slots) k ≡ newLine C P w
+    → run more t .clock ≡ t .clock + w → (T : ℕ) × (at (run more t .slots) k ≡ fresh C T)
+at-start [] t k C P zero g b e h = (P, e)
+at-start [] t k C P (suc w) g b e h = absurd (omega arith)
+at-start (asking q ∷ rest) t k C P w g b e h = at-start rest t k C P w g b e h
+at-start (admitting q ∷ rest) t k C P zero g b e h =
+    let s = admit-running t q k C P 0 C e in
+    at-start rest (after (admitting q) t) k C (s .0) 0 (good-after (admitting q) t g) (rw (admit-length t q) b) (s .1) (rw (admit-clock t q) h)
+at-start (admitting q ∷ rest) t k C P (suc w) g b e h =
+    subst (λ (v : Table). run rest v .clock ≡ t .clock + suc w → (T : ℕ) × (at (run rest v .slots) k ≡ fresh C T)) (sym (admit-waiting t q k C P w e b))
+    (at-start rest t k C P (suc w) g b e) h
+at-start (stepping ∷ rest) t k C P zero g b e h =
+    split (2 ^ 48) (t .clock)
+    (λ l. subst (λ (s : Stepped). run rest (s .table) .clock ≡ t .clock + 0 → (T : ℕ) × (at (run rest (s .table) .slots) k ≡ fresh C T)) (sym (at-last t l))
+    (at-start rest t k C P 0 g b e) h)
+    (λ l. let c : stepOf t .table .clock ≡ t .clock + 1 = ap (λ (s : Stepped). s .table .clock) (step-table t g l) in
+    absurd (omega (arith, clock-run rest (stepOf t .table) (good-after stepping t g))))
+at-start (stepping ∷ rest) t k C P (suc w) g b e h =
+    split (2 ^ 48) (t .clock)
+    (λ l. subst (λ (s : Stepped). run rest (s .table) .clock ≡ t .clock + suc w → (T : ℕ) × (at (run rest (s .table) .slots) k ≡ fresh C T)) (sym (at-last t l))
+    (at-start rest t k C P (suc w) g b e) h)
+    (λ l. subst (λ (s : Stepped). run rest (s .table) .clock ≡ t .clock + suc w → (T : ℕ) × (at (run rest (s .table) .slots) k ≡ fresh C T)) (sym (step-table t g l))
+    (λ h. at-start rest (next t) k C P w (good-next t g l) (rw (length-tick (choose (t .slots)) (t .slots)) b) (waits-on t k C P w e) (omega arith)) h)

@@ -1,0 +1,90 @@
+-- What every act keeps: the table is fine for some common multiple, and the clock is within its limit.
+use mathlib.Core.Path.{_≡_, refl, sym, ap, _∙_, subst}
+use mathlib.Core.List.{List, [], _∷_}
+use mathlib.Core.Option.{Option, some}
+use Prim.Native.Nat.{ℕ, _+_, _-_, _^_, _≤_, _<_}
+use native.Mathlib.Omega.{arith}
+use borrow.Author.Tests.{le-leb}
+use lib.ListN.{length}
+use Rattle.lines.specs.declared.Held.the-variants.{Nothing}
+use Rattle.lines.specs.declared.Table.{Table}
+use Rattle.lines.specs.declared.Request.{Request}
+use Rattle.lines.specs.declared.Answer.{Answer}
+use Rattle.lines.specs.declared.Answer.the-variants.{Start, Refused}
+use Rattle.lines.specs.declared.Stepped.{Stepped}
+use Rattle.lines.specs.Slots.{emptyTable, at, isNothing, lowestOf}
+use Rattle.lines.specs.Grounds.{entry, stretch, asked, frame}
+use Rattle.lines.specs.Ask.{askOf}
+use Rattle.lines.specs.Admit.{newLine, putAt, admittedAt, admitWith}
+use Rattle.lines.specs.Step.{refusedStep, stepOf}
+use Rattle.lines.specs.Runs.{Act, asking, admitting, stepping, after, run}
+use Rattle.lines.proofs.Search.{lowest-is}
+use Rattle.theory.specs.Fine.{Fine}
+use Rattle.theory.specs.Given.{Granted}
+use Rattle.theory.proofs.Numbers.{split}
+use Rattle.theory.proofs.Tests.{nothing-says}
+use Rattle.theory.proofs.Granted.{granted}
+use Rattle.theory.proofs.Stretched.{length-stretched, at-stretched, running-stretched}
+use Rattle.theory.proofs.Admitted.{admitted-fine, empty-fine}
+use Rattle.theory.proofs.Step.{fine-step, fine-stepped}
+
+pub record Good (t : Table) : Type 0 where
+  pub multiple : ℕ
+  pub fine : Fine multiple (t .clock) (t .slots)
+  pub clock-in : t .clock ≤ 2 ^ 48
+
+pub good-empty : Good emptyTable
+good-empty = record { multiple = 1; fine = empty-fine 0 16; clock-in = omega arith }
+
+-- ---- an admission
+
+-- the slot that the new line gets is empty, also among the stretched lines
+pub slot-empty : (t : Table) (q : Request) (k : ℕ) → lowestOf isNothing (t .slots) ≡ some k
+    → (k < length (t .slots)) × (at (t .slots) k ≡ Nothing) × (k < length (asked t q)) × (at (asked t q) k ≡ Nothing)
+slot-empty t q k e =
+    let w = lowest-is (λ i. isNothing (at (t .slots) i)) (length (t .slots)) e in
+    let n = nothing-says (at (t .slots) k) (w .here) in
+    (w .inside, n, rw (length-stretched (t .slots) (entry q)) (w .inside), at-stretched (t .slots) (entry q) k ∙ ap (stretch (entry q k)) n)
+
+pub admitted-slots : (t : Table) (q : Request) (r k : ℕ) → lowestOf isNothing (t .slots) ≡ some k
+    → admittedAt t q r .slots ≡ putAt (some k) (newLine (q .need) (q .period) (r - t .clock)) (asked t q)
+admitted-slots t q r k e = ap (λ (o : Option ℕ). putAt o (newLine (q .need) (q .period) (r - t .clock)) (asked t q)) e
+
+pub good-admitted : (t : Table) (q : Request) (r : ℕ) → Granted t q r → Good (admittedAt t q r)
+good-admitted t q r g =
+    let e = slot-empty t q (g .slot) (g .lowest-empty) in
+    let d = g .given in
+    record {
+      multiple = frame (asked t q) (q .period);
+      fine = subst (Fine (frame (asked t q) (q .period)) (t .clock)) (sym (admitted-slots t q r (g .slot) (g .lowest-empty)))
+          (admitted-fine (frame (asked t q) (q .period)) (t .clock) (asked t q) (g .slot) (q .need) (q .period) r (d .sound)
+          (running-stretched (t .slots) (entry q) (g .longer) (g .none-waits)) (d .some-frame) (d .divides) (d .new-divides) (d .eight) (d .new-some) (d .new-fits)
+          (e .2) (e .3) (g .least .smooth));
+      clock-in = omega (arith, g .early);
+    }
+
+-- ---- each act
+
+-- at the last tick a step is refused with 15
+pub at-last : (t : Table) → 2 ^ 48 ≤ t .clock → stepOf t ≡ refusedStep t 15 0
+unfolding stepOf
+at-last t h = rw (le-leb (2 ^ 48) (t .clock) h)
+
+pub good-after : (a : Act) (t : Table) → Good t → Good (after a t)
+good-after (asking q) t g = g
+good-after (admitting q) t g = go (askOf t q) refl
+  where
+    go : (a : Answer) → askOf t q ≡ a → Good (admitWith t q a .table)
+    go (Start r) e = good-admitted t q r (granted t q r e)
+    go (Refused x) e = g
+good-after stepping t g =
+    split (2 ^ 48) (t .clock) (λ h. subst Good (sym (ap (λ (s : Stepped). s .table) (at-last t h))) g)
+    (λ h. let e : stepOf t .table .clock ≡ t .clock + 1 = ap (λ (s : Stepped). s .table .clock) (fine-step t (g .fine) h) in
+    record { multiple = g .multiple; fine = fine-stepped t (g .fine) h; clock-in = omega arith })
+
+pub good-run : (acts : List Act) (t : Table) → Good t → Good (run acts t)
+good-run [] t g = g
+good-run (a ∷ rest) t g = good-run rest (after a t) (good-after a t g)
+
+pub good-reached : (acts : List Act) → Good (run acts emptyTable)
+good-reached acts = good-run acts emptyTable good-empty

@@ -1,0 +1,119 @@
+-- What an act leaves of one slot: an admission leaves a line that it does not stretch, a step serves it or lets it wait.
+use mathlib.Core.Path.{_≡_, refl, sym, ap, _∙_}
+use mathlib.Core.Option.{Option, none, some}
+use mathlib.Core.List.{List}
+use Prim.Native.Nat.{ℕ, suc, _+_, _-_, _^_, _≤_, _<_}
+use native.Mathlib.Omega.{arith}
+use borrow.Author.Tests.{lt-ltb}
+use lib.ListN.{length, length-set}
+use lib.Seq.{getD-set-same, getD-set-other}
+use Rattle.lines.specs.declared.Held.{Held}
+use Rattle.lines.specs.declared.Held.the-variants.{Nothing}
+use Rattle.lines.specs.declared.Slot.{Slot}
+use Rattle.lines.specs.declared.Table.{Table}
+use Rattle.lines.specs.declared.Request.{Request}
+use Rattle.lines.specs.declared.Answer.{Answer}
+use Rattle.lines.specs.declared.Answer.the-variants.{Start, Refused}
+use Rattle.lines.specs.declared.Stepped.{Stepped}
+use Rattle.lines.specs.Slots.{empty, at, isNothing, lowestOf}
+use Rattle.lines.specs.Grounds.{entry, stretch, asked}
+use Rattle.lines.specs.Ask.{askOf}
+use Rattle.lines.specs.Admit.{newLine, putAt, admittedAt, admitWith}
+use Rattle.lines.specs.Step.{choose, stepOf}
+use Rattle.lines.specs.Runs.{Act, asking, admitting, stepping, after}
+use Rattle.theory.specs.Fine.{line, ticked}
+use Rattle.theory.specs.Given.{Granted}
+use Rattle.theory.proofs.Numbers.{split}
+use Rattle.theory.proofs.Granted.{granted}
+use Rattle.theory.proofs.Stretched.{length-stretched, at-stretched}
+use Rattle.theory.proofs.Step.{fine-step}
+use Rattle.promises.specs.Demand3.{Stretches}
+use Rattle.promises.proofs.Good.{Good, at-last, slot-empty, admitted-slots}
+
+-- ---- an admission
+
+-- the clock and the number of slots stay
+pub admit-clock : (t : Table) (q : Request) → after (admitting q) t .clock ≡ t .clock
+admit-clock t q = go (askOf t q)
+  where
+    go : (a : Answer) → admitWith t q a .table .clock ≡ t .clock
+    go (Start r) = refl
+    go (Refused x) = refl
+
+length-put : (o : Option ℕ) (h : Held) (l : List Slot) → length (putAt o h l) ≡ length l
+length-put none h l = refl
+length-put (some k) h l = length-set l k (record { held = h })
+
+pub admit-length : (t : Table) (q : Request) → length (after (admitting q) t .slots) ≡ length (t .slots)
+admit-length t q = go (askOf t q)
+  where
+    go : (a : Answer) → length (admitWith t q a .table .slots) ≡ length (t .slots)
+    go (Start r) = length-put (lowestOf isNothing (t .slots)) (newLine (q .need) (q .period) (r - t .clock)) (asked t q) ∙ length-stretched (t .slots) (entry q)
+    go (Refused x) = refl
+
+-- the new line stands in the slot it was given
+pub admitted-new : (t : Table) (q : Request) (r k : ℕ) → lowestOf isNothing (t .slots) ≡ some k
+    → at (admittedAt t q r .slots) k ≡ newLine (q .need) (q .period) (r - t .clock)
+admitted-new t q r k e =
+    ap (λ (l : List Slot). at l k) (admitted-slots t q r k e)
+    ∙ ap (λ (s : Slot). s .held) (getD-set-same (asked t q) k (record { held = newLine (q .need) (q .period) (r - t .clock) }) empty (slot-empty t q k e .2))
+
+-- a running line keeps its place, at its T'
+admitted-old : (t : Table) (q : Request) (r j C P a x : ℕ) → Granted t q r → at (t .slots) j ≡ line C P a x
+    → at (admittedAt t q r .slots) j ≡ line C (entry q j) a x
+admitted-old t q r j C P a x g e =
+    let k = g .slot in
+    ap (λ (l : List Slot). at l j) (admitted-slots t q r k (g .lowest-empty))
+    ∙ ap (λ (s : Slot). s .held) (getD-set-other (asked t q) k j (record { held = newLine (q .need) (q .period) (r - t .clock) }) empty (other k (slot-empty t q k (g .lowest-empty) .1)))
+    ∙ at-stretched (t .slots) (entry q) j
+    ∙ ap (stretch (entry q j)) e
+  where
+    other : (k : ℕ) → at (t .slots) k ≡ Nothing → j ≡ k → ⊥
+    other k n z =
+        let m : line C P a x ≡ Nothing = sym e ∙ ap (at (t .slots)) z ∙ n in
+        let y : _≡_ {A = ℕ} 0 1 = cc in omega arith
+
+-- at its T', whatever the answer
+pub admit-running : (t : Table) (q : Request) (j C P a x : ℕ) → at (t .slots) j ≡ line C P a x
+    → (T : ℕ) × (at (after (admitting q) t .slots) j ≡ line C T a x)
+admit-running t q j C P a x e = go (askOf t q) refl
+  where
+    go : (b : Answer) → askOf t q ≡ b → (T : ℕ) × (at (admitWith t q b .table .slots) j ≡ line C T a x)
+    go (Start r) h = (entry q j, admitted-old t q r j C P a x (granted t q r h) e)
+    go (Refused y) h = (P, e)
+
+-- not stretched: as it was
+pub admit-kept : (t : Table) (q : Request) (j C P a x : ℕ) → at (t .slots) j ≡ line C P a x → j < length (t .slots)
+    → (Stretches j (admitting q) t → ⊥) → at (after (admitting q) t .slots) j ≡ line C P a x
+admit-kept t q j C P a x e b n = go (askOf t q) refl
+  where
+    go : (b : Answer) → askOf t q ≡ b → at (admitWith t q b .table .slots) j ≡ line C P a x
+    go (Start r) h =
+        let g = granted t q r h in
+        let up : P ≤ entry q j = split P (entry q j) (λ y. y) (λ y. absurd (g .longer j b (rw e y))) in
+        let down : entry q j ≤ P = split (entry q j) P (λ y. y) (λ y. absurd (n ((r, h), rw e y))) in
+        let z : entry q j ≡ P = omega arith in
+        admitted-old t q r j C P a x g e ∙ ap (λ (T : ℕ). line C T a x) z
+    go (Refused y) h = e
+
+-- while a line waits no admission is granted, and nothing changes
+pub admit-waiting : (t : Table) (q : Request) (j C P w : ℕ) → at (t .slots) j ≡ newLine C P (suc w) → j < length (t .slots) → after (admitting q) t ≡ t
+admit-waiting t q j C P w e b = go (askOf t q) refl
+  where
+    go : (b : Answer) → askOf t q ≡ b → admitWith t q b .table ≡ t
+    go (Start r) h = absurd (granted t q r h .none-waits j b (rw (e, lt-ltb 0 (suc w) (omega arith)) tt))
+    go (Refused y) h = refl
+
+-- ---- a step
+
+-- before the last tick it is the tick of the step's own choice
+pub step-table : (t : Table) → Good t → t .clock < 2 ^ 48 → stepOf t ≡ ticked (choose (t .slots)) t
+step-table t g h = fine-step t (g .fine) h
+
+pub clock-after : (a : Act) (t : Table) → Good t → t .clock ≤ after a t .clock
+clock-after (asking q) t g = omega arith
+clock-after (admitting q) t g = omega (arith, admit-clock t q)
+clock-after stepping t g =
+    split (2 ^ 48) (t .clock)
+    (λ h. let e : stepOf t .table .clock ≡ t .clock = ap (λ (s : Stepped). s .table .clock) (at-last t h) in omega arith)
+    (λ h. let e : stepOf t .table .clock ≡ t .clock + 1 = ap (λ (s : Stepped). s .table .clock) (step-table t g h) in omega arith)

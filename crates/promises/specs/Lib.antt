@@ -1,0 +1,5 @@
+-- The promises, readable without their proofs.
+pub mod Demand3
+pub mod Witnesses
+pub mod Example
+pub mod Excluded

@@ -1,0 +1,51 @@
+-- "Each number here can be met": for each of ask's and step's refusals a table and a request that meet it, with the place.
+use Prim.Native.Nat.{_+_, _-_, _^_}
+use mathlib.Core.List.{List, [], _∷_}
+use lib.ListN.{replicate}
+use Rattle.lines.specs.declared.Held.the-variants.{Running, Waiting}
+use Rattle.lines.specs.declared.Table.{Table}
+use Rattle.lines.specs.declared.Refusal.{Refusal}
+use Rattle.lines.specs.declared.Answer.the-variants.{Refused}
+use Rattle.lines.specs.Slots.{empty, refusal}
+use Rattle.lines.specs.Cases.{Bench, Case, line, tableFor, requestFor, case, caseG, caseI, caseJ, caseL}
+
+-- slot 0 runs a line, slot 1 is empty, slot 2 waits
+abbrev pub waitingTable : Table
+waitingTable =
+    record {
+      clock = 0;
+      slots =
+          record { held = Running (record { need = 1; period = 4; age = 0; remaining = 1 }) }
+          ∷ empty
+          ∷ record { held = Waiting (record { need = 1; period = 4; wait = 3 }) }
+          ∷ replicate 13 empty;
+    }
+
+abbrev pub fullBenches : List Bench
+fullBenches = replicate 16 (line 1 64 64 0 1)
+
+unfoldable pub askMeets : List Case
+askMeets =
+    case (2 ^ 48 - 65536 + 1) [] 1 4 (Refused (refusal 1 0))
+    ∷ case 0 fullBenches 1 64 (Refused (refusal 2 0))
+    ∷ record { table = waitingTable; request = requestFor [] 1 4; answer = Refused (refusal 3 2) }
+    ∷ case 0 (line 1 4 4 0 1 ∷ line 5 4 4 0 0 ∷ []) 1 4 (Refused (refusal 4 1))
+    ∷ case 0 (line 1 4 4 0 1 ∷ line 1 4 3 0 1 ∷ []) 1 4 (Refused (refusal 5 1))
+    ∷ case 0 [] 5 4 (Refused (refusal 6 0))
+    ∷ caseL
+    ∷ caseI
+    ∷ caseG
+    ∷ caseJ
+    ∷ []
+
+pub record Meets : Type 0 where
+  pub table : Table
+  pub refused : Refusal
+
+-- a line that is owed two ticks one tick before its end stands in slot 1
+unfoldable pub stepMeets : List Meets
+stepMeets =
+    record { table = tableFor 0 (line 1 4 4 0 1 ∷ line 5 4 4 0 0 ∷ []); refused = refusal 4 1 }
+    ∷ record { table = tableFor 0 (line 1 4 4 0 1 ∷ line 2 4 4 3 2 ∷ []); refused = refusal 14 1 }
+    ∷ record { table = tableFor (2 ^ 48) []; refused = refusal 15 0 }
+    ∷ []

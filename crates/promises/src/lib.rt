@@ -1,0 +1,1 @@
+// The promises have no code: specs/ states them, proofs/ keeps them.

@@ -1,0 +1,120 @@
+-- The table admitted: its demand is the document's, and a smooth start makes it fine.
+use mathlib.Core.Path.{_≡_, refl, ap}
+use mathlib.Core.Option.{some}
+use mathlib.Core.List.{List}
+use Prim.Native.Nat.{ℕ, _+_, _*_, _-_, _/_, _∣_, _≤_, _<_}
+use native.Mathlib.Nat.{sub-zero}
+use native.Mathlib.Omega.{arith}
+use borrow.Author.Tests.{lt-ltb, le-ltb}
+use lib.ListN.{length, replicate}
+use Rattle.lines.specs.declared.Held.{Held}
+use Rattle.lines.specs.declared.Held.the-variants.{Nothing, Running, Waiting}
+use Rattle.lines.specs.declared.Slot.{Slot}
+use Rattle.lines.specs.Slots.{empty, at, Each, total, Waits}
+use Rattle.lines.specs.Sound.{Sound}
+use Rattle.lines.specs.Demand.{due, demand, newDemand, demands, Smooth}
+use Rattle.lines.specs.Grounds.{share, owed, full}
+use Rattle.lines.specs.Admit.{newLine, putAt}
+use Rattle.theory.specs.Fine.{wanted, wantedAll, load, Divides, Fine, Lag}
+use Rattle.theory.proofs.Numbers.{split, due-renew}
+use Rattle.theory.proofs.Sums.{total-eq, total-zero, total-set, each-set, each-empty}
+
+-- no waiting line: demand and share are the document's
+pub wanted-running : (k : ℕ) (h : Held) (t : ℕ) → (Waits h → ⊥) → wanted k h t ≡ demand k h t
+wanted-running k Nothing t n = refl
+wanted-running k (Running r) t n = refl
+wanted-running k (Waiting w) t n = absurd (n tt)
+
+pub load-running : (M : ℕ) (h : Held) → (Waits h → ⊥) → load M h ≡ share M h
+load-running M Nothing n = refl
+load-running M (Running r) n = refl
+load-running M (Waiting w) n = absurd (n tt)
+
+pub wantedAll-running : (k : ℕ) (l : List Slot) (t : ℕ) → Each (λ h. Waits h → ⊥) l → wantedAll k l t ≡ demands k l t
+wantedAll-running k l t n = total-eq (λ h. wanted k h t) (λ h. demand k h t) l (λ i b. wanted-running k (at l i) t (n i b))
+
+-- the new line in the table is the new line of the document: one that starts at once is at the beginning of a period
+pub new-wanted : (k C P r t : ℕ) → 1 ≤ P → k ≤ r → wanted k (newLine C P (r - k)) t ≡ newDemand C P r t
+new-wanted k C P r t p b =
+    split (r - k) 0
+    (λ g. let e : k ≡ r = omega arith in
+    rw (le-ltb 0 (r - k) g) (cc (sub-zero (k + P), due-renew k C P t p, e)))
+    (λ g. let e : k + (r - k) ≡ r = omega arith in
+    rw (lt-ltb 0 (r - k) g) (ap (λ (n : ℕ). due n 0 C P t) e))
+
+module _ (C P w : ℕ) where
+  pub new-sound : 1 ≤ C → C ≤ P → Sound (newLine C P w)
+  new-sound a b = split w 0 (λ g. rw (le-ltb 0 w g) (omega arith)) (λ g. rw (lt-ltb 0 w g) (omega arith))
+
+  pub new-load : (M : ℕ) → load M (newLine C P w) ≡ C * (M / P)
+  new-load M = split w 0 (λ g. rw (le-ltb 0 w g)) (λ g. rw (lt-ltb 0 w g))
+
+  pub new-divides : {M : ℕ} → P ∣ M → Divides M (newLine C P w)
+  new-divides d = split w 0 (λ g. rw (le-ltb 0 w g) d) (λ g. rw (lt-ltb 0 w g) d)
+
+  pub new-lag : (M : ℕ) → owed M (newLine C P w) ≤ full M (newLine C P w)
+  new-lag M = split w 0 (λ g. rw (le-ltb 0 w g) (omega arith)) (λ g. rw (lt-ltb 0 w g) (omega arith))
+
+pub admitted-wanted : (k : ℕ) (l : List Slot) (j C P r t : ℕ) → Each (λ h. Waits h → ⊥) l → j < length l → at l j ≡ Nothing → 1 ≤ P → k ≤ r
+    → wantedAll k (putAt (some j) (newLine C P (r - k)) l) t ≡ demands k l t + newDemand C P r t
+admitted-wanted k l j C P r t n h e p b =
+    omega (
+      arith,
+      total-set (λ x. wanted k x t) l j (newLine C P (r - k)) h,
+      ap (λ (x : Held). wanted k x t) e,
+      new-wanted k C P r t p b,
+      wantedAll-running k l t n,
+    )
+
+pub admitted-sound : (l : List Slot) (j C P w : ℕ) → Each Sound l → 1 ≤ C → C ≤ P → Each Sound (putAt (some j) (newLine C P w) l)
+admitted-sound l j C P w a b c = each-set Sound l j (newLine C P w) a (new-sound C P w b c)
+
+pub admitted-fine : (M k : ℕ) (l : List Slot) (j C P r : ℕ)
+    → Each Sound l → Each (λ h. Waits h → ⊥) l → 0 < M → Each (Divides M) l → P ∣ M → total (share M) l + C * (M / P) ≤ M → 1 ≤ C → C ≤ P
+    → j < length l → at l j ≡ Nothing → Smooth k l (newDemand C P) r
+    → Fine M k (putAt (some j) (newLine C P (r - k)) l)
+admitted-fine M k l j C P r a n m d p x c q h e s =
+    record {
+      sound = admitted-sound l j C P (r - k) a c q;
+      shares =
+          record {
+            some-frame = m;
+            common = each-set (Divides M) l j (newLine C P (r - k)) d (new-divides C P (r - k) p);
+            at-most-one =
+                omega (
+                  arith,
+                  total-set (load M) l j (newLine C P (r - k)) h,
+                  new-load C P (r - k) M,
+                  total-eq (load M) (share M) l (λ i b. load-running M (at l i) (n i b)),
+                );
+          };
+      no-excess = λ t b. omega (arith, admitted-wanted k l j C P r t n h e (omega arith) (s .from-clock), s .no-excess t b);
+    }
+
+pub lag-admitted : (M : ℕ) (l : List Slot) (j C P w : ℕ) → Lag M l → j < length l → at l j ≡ Nothing → Lag M (putAt (some j) (newLine C P w) l)
+lag-admitted M l j C P w g h e =
+    omega (
+      arith,
+      total-set (owed M) l j (newLine C P w) h,
+      total-set (full M) l j (newLine C P w) h,
+      new-lag C P w M,
+      ap (owed M) e,
+      ap (full M) e,
+    )
+
+-- the empty table, at any clock
+pub empty-fine : (k n : ℕ) → Fine 1 k (replicate n empty)
+empty-fine k n =
+    record {
+      sound = each-empty Sound n tt;
+      shares =
+          record {
+            some-frame = omega arith;
+            common = each-empty (Divides 1) n tt;
+            at-most-one = omega (arith, total-zero (load 1) (replicate n empty) (each-empty (λ h. load 1 h ≡ 0) n refl));
+          };
+      no-excess = λ t b. omega (arith, total-zero (λ h. wanted k h t) (replicate n empty) (each-empty (λ h. wanted k h t ≡ 0) n refl));
+    }
+
+pub empty-lag : (M n : ℕ) → Lag M (replicate n empty)
+empty-lag M n = omega (arith, total-zero (owed M) (replicate n empty) (each-empty (λ h. owed M h ≡ 0) n refl))

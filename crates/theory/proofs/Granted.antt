@@ -1,0 +1,106 @@
+-- What is known of a request that is granted: every test passed over.
+use mathlib.Core.Path.{_≡_, refl}
+use mathlib.Core.Bool.{Bool, true, false, not}
+use mathlib.Core.List.{_∷_}
+use mathlib.Core.Option.{Option, none, some}
+use Prim.Native.Nat.{ℕ, _+_, _*_, _-_, _/_, _^_, _≤_}
+use native.Mathlib.Omega.{arith}
+use borrow.Author.Tests.{ltb-false}
+use lib.Dec.{ltb, leb}
+use lib.ListN.{length}
+use Rattle.periods.proofs.Frames.{frame-is, frame-pos}
+use Rattle.lines.specs.declared.Table.{Table}
+use Rattle.lines.specs.declared.Request.{Request}
+use Rattle.lines.specs.declared.Answer.{Answer}
+use Rattle.lines.specs.declared.Answer.the-variants.{Start}
+use Rattle.lines.specs.Slots.{both, at, Each, total, isNothing, isWaiting, Waits, lowest, lowestOf}
+use Rattle.lines.specs.Sound.{Sound, sound}
+use Rattle.lines.specs.Demand.{lastEnd, Least, newDemand}
+use Rattle.lines.specs.Grounds.{entry, asked, Shrunk, periodsIn, frame, share, owed, full}
+use Rattle.lines.specs.Ask.{start, endsOf, anyOf, shortAt, shrunk, isNone, refusedAt, refusedIf, loadOf, askOf}
+use Rattle.lines.proofs.Search.{lowest-none}
+use Rattle.lines.proofs.Sound.{sound-says}
+use Rattle.theory.specs.Fine.{Longer}
+use Rattle.theory.specs.Given.{Given}
+use Rattle.theory.proofs.Start.{start-least}
+use Rattle.theory.proofs.Ten.{quiet}
+use Rattle.theory.proofs.Stretched.{sound-stretched, running-stretched}
+use Rattle.theory.proofs.Tests.{none-of, waits-not, not-false, shrunk-not, some-of, fits-says, periods-divide, periods-pos}
+use Rattle.theory.specs.Given.{Alone, Granted}
+use Rattle.lines.specs.Grounds.{periodsIn}
+use Rattle.periods.proofs.Frames.{frame-is, frame-pos}
+
+-- the frame is a common multiple, and with sums 8 and 9 it gives what the theory of the start asks
+pub given : (t : Table) (q : Request) → Each Sound (asked t q) → Each (λ h. Waits h → ⊥) (asked t q) → 1 ≤ q .need → q .need ≤ q .period
+    → let F = frame (asked t q) (q .period) in
+    total (share F) (asked t q) + q .need * (F / q .period) ≤ F → total (owed F) (asked t q) ≤ total (full F) (asked t q)
+    → Given F (asked t q) (q .need) (q .period)
+given t q s n c fits eight nine =
+    let f = frame-is (q .period ∷ periodsIn (asked t q)) in
+    record {
+      sound = s;
+      some-frame = frame-pos (q .period ∷ periodsIn (asked t q)) (omega arith, periods-pos (asked t q) s);
+      divides = periods-divide (frame (asked t q) (q .period)) (asked t q) n (f .common .1);
+      new-some = c;
+      new-fits = fits;
+      new-divides = f .common .0;
+      eight = eight;
+      nine = nine;
+    }
+
+past-if : (b : Bool) (n : ℕ) (a : Answer) (r : ℕ) → refusedIf b n a ≡ Start r → (b ≡ false) × (a ≡ Start r)
+past-if true n a r e = let z : _≡_ {A = ℕ} 0 1 = cc in absurd (omega arith)
+past-if false n a r e = (refl, e)
+
+past-at : (o : Option ℕ) (n : ℕ) (a : Answer) (r : ℕ) → refusedAt o n a ≡ Start r → (o ≡ none) × (a ≡ Start r)
+past-at (some k) n a r e = let z : _≡_ {A = ℕ} 0 1 = cc in absurd (omega arith)
+past-at none n a r e = (refl, e)
+
+same-start : (r u : ℕ) → Start r ≡ Start u → r ≡ u
+same-start r u e = cc
+
+-- past test 9 the request is as the theory of the start wants it; past test 10 the start is the least smooth one
+granted-load : (t : Table) (q : Request) (r : ℕ) → Each Sound (asked t q) → Each (λ h. Waits h → ⊥) (asked t q) → 1 ≤ q .need → q .need ≤ q .period
+    → let F = frame (asked t q) (q .period) in
+    loadOf (t .clock) F (asked t q) (q .need) (q .period) ≡ Start r
+    → Given F (asked t q) (q .need) (q .period) × Alone (t .clock) (asked t q) × Least (t .clock) (asked t q) (newDemand (q .need) (q .period)) r
+unfolding loadOf
+granted-load t q r s n c fits e =
+    let F = frame (asked t q) (q .period) in
+    let l = asked t q in
+    let p7 = past-if (ltb 1000000 F) 7 _ r e in
+    let p8 = past-if (ltb F (total (share F) l + q .need * (F / q .period))) 8 _ r (p7 .1) in
+    let p9 = past-if (ltb (total (full F) l) (total (owed F) l)) 9 _ r (p8 .1) in
+    let p10 = past-if (anyOf (shortAt (t .clock) l) (endsOf (t .clock) (lastEnd (t .clock) l) l)) 10 _ r (p9 .1) in
+    let g = given t q s n c fits (ltb-false F (total (share F) l + q .need * (F / q .period)) (p8 .0)) (ltb-false (total (full F) l) (total (owed F) l) (p9 .0)) in
+    let a = quiet F (t .clock) l (q .need) (q .period) g (p10 .0) in
+    (g, a, rw (← same-start (start (t .clock) l (q .need) (q .period)) r (p10 .1)) (start-least F (t .clock) l (q .need) (q .period) g a))
+
+pub granted : (t : Table) (q : Request) (r : ℕ) → askOf t q ≡ Start r → Granted t q r
+unfolding askOf
+granted t q r e =
+    let l = t .slots in
+    let n = length l in
+    let p1 = past-if (ltb (2 ^ 48 - 65536) (t .clock)) 1 _ r e in
+    let p2 = past-if (isNone (lowestOf isNothing l)) 2 _ r (p1 .1) in
+    let p3 = past-at (lowestOf isWaiting l) 3 _ r (p2 .1) in
+    let p4 = past-at (lowestOf (λ h. not (sound h)) l) 4 _ r (p3 .1) in
+    let p5 = past-at (lowest (λ i. shrunk (entry q i) (at l i)) n) 5 _ r (p4 .1) in
+    let p6 = past-if (not (both (leb 1 (q .need)) (leb (q .need) (q .period)))) 6 _ r (p5 .1) in
+    let k = some-of (lowestOf isNothing l) (p2 .0) in
+    let waits = none-of (λ i. Waits (at l i)) (λ i. isWaiting (at l i)) n (λ i. waits-not (at l i)) (p3 .0) in
+    let sounds : Each Sound l = λ i b. sound-says (at l i) (not-false (sound (at l i)) (lowest-none (λ i. not (sound (at l i))) n (p4 .0) i b)) in
+    let longer : Longer l (entry q) = none-of (λ i. Shrunk (entry q i) (at l i)) (λ i. shrunk (entry q i) (at l i)) n (λ i. shrunk-not (entry q i) (at l i)) (p5 .0) in
+    let f = fits-says (q .need) (q .period) (not-false (both (leb 1 (q .need)) (leb (q .need) (q .period))) (p6 .0)) in
+    let w = granted-load t q r (sound-stretched l (entry q) longer sounds) (running-stretched l (entry q) longer waits) (f .0) (f .1) (p6 .1) in
+    record {
+      early = ltb-false (2 ^ 48 - 65536) (t .clock) (p1 .0);
+      slot = k .0;
+      lowest-empty = k .1;
+      none-waits = waits;
+      sound = sounds;
+      longer = longer;
+      given = w .0;
+      alone = w .1;
+      least = w .2;
+    }

@@ -1,0 +1,20 @@
+-- Why the answers are right: first numbers, sums and single slots, then ask, then the step.
+pub mod Numbers
+pub mod Sums
+pub mod Stretched
+pub mod Tail
+pub mod Ends
+pub mod Start
+pub mod Ten
+pub mod Tests
+pub mod Granted
+pub mod Answers
+pub mod Unique
+pub mod Scale
+pub mod Cases
+pub mod Slotwise
+pub mod Pump
+pub mod Lagging
+pub mod Step
+pub mod Admitted
+pub mod Trace

@@ -1,0 +1,137 @@
+-- A step keeps a fine table fine and ends no period short; a positive excess cannot be run away from.
+use mathlib.Core.Path.{_≡_, _∙_}
+use mathlib.Core.Option.{Option, none, some}
+use mathlib.Core.List.{List}
+use Prim.Native.Nat.{ℕ, zero, suc, _+_, _*_, _-_, _≤_, _<_}
+use native.Mathlib.Nat.{le-of-mul-le-mul-left, mul-le-mul-right}
+use native.Mathlib.Omega.{arith}
+use Rattle.lines.specs.declared.Slot.{Slot}
+use Rattle.lines.specs.Slots.{at, Each}
+use Rattle.lines.specs.Sound.{Sound}
+use Rattle.lines.specs.Demand.{endOf}
+use Rattle.lines.specs.Step.{Owed, Earliest, served, serve, passed, pass}
+use Rattle.theory.specs.Fine.{wanted, wantedAll, load, Divides, Shares, Fine, May, Kept, Reach, Safe}
+use Rattle.theory.proofs.Numbers.{split}
+use Rattle.theory.proofs.Sums.{total-le, total-eq, total-zero, total-mul, total-mulr, total-set, total-pass, one-le, each-pass, each-set}
+use Rattle.theory.proofs.Slotwise.{wanted-pass, served-late, served-early, served-any, end-of-owed, quiet, wanted-now, none-wanted, sound-passed, sound-served, load-passed, load-served, divides-passed, divides-served}
+
+-- where nobody who is owed ends up to t, all demand is at most the time after the coming tick
+pub quiet-all : {M : ℕ} {l : List Slot} (k t : ℕ) → Each Sound l → Shares M l → Each (λ h. Owed h → t < endOf k h) l → wantedAll k l t ≤ t - suc k
+quiet-all {M} {l} k t a v q =
+    le-of-mul-le-mul-left
+    (omega (
+      arith,
+      total-le (λ h. M * wanted k h t) (λ h. load M h * (t - suc k)) l (λ i b. quiet M k (at l i) t (a i b) (v .common i b) (q i b)),
+      total-mul M (λ h. wanted k h t) l,
+      total-mulr (t - suc k) (load M) l,
+      mul-le-mul-right (t - suc k) (v .at-most-one),
+    ))
+    (v .some-frame)
+
+-- the tick that the earliest end gets is enough
+pub earliest-enough : {M k : ℕ} {l : List Slot} (o : Option ℕ) → Fine M k l → Earliest o l → (t : ℕ) → k < t → wantedAll k (serve o l) t ≤ t - suc k
+earliest-enough {M} {k} {l} none f e t b = quiet-all k t (f .sound) (f .shares) (λ i h v. absurd (e i h v))
+earliest-enough {M} {k} {l} (some j) f e t b =
+    let s = total-set (λ h. wanted k h t) l j (served (at l j)) (e .0) in
+    let z = end-of-owed k (at l j) (f .sound j (e .0)) (e .1) in
+    split (endOf k (at l j)) t
+    (λ g. omega (arith, s, served-late k (at l j) t (e .1) g, f .no-excess t (omega arith)))
+    (λ g. omega (
+      arith,
+      s,
+      served-early k (at l j) t (e .1) g,
+      quiet-all k t (f .sound) (f .shares) (λ i h v. omega (arith, z, end-of-owed k (at l i) (f .sound i h) v, e .2 i h v)),
+    ))
+
+pub sound-serve : (o : Option ℕ) (l : List Slot) → May o l → Each Sound l → Each Sound (serve o l)
+sound-serve none l m a = a
+sound-serve (some j) l m a = each-set Sound l j (served (at l j)) a (sound-served (at l j) (a j (m .0)))
+
+pub sound-pass : (l : List Slot) → Each Sound l → Each Sound (pass l)
+sound-pass l a = each-pass Sound l (λ i h. sound-passed (at l i) (a i h))
+
+pub shares-serve : {M : ℕ} {l : List Slot} (o : Option ℕ) → May o l → Shares M l → Shares M (serve o l)
+shares-serve {M} {l} none m v = v
+shares-serve {M} {l} (some j) m v =
+    record {
+      some-frame = v .some-frame;
+      common = each-set (Divides M) l j (served (at l j)) (v .common) (divides-served M (at l j) (v .common j (m .0)));
+      at-most-one = omega (arith, total-set (load M) l j (served (at l j)) (m .0), load-served M (at l j), v .at-most-one);
+    }
+
+pub shares-pass : {M : ℕ} {l : List Slot} → Shares M l → Shares M (pass l)
+shares-pass {M} {l} v =
+    record {
+      some-frame = v .some-frame;
+      common = each-pass (Divides M) l (λ i h. divides-passed M (at l i) (v .common i h));
+      at-most-one = omega (arith, total-pass (load M) l, total-le (λ h. load M (passed h)) (load M) l (λ i h. load-passed M (at l i)), v .at-most-one);
+    }
+
+-- a tick of the clock in which no line is short changes no demand
+pub wantedAll-pass : (k : ℕ) (l : List Slot) (t : ℕ) → Each Sound l → Each Kept l → wantedAll (suc k) (pass l) t ≡ wantedAll k l t
+wantedAll-pass k l t a v =
+    total-pass (λ h. wanted (suc k) h t) l
+    ∙ total-eq (λ h. wanted (suc k) (passed h) t) (λ h. wanted k h t) l (λ i b. wanted-pass k (at l i) t (a i b) (v i b))
+
+pub earliest-may : (o : Option ℕ) (l : List Slot) → Earliest o l → May o l
+earliest-may none l e = tt
+earliest-may (some j) l e = (e .0, e .1)
+
+-- no period ends short
+pub never-short : {M k : ℕ} {l : List Slot} (o : Option ℕ) → Fine M k l → Earliest o l → Each Kept (serve o l)
+never-short {M} {k} {l} o f e i h =
+    none-wanted k (at (serve o l) i) (sound-serve o l (earliest-may o l e) (f .sound) i h)
+    (omega (arith, one-le (λ x. wanted k x (suc k)) (serve o l) i h, earliest-enough o f e (suc k) (omega arith)))
+
+pub fine-kept : {M k : ℕ} {l : List Slot} (o : Option ℕ) → Fine M k l → Earliest o l → Fine M (suc k) (pass (serve o l))
+fine-kept {M} {k} {l} o f e =
+    let m = earliest-may o l e in
+    let a = sound-serve o l m (f .sound) in
+    record {
+      sound = sound-pass (serve o l) a;
+      shares = shares-pass (shares-serve o m (f .shares));
+      no-excess = λ t b. omega (arith, wantedAll-pass k (serve o l) t a (never-short o f e), earliest-enough o f e t b);
+    }
+
+-- so no run by the earliest end has a line short
+pub fine-safe : {M k : ℕ} {l : List Slot} (n : ℕ) → Fine M k l → Safe n l
+fine-safe zero f = tt
+fine-safe (suc n) f = λ o e. (never-short o f e, fine-safe n (fine-kept o f e))
+
+-- a tick pays for one at most
+pub serve-pays : (k : ℕ) (o : Option ℕ) (l : List Slot) (t : ℕ) → May o l → wantedAll k l t ≤ suc (wantedAll k (serve o l) t)
+serve-pays k none l t m = omega arith
+serve-pays k (some j) l t m = omega (arith, total-set (λ h. wanted k h t) l j (served (at l j)) (m .0), served-any k (at l j) t (m .1))
+
+pub wantedAll-now : (k : ℕ) (l : List Slot) → Each Sound l → wantedAll k l k ≡ 0
+wantedAll-now k l a = total-zero (λ h. wanted k h k) l (λ i b. wanted-now k (at l i) (a i b))
+
+-- whoever is served, the excess at t is still there after a tick without a short line, and t still to come
+pub excess-kept : (k : ℕ) (o : Option ℕ) (l : List Slot) (t : ℕ) → Each Sound l → May o l → Each Kept (serve o l) → k < t → t - k < wantedAll k l t
+    → (t - suc k < wantedAll (suc k) (pass (serve o l)) t) × (suc k < t)
+excess-kept k o l t a m v b x =
+    let s = sound-serve o l m a in
+    let p = serve-pays k o l t m in
+    let w = wantedAll-pass k (serve o l) t s v in
+    let y : t - suc k < wantedAll (suc k) (pass (serve o l)) t = omega (arith, p, w) in (
+      y,
+      split t (suc k)
+          (λ g. let e : t ≡ suc k = omega arith in
+          let z : wantedAll (suc k) (pass (serve o l)) t ≡ 0 = rw e (wantedAll-now (suc k) (pass (serve o l)) (sound-pass (serve o l) s)) in
+          absurd (omega (arith, y, z)))
+          (λ g. g),
+    )
+
+doomed-in : (n k : ℕ) (l : List Slot) (t : ℕ) → t ≡ k + n → Each Sound l → n < wantedAll k l t → Reach n l → ⊥
+doomed-in zero k l t e a x r =
+    let z : t ≡ k = omega arith in
+    let y : 0 < wantedAll k l k = rw z at x in
+    omega (arith, y, wantedAll-now k l a)
+doomed-in (suc n) k l t e a x r =
+    let s = sound-serve (r .0) l (r .1) a in
+    let y = excess-kept k (r .0) l t a (r .1) (r .2) (omega arith) (omega arith) .0 in
+    doomed-in n (suc k) (pass (serve (r .0) l)) t (omega arith) (sound-pass (serve (r .0) l) s) (omega (arith, y)) (r .3)
+
+-- no run up to a t with excess is without a short line
+pub doomed : (k : ℕ) (l : List Slot) (t : ℕ) → Each Sound l → k ≤ t → t - k < wantedAll k l t → Reach (t - k) l → ⊥
+doomed k l t a b x r = doomed-in (t - k) k l t (omega arith) a x r

@@ -1,0 +1,108 @@
+-- The computed step on a fine table: it is never refused before clock 2^48, and the table after it is fine again.
+use mathlib.Core.Path.{_≡_, refl, sym, ap, _∙_}
+use mathlib.Core.Bool.{Bool, true, false, not}
+use mathlib.Core.Option.{Option, none, some}
+use mathlib.Core.List.{List}
+use Prim.Native.Nat.{ℕ, _+_, _^_, _<_}
+use native.Mathlib.Numerals.{add-one}
+use native.Mathlib.Omega.{arith}
+use borrow.Author.Tests.{lt-ltb, le-ltb, lt-leb}
+use lib.Dec.{leb}
+use lib.ListN.{length}
+use Rattle.lines.specs.declared.Held.{Held}
+use Rattle.lines.specs.declared.Held.the-variants.{Nothing, Running, Waiting}
+use Rattle.lines.specs.declared.Slot.{Slot}
+use Rattle.lines.specs.declared.Table.{Table}
+use Rattle.lines.specs.declared.Which.{Which}
+use Rattle.lines.specs.declared.Outcome.the-variants.{Ran}
+use Rattle.lines.specs.declared.Stepped.{Stepped}
+use Rattle.lines.specs.Slots.{pick, at, Each, lowestOf}
+use Rattle.lines.specs.Sound.{Sound, sound}
+use Rattle.lines.specs.Step.{Earliest, choose, serve, short, refusedStep, stepUnless, advance, stepOf}
+use Rattle.lines.proofs.Search.{true-false, none-found, lowest-none}
+use Rattle.lines.proofs.Sound.{says-sound}
+use Rattle.lines.proofs.Choice.{chosen-is, chosen-earliest}
+use Rattle.theory.specs.Fine.{Fine, Kept, Lag, ticked}
+use Rattle.theory.proofs.Numbers.{split}
+use Rattle.theory.proofs.Pump.{never-short, fine-kept}
+use Rattle.theory.proofs.Lagging.{earliest-busy, lag-kept}
+
+pub kept-short : (h : Held) → Kept h → short h ≡ false
+kept-short Nothing v = refl
+kept-short (Running r) v =
+    split (r .period) (r .age + 1)
+    (λ g. rw (le-ltb (r .age + 1) (r .period) g) (le-ltb 0 (r .remaining) (omega (arith, v g))))
+    (λ g. rw (lt-ltb (r .age + 1) (r .period) g))
+kept-short (Waiting w) v = refl
+
+pub short-kept : (h : Held) → short h ≡ false → Kept h
+short-kept Nothing e = tt
+short-kept (Running r) e = λ g.
+    split 1 (r .remaining)
+    (λ b. let z : true ≡ false = rw (le-ltb (r .age + 1) (r .period) g, lt-ltb 0 (r .remaining) b) at e in absurd (true-false refl z))
+    (λ b. omega arith)
+short-kept (Waiting w) e = tt
+
+pub none-short : (l : List Slot) → Each Kept l → lowestOf short l ≡ none
+none-short l v = none-found (λ i. short (at l i)) (length l) (λ i b. kept-short (at l i) (v i b))
+
+pub short-none : (l : List Slot) → lowestOf short l ≡ none → Each Kept l
+short-none l e i b = short-kept (at l i) (lowest-none (λ n. short (at l n)) (length l) e i b)
+
+pub none-unsound : (l : List Slot) → Each Sound l → lowestOf (λ h. not (sound h)) l ≡ none
+none-unsound l a = none-found (λ i. not (sound (at l i))) (length l) (λ i b. ap not (says-sound (at l i) (a i b)))
+
+-- the step's own choice is an earliest end
+pub choose-earliest : (l : List Slot) → Earliest (choose l) l
+choose-earliest l = chosen-earliest (choose l) l (chosen-is (length l) l)
+
+-- a tick in which no line is short
+pub advanced : (o : Option ℕ) (t : Table) → Each Kept (serve o (t .slots)) → advance o t ≡ ticked o t
+unfolding advance
+advanced o t v = rw (none-short (serve o (t .slots)) v)
+
+ran-unless : (p : Option ℕ) (n : ℕ) (t : Table) (s : Stepped) (w : Which) → stepUnless p n t s .outcome ≡ Ran w → (p ≡ none) × (stepUnless p n t s ≡ s)
+ran-unless none n t s w e = (refl, refl)
+ran-unless (some k) n t s w e = let z : _≡_ {A = ℕ} 0 1 = cc in absurd (omega arith)
+
+ran-pick : (b : Bool) (t : Table) (s : Stepped) (w : Which) → pick b (refusedStep t 15 0) s .outcome ≡ Ran w → pick b (refusedStep t 15 0) s ≡ s
+ran-pick false t s w e = refl
+ran-pick true t s w e = let z : _≡_ {A = ℕ} 0 1 = cc in absurd (omega arith)
+
+-- a tick that is not refused has no line short
+pub advance-kept : (o : Option ℕ) (t : Table) (w : Which) → advance o t .outcome ≡ Ran w → Each Kept (serve o (t .slots))
+unfolding advance
+advance-kept o t w e = short-none (serve o (t .slots)) (ran-unless (lowestOf short (serve o (t .slots))) 14 t _ w e .0)
+
+-- a step that is not refused is the tick of its own choice
+pub ran-advance : (t : Table) (w : Which) → stepOf t .outcome ≡ Ran w → stepOf t ≡ advance (choose (t .slots)) t
+unfolding stepOf
+ran-advance t w e =
+    let s = stepUnless (lowestOf (λ h. not (sound h)) (t .slots)) 4 t (advance (choose (t .slots)) t) in
+    let p = ran-pick (leb (2 ^ 48) (t .clock)) t s w e in
+    let q : s .outcome ≡ Ran w = ap (λ (x : Stepped). x .outcome) (sym p) ∙ e in
+    p ∙ ran-unless (lowestOf (λ h. not (sound h)) (t .slots)) 4 t (advance (choose (t .slots)) t) w q .1
+
+-- so it has no line short either
+pub step-kept : (t : Table) (w : Which) → stepOf t .outcome ≡ Ran w → Each Kept (serve (choose (t .slots)) (t .slots))
+step-kept t w e = advance-kept (choose (t .slots)) t w (ap (λ (x : Stepped). x .outcome) (sym (ran-advance t w e)) ∙ e)
+
+pub step-ticks : (t : Table) (w : Which) → stepOf t .outcome ≡ Ran w → stepOf t ≡ ticked (choose (t .slots)) t
+step-ticks t w e = ran-advance t w e ∙ advanced (choose (t .slots)) t (step-kept t w e)
+
+-- the step of a fine table
+pub fine-step : {M : ℕ} (t : Table) → Fine M (t .clock) (t .slots) → t .clock < 2 ^ 48 → stepOf t ≡ ticked (choose (t .slots)) t
+unfolding stepOf
+fine-step t f b =
+    rw (lt-leb (2 ^ 48) (t .clock) b, none-unsound (t .slots) (f .sound))
+    (advanced (choose (t .slots)) t (never-short (choose (t .slots)) f (choose-earliest (t .slots))))
+
+pub fine-stepped : {M : ℕ} (t : Table) → Fine M (t .clock) (t .slots) → t .clock < 2 ^ 48 → Fine M (stepOf t .table .clock) (stepOf t .table .slots)
+fine-stepped {M} t f b =
+    rw (fine-step t f b, add-one) (fine-kept (choose (t .slots)) f (choose-earliest (t .slots)))
+
+pub lag-stepped : {M : ℕ} (t : Table) → Fine M (t .clock) (t .slots) → Lag M (t .slots) → t .clock < 2 ^ 48 → Lag M (stepOf t .table .slots)
+lag-stepped {M} t f g b =
+    let o = choose (t .slots) in
+    let e = choose-earliest (t .slots) in
+    rw (fine-step t f b) (lag-kept o (f .sound) (f .shares) (earliest-busy o (t .slots) e) (never-short o f e) g)

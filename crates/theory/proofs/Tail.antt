@@ -1,0 +1,62 @@
+-- The tail: with sums 8 and 9 in order there is no excess from the last end on, wherever the new line starts.
+use mathlib.Core.Path.{refl}
+use mathlib.Core.List.{List, [], _∷_}
+use Prim.Native.Nat.{ℕ, zero, suc, _+_, _*_, _-_, _≤_}
+use native.Mathlib.Nat.{le-of-mul-le-mul-left, mul-le-mul-right, not-suc-le-zero}
+use native.Mathlib.Omega.{arith}
+use Rattle.lines.specs.declared.Held.{Held}
+use Rattle.lines.specs.declared.Held.the-variants.{Nothing, Running, Waiting}
+use Rattle.lines.specs.declared.Slot.{Slot}
+use Rattle.lines.specs.Slots.{at, Each, total}
+use Rattle.lines.specs.Sound.{Sound}
+use Rattle.lines.specs.Demand.{demand, newDemand, demands, endOf, lastEnd}
+use Rattle.lines.specs.Grounds.{share, owed, full}
+use Rattle.theory.specs.Fine.{Divides}
+use Rattle.theory.specs.Given.{Given}
+use Rattle.theory.proofs.Numbers.{due-share, due-late}
+use Rattle.theory.proofs.Sums.{total-le, total-add, total-mul, total-mulr}
+
+-- the last end is at or after the clock and every first end
+pub last-late : (t0 : ℕ) (l : List Slot) → t0 ≤ lastEnd t0 l
+unfolding lastEnd
+last-late t0 [] = omega arith
+last-late t0 (s ∷ l) = omega (arith, last-late t0 l)
+
+pub last-each : (t0 : ℕ) (l : List Slot) → Each (λ h. endOf t0 h ≤ lastEnd t0 l) l
+unfolding lastEnd
+last-each t0 [] i b = absurd (not-suc-le-zero b)
+last-each t0 (s ∷ l) zero b = omega arith
+last-each t0 (s ∷ l) (suc i) b = omega (arith, last-each t0 l i (omega arith))
+
+-- one slot from its first end on
+pub one-late : (F t0 : ℕ) (h : Held) (t : ℕ) → Sound h → Divides F h → endOf t0 h ≤ t
+    → F * demand t0 h t + full F h ≤ owed F h + share F h * (t - t0)
+one-late F t0 Nothing t s d b = omega arith
+one-late F t0 (Running r) t s d b = due-late F t0 (r .age) (r .remaining) (r .need) (r .period) t d (omega arith) b
+one-late F t0 (Waiting w) t s d b = omega arith
+
+pub all-late : (F t0 : ℕ) (l : List Slot) (t : ℕ) → Each Sound l → Each (Divides F) l → lastEnd t0 l ≤ t
+    → F * demands t0 l t + total (full F) l ≤ total (owed F) l + total (share F) l * (t - t0)
+all-late F t0 l t s d b =
+    omega (
+      arith,
+      total-le (λ h. F * demand t0 h t + full F h) (λ h. owed F h + share F h * (t - t0)) l
+          (λ i c. one-late F t0 (at l i) t (s i c) (d i c) (omega (arith, last-each t0 l i c))),
+      total-add (λ h. F * demand t0 h t) (full F) l,
+      total-add (owed F) (λ h. share F h * (t - t0)) l,
+      total-mul F (λ h. demand t0 h t) l,
+      total-mulr (t - t0) (share F) l,
+    )
+
+pub tail : (F t0 : ℕ) (l : List Slot) (Cn Tn r : ℕ) → Given F l Cn Tn → t0 ≤ r
+    → (t : ℕ) → lastEnd t0 l ≤ t → demands t0 l t + newDemand Cn Tn r t ≤ t - t0
+tail F t0 l Cn Tn r g late t h =
+    le-of-mul-le-mul-left
+    (omega (
+      arith,
+      all-late F t0 l t (g .sound) (g .divides) h,
+      due-share F t0 r 0 Cn Tn t (g .new-divides) late (λ _. refl),
+      mul-le-mul-right (t - t0) (g .eight),
+      g .nine,
+    ))
+    (g .some-frame)

@@ -1,0 +1,114 @@
+-- What the computed tests of the grounds say, and that the frame divides by every period.
+use mathlib.Core.Path.{_≡_, refl}
+use mathlib.Core.Bool.{Bool, true, false, not}
+use mathlib.Core.List.{List, [], _∷_}
+use mathlib.Core.Option.{Option, none, some}
+use Prim.Native.Nat.{ℕ, zero, suc, _∣_, _≤_, _<_}
+use native.Mathlib.Nat.{not-suc-le-zero}
+use native.Mathlib.Omega.{arith}
+use borrow.Author.Tests.{ltb-true, leb-true, leb-false, lt-ltb}
+use lib.Dec.{leb}
+use Rattle.periods.specs.Multiples.{All}
+use Rattle.lines.specs.declared.Held.{Held}
+use Rattle.lines.specs.declared.Held.the-variants.{Nothing, Running, Waiting}
+use Rattle.lines.specs.declared.Slot.{Slot}
+use Rattle.lines.specs.Slots.{both, Each, isNothing, isWaiting, Waits, Lowest, lowest}
+use Rattle.lines.specs.Sound.{Sound}
+use Rattle.lines.specs.Grounds.{Shrunk, periodIn, periodsIn}
+use Rattle.lines.specs.Ask.{shrunk, isNone}
+use Rattle.lines.proofs.Search.{true-false, lowest-is, lowest-none}
+use Rattle.theory.specs.Fine.{Divides}
+use Rattle.theory.proofs.Ends.{append-all, all-append}
+
+pub lowest-of : (P : ℕ → Type 0) (test : ℕ → Bool) (n k : ℕ) → ((i : ℕ) → test i ≡ true → P i) → ((i : ℕ) → P i → test i ≡ false → ⊥)
+    → lowest test n ≡ some k → Lowest P n k
+lowest-of P test n k yes-is no-not e =
+    let w = lowest-is test n e in
+    record { inside = w .inside; here = yes-is k (w .here); below = λ i b p. by-bool (test i) (λ x. w .below i b x) (λ x. no-not i p x) }
+  where
+    by-bool : (b : Bool) → (b ≡ true → ⊥) → (b ≡ false → ⊥) → ⊥
+    by-bool true f g = f refl
+    by-bool false f g = g refl
+
+pub none-of : (P : ℕ → Type 0) (test : ℕ → Bool) (n : ℕ) → ((i : ℕ) → P i → test i ≡ false → ⊥)
+    → lowest test n ≡ none → (i : ℕ) → i < n → P i → ⊥
+none-of P test n no-not e i b p = no-not i p (lowest-none test n e i b)
+
+pub nothing-says : (h : Held) → isNothing h ≡ true → h ≡ Nothing
+nothing-says Nothing e = refl
+nothing-says (Running r) e = absurd (true-false e refl)
+nothing-says (Waiting w) e = absurd (true-false e refl)
+
+pub waits-says : (h : Held) → isWaiting h ≡ true → Waits h
+waits-says Nothing e = true-false e refl
+waits-says (Running r) e = true-false e refl
+waits-says (Waiting w) e = tt
+
+pub waits-not : (h : Held) → Waits h → isWaiting h ≡ false → ⊥
+waits-not Nothing v e = v
+waits-not (Running r) v e = v
+waits-not (Waiting w) v e = true-false refl e
+
+pub not-true : (b : Bool) → not b ≡ true → b ≡ false
+not-true true e = absurd (true-false e refl)
+not-true false e = refl
+
+pub not-false : (b : Bool) → not b ≡ false → b ≡ true
+not-false true e = refl
+not-false false e = absurd (true-false refl e)
+
+pub shrunk-says : (p : ℕ) (h : Held) → shrunk p h ≡ true → Shrunk p h
+shrunk-says p Nothing e = true-false e refl
+shrunk-says p (Running r) e = ltb-true _ _ e
+shrunk-says p (Waiting w) e = true-false e refl
+
+pub shrunk-not : (p : ℕ) (h : Held) → Shrunk p h → shrunk p h ≡ false → ⊥
+shrunk-not p Nothing v e = v
+shrunk-not p (Running r) v e = true-false (lt-ltb _ _ v) e
+shrunk-not p (Waiting w) v e = v
+
+pub some-of : (o : Option ℕ) → isNone o ≡ false → (k : ℕ) × (o ≡ some k)
+some-of none e = absurd (true-false refl e)
+some-of (some k) e = (k, refl)
+
+pub none-is : (o : Option ℕ) → isNone o ≡ true → o ≡ none
+none-is none e = refl
+none-is (some k) e = absurd (true-false e refl)
+
+pub fits-says : (C P : ℕ) → both (leb 1 C) (leb C P) ≡ true → (1 ≤ C) × (C ≤ P)
+fits-says C P e = go (leb 1 C) refl e
+  where
+    go : (b : Bool) → leb 1 C ≡ b → both b (leb C P) ≡ true → (1 ≤ C) × (C ≤ P)
+    go true a e = (leb-true _ _ a, leb-true _ _ e)
+    go false a e = absurd (true-false e refl)
+
+pub fits-not : (C P : ℕ) → both (leb 1 C) (leb C P) ≡ false → (1 ≤ C) × (C ≤ P) → ⊥
+fits-not C P e h = go (leb 1 C) refl e
+  where
+    go : (b : Bool) → leb 1 C ≡ b → both b (leb C P) ≡ false → ⊥
+    go true a e = omega (arith, leb-false C P e, h .1)
+    go false a e = omega (arith, leb-false 1 C a, h .0)
+
+-- ---- the frame divides by every period
+
+pub periods-divide : (F : ℕ) (l : List Slot) → Each (λ h. Waits h → ⊥) l → All (λ p. p ∣ F) (periodsIn l) → Each (Divides F) l
+unfolding periodsIn
+periods-divide F [] n a i b = absurd (not-suc-le-zero b)
+periods-divide F (s ∷ l) n a zero b = one (s .held) (n 0 b) (all-append (λ p. p ∣ F) (periodIn (s .held)) (periodsIn l) a .0)
+  where
+    one : (h : Held) → (Waits h → ⊥) → All (λ p. p ∣ F) (periodIn h) → Divides F h
+    one Nothing n a = tt
+    one (Running r) n a = a .0
+    one (Waiting w) n a = absurd (n tt)
+periods-divide F (s ∷ l) n a (suc i) b =
+    periods-divide F l (λ j c. n (suc j) (omega arith)) (all-append (λ p. p ∣ F) (periodIn (s .held)) (periodsIn l) a .1) i (omega arith)
+
+pub periods-pos : (l : List Slot) → Each Sound l → All (λ p. 1 ≤ p) (periodsIn l)
+unfolding periodsIn
+periods-pos [] s = tt
+periods-pos (x ∷ l) s = append-all (λ p. 1 ≤ p) (periodIn (x .held)) (periodsIn l) (one (x .held) (s 0 (omega arith))) (periods-pos l (λ i b. s (suc i) (omega arith)))
+  where
+    one : (h : Held) → Sound h → All (λ p. 1 ≤ p) (periodIn h)
+    one Nothing s = tt
+    one (Running r) s = (omega arith, tt)
+    one (Waiting w) s = tt

@@ -1,0 +1,70 @@
+-- What one line gets over a run.
+use mathlib.Core.Path.{_≡_, refl, sym, ap, _∙_, subst}
+use mathlib.Core.Option.{Option, none, some}
+use mathlib.Core.List.{List}
+use Prim.Native.Nat.{ℕ, suc, _+_, _-_, _<_}
+use native.Mathlib.Decide.{ℕ-discrete}
+use native.Mathlib.Omega.{arith}
+use borrow.Author.Tests.{lt-ltb, le-ltb, eq-eqb, ne-eqb}
+use lib.ListN.{length, length-set, length-map, List·getD-map}
+use lib.Seq.{getD-set-same, getD-set-other}
+use Rattle.lines.specs.declared.Held.the-variants.{Waiting}
+use Rattle.lines.specs.declared.Slot.{Slot}
+use Rattle.lines.specs.Slots.{empty, at}
+use Rattle.lines.specs.Admit.{newLine}
+use Rattle.lines.specs.Step.{Owed, served, serve, passed, passedSlot, pass}
+use Rattle.lines.specs.Runs.{isSlot}
+use Rattle.theory.specs.Fine.{line, May}
+use Rattle.theory.proofs.Numbers.{split}
+
+pub at-pass : (l : List Slot) (i : ℕ) → at (pass l) i ≡ passed (at l i)
+at-pass l i = ap (λ (s : Slot). s .held) (List·getD-map passedSlot l i empty)
+
+pub length-serve : (o : Option ℕ) (l : List Slot) → length (serve o l) ≡ length l
+length-serve none l = refl
+length-serve (some k) l = length-set l k (record { held = served (at l k) })
+
+pub length-tick : (o : Option ℕ) (l : List Slot) → length (pass (serve o l)) ≡ length l
+length-tick o l = length-map (serve o l) passedSlot ∙ length-serve o l
+
+pub at-served : (l : List Slot) (j : ℕ) → j < length l → at (serve (some j) l) j ≡ served (at l j)
+at-served l j h = ap (λ (s : Slot). s .held) (getD-set-same l j (record { held = served (at l j) }) empty h)
+
+pub at-others : (l : List Slot) (k j : ℕ) → (k ≡ j → ⊥) → at (serve (some k) l) j ≡ at l j
+at-others l k j n = ap (λ (s : Slot). s .held) (getD-set-other l k j (record { held = served (at l k) }) empty (λ z. n (sym z)))
+
+-- after a serving what the line is owed and the tick it got add up
+pub owed-or-got : (o : Option ℕ) (l : List Slot) (j C P a c : ℕ) → May o l → at l j ≡ line C P a c → (x : ℕ) × (at (serve o l) j ≡ line C P a x) × (x + isSlot j o ≡ c)
+owed-or-got none l j C P a c m e = (c, e, omega arith)
+owed-or-got (some k) l j C P a c m e = by (ℕ-discrete k j)
+  where
+    by : Dec (k ≡ j) → (x : ℕ) × (at (serve (some k) l) j ≡ line C P a x) × (x + isSlot j (some k) ≡ c)
+    by (yes q) =
+        let v : Owed (line C P a c) = subst Owed (ap (at l) q ∙ e) (m .1) in
+        let f : at (serve (some k) l) j ≡ served (at l k) = subst (λ (n : ℕ). at (serve (some k) l) n ≡ served (at l k)) q (at-served l k (m .0)) in
+        (c - 1, f ∙ ap served (ap (at l) q ∙ e), rw (eq-eqb k j q) (omega arith))
+    by (no n) = (c, at-others l k j n ∙ e, rw (ne-eqb k j n) (omega arith))
+
+-- a line that is owed nothing is not served
+pub not-served : (o : Option ℕ) (l : List Slot) (j : ℕ) → May o l → (Owed (at l j) → ⊥) → (at (serve o l) j ≡ at l j) × (isSlot j o ≡ 0)
+not-served none l j m v = (refl, refl)
+not-served (some k) l j m v = by (ℕ-discrete k j)
+  where
+    by : Dec (k ≡ j) → (at (serve (some k) l) j ≡ at l j) × (isSlot j (some k) ≡ 0)
+    by (yes q) = absurd (v (subst (λ (n : ℕ). Owed (at l n)) q (m .1)))
+    by (no n) = (at-others l k j n, rw (ne-eqb k j n))
+
+waiting : (C P w : ℕ) → newLine C P (suc w) ≡ Waiting (record { need = C; period = P; wait = suc w })
+waiting C P w = rw (lt-ltb 0 (suc w) (omega arith))
+
+-- a tick later the start of a waiting line is a tick nearer, or there
+pub nearer : (C P w : ℕ) → passed (newLine C P (suc w)) ≡ newLine C P w
+nearer C P w =
+    rw waiting
+    (split w 0
+    (λ g. rw (le-ltb 1 (suc w) (omega arith), le-ltb 0 w g))
+    (λ g. let e : suc w - 1 ≡ w = omega arith in
+    rw (lt-ltb 1 (suc w) (omega arith), lt-ltb 0 w g, e)))
+
+pub not-yet : (C P w : ℕ) → Owed (newLine C P (suc w)) → ⊥
+not-yet C P w v = let z : Owed (Waiting (record { need = C; period = P; wait = suc w })) = rw waiting at v in z

@@ -1,0 +1,66 @@
+-- There is only one right answer.
+use mathlib.Core.Path.{_≡_, sym, ap, _∙_}
+use mathlib.Core.Logic.{inl, inr}
+use mathlib.Core.List.{List, [], _∷_}
+use Prim.Native.Nat.{ℕ}
+use native.Mathlib.Omega.{arith}
+use Rattle.lines.specs.declared.Table.{Table}
+use Rattle.lines.specs.declared.Request.{Request}
+use Rattle.lines.specs.declared.Refusal.{Refusal}
+use Rattle.lines.specs.declared.Answer.{Answer}
+use Rattle.lines.specs.declared.Answer.the-variants.{Start, Refused}
+use Rattle.lines.specs.Slots.{Lowest, refusal, Said, gives, refuses}
+use Rattle.lines.specs.Demand.{newDemand}
+use Rattle.lines.specs.Grounds.{asked, Row, grounds, FirstOf, NoneOf, Answers}
+use Rattle.lines.specs.Ask.{says, askOf}
+use Rattle.theory.proofs.Numbers.{split}
+use Rattle.theory.proofs.Start.{least-unique}
+use Rattle.theory.proofs.Answers.{ask-answers}
+
+-- a row gives one place only
+abbrev OnePlace : Row → Table → Request → Type 0
+OnePlace r t q = (j k : ℕ) → r .Holds t q j → r .Holds t q k → j ≡ k
+
+abbrev OnePlaces : List Row → Table → Request → Type 0
+OnePlaces [] t q = Unit {0}
+OnePlaces (r ∷ rs) t q = OnePlace r t q × OnePlaces rs t q
+
+lowest-one : (P : ℕ → Type 0) (n j k : ℕ) → Lowest P n j → Lowest P n k → j ≡ k
+lowest-one P n j k p q =
+    split j k (λ a. split k j (λ b. omega arith) (λ b. absurd (q .below j b (p .here)))) (λ a. absurd (p .below k a (q .here)))
+
+zero-one : (P : Type 0) (j k : ℕ) → P × (j ≡ 0) → P × (k ≡ 0) → j ≡ k
+zero-one P j k p q = p .1 ∙ sym (q .1)
+
+one-places : (t : Table) (q : Request) → OnePlaces grounds t q
+one-places t q =
+    (zero-one _, (zero-one _, (lowest-one _ _, (lowest-one _ _, (lowest-one _ _, (zero-one _, (zero-one _, (zero-one _, (zero-one _, (zero-one _, tt))))))))))
+
+first-one : (rs : List Row) (t : Table) (q : Request) (x y : Refusal) → OnePlaces rs t q → FirstOf rs t q x → FirstOf rs t q y → x ≡ y
+first-one [] t q x y o p r = absurd p
+first-one (s ∷ rs) t q x y o (inl p) (inl r) = p .2 ∙ ap (refusal (s .number)) (o .0 (p .0) (r .0) (p .1) (r .1)) ∙ sym (r .2)
+first-one (s ∷ rs) t q x y o (inl p) (inr r) = absurd (r .0 (p .0) (p .1))
+first-one (s ∷ rs) t q x y o (inr p) (inl r) = absurd (p .0 (r .0) (r .1))
+first-one (s ∷ rs) t q x y o (inr p) (inr r) = first-one rs t q x y (o .1) (p .1) (r .1)
+
+first-none : (rs : List Row) (t : Table) (q : Request) (x : Refusal) → FirstOf rs t q x → NoneOf rs t q → ⊥
+first-none [] t q x p n = p
+first-none (s ∷ rs) t q x (inl p) n = n .0 (p .0) (p .1)
+first-none (s ∷ rs) t q x (inr p) n = first-none rs t q x (p .1) (n .1)
+
+-- two answers that the relation allows are equal
+pub answers-unique : (t : Table) (q : Request) (a b : Said ℕ) → Answers t q a → Answers t q b → a ≡ b
+answers-unique t q (gives r) (gives u) p s = ap gives (least-unique (t .clock) (asked t q) (newDemand (q .need) (q .period)) r u (p .1) (s .1))
+answers-unique t q (gives r) (refuses y) p s = absurd (first-none grounds t q y s (p .0))
+answers-unique t q (refuses x) (gives u) p s = absurd (first-none grounds t q x p (s .0))
+answers-unique t q (refuses x) (refuses y) p s = ap refuses (first-one grounds t q x y (one-places t q) p s)
+
+says-one : (a b : Answer) → says a ≡ says b → a ≡ b
+says-one (Start r) (Start u) e = cc
+says-one (Start r) (Refused y) e = cc
+says-one (Refused x) (Start u) e = cc
+says-one (Refused x) (Refused y) e = cc
+
+-- so an answer is right exactly when it is the computed one
+pub answers-is : (t : Table) (q : Request) (a : Answer) → Answers t q (says a) → a ≡ askOf t q
+answers-is t q a h = says-one a (askOf t q) (answers-unique t q (says a) (says (askOf t q)) h (ask-answers t q))

@@ -1,0 +1,53 @@
+-- What the grounds leave of a request, and the ends at which the excess can rise.
+use Prim.Native.Nat.{ℕ, _+_, _-_, _*_, _/_, _^_, _∣_, _≤_, _<_}
+use mathlib.Core.Path.{_≡_}
+use mathlib.Core.List.{List}
+use mathlib.Core.Option.{some}
+use lib.ListN.{length}
+use Rattle.lines.specs.declared.Held.{Held}
+use Rattle.lines.specs.declared.Held.the-variants.{Nothing, Running, Waiting}
+use Rattle.lines.specs.declared.Slot.{Slot}
+use Rattle.lines.specs.declared.Table.{Table}
+use Rattle.lines.specs.declared.Request.{Request}
+use Rattle.lines.specs.Slots.{at, Each, total, isNothing, Waits, lowestOf}
+use Rattle.lines.specs.Sound.{Sound}
+use Rattle.lines.specs.Demand.{firstEnd, demands, newDemand, Least}
+use Rattle.lines.specs.Grounds.{entry, asked, frame, share, owed, full}
+use Rattle.theory.specs.Fine.{Divides, Longer}
+
+-- none of the grounds 4, 6, 8 and 9 holds of the lines l at their T' and the new line (Cn, Tn), sums 8 and 9 taken times a common multiple F
+pub record Given (F : ℕ) (l : List Slot) (Cn Tn : ℕ) : Type 0 where
+  pub sound : Each Sound l
+  pub some-frame : 1 ≤ F
+  pub divides : Each (Divides F) l
+  pub new-some : 1 ≤ Cn
+  pub new-fits : Cn ≤ Tn
+  pub new-divides : Tn ∣ F
+  pub eight : total (share F) l + Cn * (F / Tn) ≤ F
+  pub nine : total (owed F) l ≤ total (full F) l
+
+-- nor does ground 10
+abbrev pub Alone : ℕ → List Slot → Type 0
+Alone t0 l = (t : ℕ) → t0 ≤ t → demands t0 l t ≤ t - t0
+
+-- d is an end of what a slot holds
+abbrev pub IsEnd : ℕ → Held → ℕ → Type 0
+IsEnd t0 Nothing d = ⊥
+IsEnd t0 (Running r) d = (k : ℕ) × (d ≡ firstEnd t0 r + k * r .period)
+IsEnd t0 (Waiting w) d = ⊥
+
+-- d is an end of some running line
+abbrev pub AnyEnd : ℕ → List Slot → ℕ → Type 0
+AnyEnd t0 l d = (i : ℕ) × (i < length l) × IsEnd t0 (at l i) d
+
+-- what is known of a request that is granted the start r: no ground holds, and r is the least smooth start
+pub record Granted (t : Table) (q : Request) (r : ℕ) : Type 0 where
+  pub early : t .clock ≤ 2 ^ 48 - 65536
+  pub slot : ℕ
+  pub lowest-empty : lowestOf isNothing (t .slots) ≡ some slot
+  pub none-waits : Each (λ h. Waits h → ⊥) (t .slots)
+  pub sound : Each Sound (t .slots)
+  pub longer : Longer (t .slots) (entry q)
+  pub given : Given (frame (asked t q) (q .period)) (asked t q) (q .need) (q .period)
+  pub alone : Alone (t .clock) (asked t q)
+  pub least : Least (t .clock) (asked t q) (newDemand (q .need) (q .period)) r
