@@ -1,0 +1,2 @@
+-- The laws of what the pump driver holds.
+pub mod Keeps

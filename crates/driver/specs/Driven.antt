@@ -1,0 +1,16 @@
+-- The pump driver: what it holds after a step of the table that it held.
+use mathlib.Core.Bool.{Bool, true, false}
+use Rattle.lines.specs.declared.Table.{Table}
+use Rattle.lines.specs.declared.Outcome.{Outcome}
+use Rattle.lines.specs.declared.Outcome.the-variants.{Ran, Refused}
+use Rattle.lines.specs.Slots.{pick}
+use Rattle.lines.specs.Step.{stepOf}
+
+-- the step was not refused
+abbrev pub hasRun : Outcome → Bool
+hasRun (Ran w) = true
+hasRun (Refused x) = false
+
+-- "after a refused step it holds what it held", and else the next table
+abbrev pub drivenOf : Table → Table
+drivenOf t = pick (hasRun (stepOf t .outcome)) (stepOf t .table) t

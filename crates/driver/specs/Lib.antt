@@ -1,0 +1,2 @@
+-- What the pump driver holds after a step.
+pub mod Driven

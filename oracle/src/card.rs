@@ -1,0 +1,359 @@
+//! The card of document 01: reader, writer, and the line of the answering program.
+
+use crate::rules;
+use crate::types::{Content, Refusal, Request, Run, Table, EMPTY, SLOTS, ZEROS};
+
+/// "CK, then the clock, 8 bytes. First, once."
+const CLOCK: &[u8] = b"CK";
+/// "TB, then C, T, T', age, remaining, 2 bytes each."
+const LINE: &[u8] = b"TB";
+/// "TF alone for a slot that holds nothing."
+const FREE: &[u8] = b"TF";
+/// "The mark TA belongs to generation three."
+const OLD: &[u8] = b"TA";
+/// "RQ, then Cn, Tn, 2 bytes each. Last, once."
+const ASKED: &[u8] = b"RQ";
+
+const CLOCK_LENGTH: usize = 10;
+const LINE_LENGTH: usize = 12;
+const FREE_LENGTH: usize = 2;
+const ASKED_LENGTH: usize = 6;
+
+/// What the reader hands out: "With a refusal the reader hands out the empty table and a request
+/// of zeros."
+#[derive(Clone, Copy, Debug, PartialEq, Eq)]
+pub struct Reading {
+    pub refusal: Option<Refusal>,
+    pub table: Table,
+    pub request: Request,
+}
+
+/// Reads a card. "The reader judges form only and takes any numbers."
+pub fn read(card: &[u8]) -> Reading {
+    match parse(card) {
+        Ok((table, request)) => Reading {
+            refusal: None,
+            table,
+            request,
+        },
+        Err(refusal) => Reading {
+            refusal: Some(refusal),
+            table: EMPTY,
+            request: ZEROS,
+        },
+    }
+}
+
+/// "11: broken card", at the offset where the record or byte begins.
+fn broken(offset: usize) -> Refusal {
+    Refusal::at(11, offset)
+}
+
+/// The record of `length` bytes at `offset`, or "a cut record".
+fn record(card: &[u8], offset: usize, length: usize) -> Result<&[u8], Refusal> {
+    let bytes = card.get(offset..offset + length);
+    bytes.ok_or(broken(offset))
+}
+
+/// The number at a byte of a record, little-endian; 0 outside, which does not happen.
+fn number(record: &[u8], at: usize) -> u16 {
+    let byte = |index: usize| u16::from(record.get(index).copied().unwrap_or(0));
+    byte(at) | byte(at + 1) << 8
+}
+
+/// The two bytes of a mark; a missing or cut mark is a broken card at its offset.
+fn mark(card: &[u8], offset: usize) -> Result<&[u8], Refusal> {
+    record(card, offset, 2)
+}
+
+/// Goes through the records in card order and stops at the first that is refused.
+fn parse(card: &[u8]) -> Result<(Table, Request), Refusal> {
+    let (mut table, mut request) = (EMPTY, ZEROS);
+    table.clock = read_clock(card)?;
+    let mut offset = CLOCK_LENGTH;
+    let mut slot = 0;
+    let mut free_before = false;
+    loop {
+        let next = mark(card, offset)?;
+        if next == ASKED {
+            read_asked(card, offset, free_before, &mut request)?;
+            return Ok((table, request));
+        }
+        // No slot record may stand here: a seventeenth one is broken, whatever its mark.
+        if slot == SLOTS {
+            return Err(broken(offset));
+        }
+        if next == LINE {
+            let bytes = record(card, offset, LINE_LENGTH)?;
+            read_line(bytes, slot, &mut table, &mut request);
+            offset += LINE_LENGTH;
+        } else if next == FREE {
+            offset += FREE_LENGTH;
+        } else if next == OLD {
+            // "A TA mark where a slot record may stand is refusal 12, its record cut or whole."
+            return Err(Refusal::at(12, offset));
+        } else {
+            return Err(broken(offset));
+        }
+        free_before = next == FREE;
+        slot += 1;
+    }
+}
+
+/// The clock record at offset 0.
+fn read_clock(card: &[u8]) -> Result<u64, Refusal> {
+    if mark(card, 0)? != CLOCK {
+        return Err(broken(0));
+    }
+    let bytes = record(card, 0, CLOCK_LENGTH)?;
+    Ok(bytes
+        .iter()
+        .skip(2)
+        .rev()
+        .fold(0, |clock, byte| clock << 8 | u64::from(*byte)))
+}
+
+/// A line record into its slot and its entry of the request.
+fn read_line(bytes: &[u8], slot: usize, table: &mut Table, request: &mut Request) {
+    table.slots[slot] = Content::Running(Run {
+        need: number(bytes, 2),
+        period: number(bytes, 4),
+        age: number(bytes, 8),
+        remaining: number(bytes, 10),
+    });
+    request.stretched[slot] = number(bytes, 6);
+}
+
+/// The request record: "for TF before RQ, the offset of RQ"; then "a byte after RQ".
+fn read_asked(
+    card: &[u8],
+    offset: usize,
+    free_before: bool,
+    request: &mut Request,
+) -> Result<(), Refusal> {
+    if free_before {
+        return Err(broken(offset));
+    }
+    let bytes = record(card, offset, ASKED_LENGTH)?;
+    let end = offset + ASKED_LENGTH;
+    if card.len() > end {
+        return Err(broken(end));
+    }
+    request.need = number(bytes, 2);
+    request.period = number(bytes, 4);
+    Ok(())
+}
+
+/// The bytes of the card of a table. "Slots after the last record hold nothing, and TF never
+/// stands directly before RQ": empty slots are written up to the last running line. A waiting
+/// line has no record; the writer refuses it before, and random cards take it as an empty slot.
+pub fn bytes(table: &Table, request: &Request) -> Vec<u8> {
+    let mut card = CLOCK.to_vec();
+    card.extend(table.clock.to_le_bytes());
+    let used = table.running().last().map_or(0, |(slot, _)| slot + 1);
+    for slot in 0..used {
+        match &table.slots[slot] {
+            Content::Running(run) => push_line(&mut card, run, request.stretched[slot]),
+            _ => card.extend(FREE),
+        }
+    }
+    card.extend(ASKED);
+    push_numbers(&mut card, &[request.need, request.period]);
+    card
+}
+
+fn push_line(card: &mut Vec<u8>, run: &Run, stretched: u16) {
+    card.extend(LINE);
+    let numbers = [run.need, run.period, stretched, run.age, run.remaining];
+    push_numbers(card, &numbers);
+}
+
+fn push_numbers(card: &mut Vec<u8>, numbers: &[u16]) {
+    for number in numbers {
+        card.extend(number.to_le_bytes());
+    }
+}
+
+/// "The writer refuses 3, then 13; otherwise it answers the card's length", "and bytes after the
+/// card stay"; with a refusal the buffer is untouched.
+pub fn write(table: &Table, request: &Request, buffer: &mut [u8]) -> Result<usize, Refusal> {
+    if let Some(slot) = table.lowest(Content::is_waiting) {
+        return Err(Refusal::at(3, slot));
+    }
+    let card = bytes(table, request);
+    let part = buffer.get_mut(..card.len()).ok_or(Refusal::at(13, 0))?;
+    part.copy_from_slice(&card);
+    Ok(card.len())
+}
+
+/// "A refused card is answered by the reader's refusal, any other by ask."
+pub fn judge(card: &[u8]) -> Result<u64, Refusal> {
+    let (table, request) = parse(card)?;
+    rules::ask(&table, &request)
+}
+
+/// The line of an answer: "`release` and the start, or `refused`, the refusal's number and its
+/// place, one space between, numbers in decimal".
+pub fn line(answer: Result<u64, Refusal>) -> String {
+    match answer {
+        Ok(start) => format!("release {start}\n"),
+        Err(refusal) => format!("refused {} {}\n", refusal.number, refusal.place),
+    }
+}
+
+/// The answering program's one line for a card.
+pub fn answer(card: &[u8]) -> String {
+    line(judge(card))
+}
+
+#[cfg(test)]
+mod tests {
+    use super::*;
+    use crate::cases::{self, CARD_A};
+    use crate::draw;
+    use crate::random::Random;
+    use crate::types::{Wait, LONGEST_CARD};
+
+    fn refusal(card: &[u8]) -> (u8, u64) {
+        let reading = read(card);
+        let refusal = reading.refusal.expect("refused");
+        assert_eq!((reading.table, reading.request), (EMPTY, ZEROS));
+        (refusal.number, refusal.place)
+    }
+
+    fn clock() -> Vec<u8> {
+        CARD_A[..10].to_vec()
+    }
+
+    fn card(parts: &[&[u8]]) -> Vec<u8> {
+        let mut card = clock();
+        card.extend(parts.concat());
+        card
+    }
+
+    const TB: &[u8] = b"TB0123456789";
+    const RQ: &[u8] = b"RQ0123";
+
+    #[test]
+    fn card_a() {
+        assert_eq!(answer(&CARD_A), "release 13\n");
+        let a = &cases::all()[0];
+        assert_eq!(bytes(&a.table, &a.request), CARD_A);
+        let mut buffer = [7; 41];
+        assert_eq!(write(&a.table, &a.request, &mut buffer), Ok(40));
+        assert_eq!((&buffer[..40], buffer[40]), (&CARD_A[..], 7));
+    }
+
+    #[test]
+    fn a_buffer_of_40_bytes_against_39_for_card_a() {
+        let a = &cases::all()[0];
+        let mut buffer = [7; 40];
+        let short = write(&a.table, &a.request, &mut buffer[..39]);
+        assert_eq!((short, buffer), (Err(Refusal::at(13, 0)), [7; 40]));
+        assert_eq!(write(&a.table, &a.request, &mut buffer), Ok(40));
+    }
+
+    #[test]
+    fn writer_refuses_3_before_13() {
+        let mut table = EMPTY;
+        table.slots[9] = Content::Waiting(Wait {
+            need: 0,
+            period: 0,
+            wait: 0,
+        });
+        assert_eq!(write(&table, &ZEROS, &mut []), Err(Refusal::at(3, 9)));
+        assert_eq!(write(&EMPTY, &ZEROS, &mut [0; 15]), Err(Refusal::at(13, 0)));
+        assert_eq!(write(&EMPTY, &ZEROS, &mut [0; 16]), Ok(16));
+    }
+
+    #[test]
+    fn every_prefix_of_card_a_is_cut() {
+        for length in 0..40 {
+            let place = match length {
+                0..=9 => 0,
+                10..=21 => 10,
+                22..=33 => 22,
+                _ => 34,
+            };
+            assert_eq!(refusal(&CARD_A[..length]), (11, place), "{length}");
+        }
+    }
+
+    #[test]
+    fn old_order_marks() {
+        assert_eq!(refusal(b"TA"), (11, 0));
+        assert_eq!(refusal(&card(&[b"TA"])), (12, 10));
+        assert_eq!(refusal(&card(&[b"TA0123456789", RQ])), (12, 10));
+        assert_eq!(refusal(&card(&[TB, b"TF", b"TA01"])), (12, 24));
+        assert_eq!(refusal(&card(&[b"T"])), (11, 10));
+        let full = TB.repeat(16);
+        assert_eq!(refusal(&card(&[&full, b"TA"])), (11, 202));
+        assert_eq!(refusal(&card(&[&TB.repeat(15), b"TA"])), (12, 190));
+    }
+
+    #[test]
+    fn seventeenth_record_and_bytes_after() {
+        let full = TB.repeat(16);
+        for seventeenth in [TB, b"TF", b"TA", b"TB"] {
+            assert_eq!(refusal(&card(&[&full, seventeenth, RQ])), (11, 202));
+        }
+        let longest = card(&[&full, RQ]);
+        assert_eq!(longest.len(), LONGEST_CARD);
+        assert_eq!(read(&longest).refusal, None);
+        assert_eq!(refusal(&card(&[&full, RQ, b"R"])), (11, 208));
+        assert_eq!(refusal(&card(&[RQ, RQ])), (11, 16));
+    }
+
+    #[test]
+    fn free_before_request_and_misplaced_marks() {
+        assert_eq!(refusal(&card(&[b"TF", RQ])), (11, 12));
+        assert_eq!(refusal(&card(&[TB, b"TF", b"TF", b"RQ"])), (11, 26));
+        assert_eq!(refusal(&card(&[b"TF", RQ, b"x"])), (11, 12));
+        assert_eq!(refusal(&card(&[TB, &clock(), RQ])), (11, 22));
+        assert_eq!(refusal(&card(&[b"tb"])), (11, 10));
+        assert_eq!(refusal(&card(&[b"TF"])), (11, 12));
+        assert_eq!(refusal(RQ), (11, 0));
+    }
+
+    #[test]
+    fn a_written_card_reads_back_with_zeros_in_empty_slots() {
+        let mut random = Random::new(31);
+        for round in 0..5_000 {
+            let (mut table, mut request) = match round % 2 {
+                0 => draw::any(&mut random),
+                _ => draw::near_full(&mut random),
+            };
+            for slot in 0..SLOTS {
+                if table.slots[slot].is_waiting() {
+                    table.slots[slot] = Content::Nothing;
+                }
+            }
+            let reading = read(&bytes(&table, &request));
+            for slot in 0..SLOTS {
+                if table.slots[slot] == Content::Nothing {
+                    request.stretched[slot] = 0;
+                }
+            }
+            let expected = Reading {
+                refusal: None,
+                table,
+                request,
+            };
+            assert_eq!(reading, expected);
+        }
+    }
+
+    #[test]
+    fn only_the_first_209_bytes_matter() {
+        let mut random = Random::new(32);
+        let full = card(&[&TB.repeat(16), RQ, &[b'T'; 40]]);
+        for _ in 0..20_000 {
+            let mut card = full.clone();
+            for _ in 0..random.below(4) {
+                let at = random.below(card.len() as u64) as usize;
+                card[at] = b"TBFARQCK0"[random.below(9) as usize];
+            }
+            assert_eq!(read(&card), read(&card[..LONGEST_CARD + 1]));
+        }
+    }
+}

@@ -1,0 +1,588 @@
+//! The rules of document 01: refusals 1 to 10 in their order, ask, admit, step, lamp, ready word.
+//!
+//! Nothing here computes a start by a formula. The excess is summed from its definition for one
+//! tick after the other, and the starts are tried one after the other. Times are counted from
+//! t0, the clock at the request: a start of 0 is the clock itself.
+//!
+//! # Why finitely many ticks are enough
+//!
+//! "A start r ≥ t0 is *smooth* when the excess is at most 0 at every t ≥ t0, without end." Let F
+//! be the frame, L the last end, r a start, M = max(L, r), and t ≥ M. Every running line is past
+//! its first end and the new line has started, so from t to t + F the whole periods of a running
+//! line rise by exactly F / T' (F is a multiple of T', and ⌊(x + F) / T'⌋ = ⌊x / T'⌋ + F / T'), and
+//! those of the new line by exactly F / Tn. The demand therefore rises by F × load, and the excess
+//! by F × (load − 1), which is not above 0 once refusal 8 is passed. So
+//! excess(t + F) ≤ excess(t) for every t ≥ M: an excess above 0 anywhere from M + F on would stand
+//! already one frame earlier, and step by step in M .. M + F − 1. Looking at every tick of
+//! 0 .. M + F − 1 settles all t. For the running lines alone (refusal 10) the same holds with
+//! M = L, their own load being no greater.
+//!
+//! # Why the search for a start ends
+//!
+//! Once 8, 9 and 10 are passed, the start r = L is smooth, so at most L + 1 starts are tried.
+//! Before L the new line demands nothing and the running lines alone have no excess above 0 (10).
+//! For t ≥ L, dropping the floor only adds: a running line demands at most
+//! c + C × (t − (T' − a)) / T' = (c − C + C × a / T') + t × C / T', and the new line at most
+//! (t − r) × Cn / Tn ≤ t × Cn / Tn. The brackets sum to at most 0 (9), the rest to at most
+//! t × load ≤ t (8). The search does not use this; it only ends because of it, and the answer
+//! fits sixteen bits as T' − a does.
+
+use crate::types::{
+    Content, Refusal, Request, Run, Table, Wait, FRAME_LIMIT, LAST_ASK, LAST_TICK, SLOTS,
+};
+
+/// A running line under a request: the need and remaining of the line, with its T' and first end.
+#[derive(Clone, Copy, Debug)]
+struct Stretched {
+    slot: usize,
+    run: Run,
+    stretched: u16,
+}
+
+impl Stretched {
+    /// "A running line's first end is t0 − a + T' (read as a whole number, always later than
+    /// t0)", counted from t0. Refusals 4 and 5 are passed, so a < T ≤ T'.
+    fn first_end(&self) -> usize {
+        usize::from(self.stretched).saturating_sub(usize::from(self.run.age))
+    }
+}
+
+/// The running lines with their T'; "entries of slots that hold no running line are not looked
+/// at".
+fn stretched_lines(table: &Table, request: &Request) -> Vec<Stretched> {
+    table
+        .running()
+        .map(|(slot, run)| Stretched {
+            slot,
+            run: *run,
+            stretched: request.stretched[slot],
+        })
+        .collect()
+}
+
+fn greatest_common_divisor(mut a: u64, mut b: u64) -> u64 {
+    while b != 0 {
+        (a, b) = (b, a % b);
+    }
+    a
+}
+
+/// "The *frame*, the least common multiple of all T' and Tn", or none when it is above 1,000,000.
+/// A common multiple only grows with further numbers, so the sum stops at the first above.
+pub fn frame(table: &Table, request: &Request) -> Option<u64> {
+    let lines = stretched_lines(table, request);
+    let periods = lines.iter().map(|line| line.stretched);
+    let mut multiple = 1u64;
+    for period in periods.chain([request.period]) {
+        let period = u64::from(period);
+        if period == 0 {
+            return None;
+        }
+        multiple = multiple / greatest_common_divisor(multiple, period) * period;
+        if multiple > FRAME_LIMIT {
+            return None;
+        }
+    }
+    Some(multiple)
+}
+
+/// "8: sum of C/T' and Cn/Tn above 1", "every term and the limit taken times the frame".
+fn load_above_one(lines: &[Stretched], request: &Request, frame: u64) -> bool {
+    let share = |need: u16, period: u16| u128::from(need) * u128::from(frame / u64::from(period));
+    let running: u128 = lines.iter().map(|l| share(l.run.need, l.stretched)).sum();
+    running + share(request.need, request.period) > u128::from(frame)
+}
+
+/// "9: sum over running lines of (c − C + C × a / T') above 0", every term taken times the frame.
+fn lag_above_zero(lines: &[Stretched], frame: u64) -> bool {
+    let term = |line: &Stretched| {
+        let need = i128::from(line.run.need);
+        let owed = i128::from(line.run.remaining) - need;
+        let per_period = i128::from(frame / u64::from(line.stretched));
+        owed * i128::from(frame) + need * i128::from(line.run.age) * per_period
+    };
+    lines.iter().map(term).sum::<i128>() > 0
+}
+
+/// The excess of the running lines alone, one entry for each tick from t0 on.
+struct Outlook<'a> {
+    lines: &'a [Stretched],
+    excess: Vec<i64>,
+}
+
+impl<'a> Outlook<'a> {
+    fn new(lines: &'a [Stretched], ticks: usize) -> Outlook<'a> {
+        let excess = running_excess(lines, ticks);
+        Outlook { lines, excess }
+    }
+
+    /// Makes sure that at least `ticks` ticks are summed.
+    fn reach(&mut self, ticks: usize) {
+        if self.excess.len() < ticks {
+            self.excess = running_excess(self.lines, ticks.saturating_mul(2));
+        }
+    }
+
+    /// Refusal 10: "the running lines alone, at their T', have excess above 0 at some t".
+    fn above_zero(&self) -> bool {
+        self.excess.iter().any(|excess| *excess > 0)
+    }
+
+    /// True when with the new line started at `start` the excess is at most 0 at every tick of
+    /// `start` .. `ticks` − 1: "Cn × (whole periods Tn between r and t), and 0 for t before r".
+    /// Before `start` it is the excess of the running lines alone, at which refusal 10 has looked.
+    fn smooth(&self, request: &Request, start: usize, ticks: usize) -> bool {
+        let mut demand = 0i64;
+        let after_start = self.excess.get(start..ticks).unwrap_or(&[]);
+        for whole_period in after_start.chunks(usize::from(request.period).max(1)) {
+            if whole_period.iter().any(|excess| excess + demand > 0) {
+                return false;
+            }
+            demand += i64::from(request.need);
+        }
+        true
+    }
+}
+
+/// "Its demand at t is 0 before its first end, and from then on c + C × (whole periods T' since
+/// the first end)": the demand rises by c at the first end and by C each T' later. "*Excess* at t
+/// is all demand less (t − t0)."
+fn running_excess(lines: &[Stretched], ticks: usize) -> Vec<i64> {
+    let mut rise = vec![0i64; ticks];
+    for line in lines {
+        let mut amount = i64::from(line.run.remaining);
+        let ends = (line.first_end()..ticks).step_by(usize::from(line.stretched).max(1));
+        for end in ends {
+            rise[end] += amount;
+            amount = i64::from(line.run.need);
+        }
+    }
+    let mut demand = 0i64;
+    let sum = |(tick, rise): (usize, i64)| {
+        demand += rise;
+        demand - tick as i64
+    };
+    rise.into_iter().enumerate().map(sum).collect()
+}
+
+/// "The *last end* is the greatest first end, or t0 where no line runs", counted from t0.
+fn last_end(lines: &[Stretched]) -> usize {
+    lines.iter().map(Stretched::first_end).max().unwrap_or(0)
+}
+
+/// The last end of a table under a request as a tick of the clock, for the second algorithm.
+pub fn last_end_of(table: &Table, request: &Request) -> u64 {
+    let end = last_end(&stretched_lines(table, request)) as u64;
+    table.clock.saturating_add(end)
+}
+
+/// Refusals 1 to 6, which look at one number or one slot at a time.
+fn refuse_plain(table: &Table, request: &Request, lines: &[Stretched]) -> Result<(), Refusal> {
+    let refuse = |number, place| Err(Refusal::at(number, place));
+    if table.clock > LAST_ASK {
+        return refuse(1, 0);
+    }
+    if table.lowest_empty().is_none() {
+        return refuse(2, 0);
+    }
+    if let Some(slot) = table.lowest(Content::is_waiting) {
+        return refuse(3, slot);
+    }
+    if let Some(slot) = table.lowest(|content| !content.is_sound()) {
+        return refuse(4, slot);
+    }
+    if let Some(line) = lines.iter().find(|l| l.stretched < l.run.period) {
+        return refuse(5, line.slot);
+    }
+    if request.need < 1 || request.need > request.period {
+        return refuse(6, 0);
+    }
+    Ok(())
+}
+
+/// Refusals 7 to 9, which need the frame; gives the frame.
+fn refuse_sums(table: &Table, request: &Request, lines: &[Stretched]) -> Result<u64, Refusal> {
+    let frame = frame(table, request).ok_or(Refusal::at(7, 0))?;
+    if load_above_one(lines, request, frame) {
+        return Err(Refusal::at(8, 0));
+    }
+    if lag_above_zero(lines, frame) {
+        return Err(Refusal::at(9, 0));
+    }
+    Ok(frame)
+}
+
+/// How many ticks beyond max(last end, start) are looked at.
+#[derive(Clone, Copy)]
+enum Beyond {
+    /// One whole frame: settles all t by the first argument at the head of this module alone.
+    Frame,
+    /// None: the second argument shows that with 9 passed no excess stands from the last end on,
+    /// whatever the start. Used for the millions of asks of the published sweep only.
+    Nothing,
+}
+
+/// "Ask and admit test 1 to 10 in that order, and the first that holds is given. Otherwise a
+/// smooth start exists and is given": the start, counted from the clock.
+fn delay(table: &Table, request: &Request, beyond: Beyond) -> Result<usize, Refusal> {
+    let lines = stretched_lines(table, request);
+    refuse_plain(table, request, &lines)?;
+    let frame = refuse_sums(table, request, &lines)? as usize;
+    let more = match beyond {
+        Beyond::Frame => frame,
+        Beyond::Nothing => 0,
+    };
+    let last = last_end(&lines);
+    let mut outlook = Outlook::new(&lines, last + more);
+    if outlook.above_zero() {
+        return Err(Refusal::at(10, 0));
+    }
+    let mut start = 0usize;
+    loop {
+        let ticks = last.max(start) + more;
+        outlook.reach(ticks);
+        if outlook.smooth(request, start, ticks) {
+            return Ok(start);
+        }
+        start += 1;
+    }
+}
+
+/// "Ask answers the start, and changes nothing." "The answer is the least smooth start."
+pub fn ask(table: &Table, request: &Request) -> Result<u64, Refusal> {
+    delay(table, request, Beyond::Frame).map(|delay| table.clock + delay as u64)
+}
+
+/// The same answer, looking before the last end only; for the published sweep.
+pub fn ask_before_last_end(table: &Table, request: &Request) -> Result<u64, Refusal> {
+    delay(table, request, Beyond::Nothing).map(|delay| table.clock + delay as u64)
+}
+
+/// "Admit answers as ask does": the start and the new table.
+pub fn admit(table: &Table, request: &Request) -> Result<(u64, Table), Refusal> {
+    let start = ask(table, request)?;
+    Ok((start, admitted(table, request, start)))
+}
+
+/// "In the new table every running line has its T' for its period, with age and remaining kept;
+/// the new line stands in the lowest empty slot." Also used for starts that are only tried.
+pub fn admitted(table: &Table, request: &Request, start: u64) -> Table {
+    let mut next = *table;
+    for slot in 0..SLOTS {
+        if let Content::Running(run) = &mut next.slots[slot] {
+            run.period = request.stretched[slot];
+        }
+    }
+    if let Some(slot) = table.lowest_empty() {
+        next.slots[slot] = new_line(request, start - table.clock);
+    }
+    next
+}
+
+/// "It runs with age 0 and remaining Cn if the start is t0; else it waits start − t0 ticks."
+fn new_line(request: &Request, wait: u64) -> Content {
+    let (need, period) = (request.need, request.period);
+    if wait == 0 {
+        return begin(need, period);
+    }
+    // At most the last end, see the head of this module.
+    let wait = u16::try_from(wait).expect("a start waits at most for the last end");
+    Content::Waiting(Wait { need, period, wait })
+}
+
+/// A line at the beginning of a period: age 0, remaining C.
+fn begin(need: u16, period: u16) -> Content {
+    Content::Running(Run {
+        need,
+        period,
+        age: 0,
+        remaining: need,
+    })
+}
+
+/// "Step carries the table from one tick to the next." "Step tests 15, 4, then 14." The next
+/// table and the slot that ran, or none.
+pub fn step(table: &Table) -> Result<(Table, Option<usize>), Refusal> {
+    if table.clock >= LAST_TICK {
+        return Err(Refusal::at(15, 0));
+    }
+    if let Some(slot) = table.lowest(|content| !content.is_sound()) {
+        return Err(Refusal::at(4, slot));
+    }
+    let ran = chosen(table);
+    let mut next = *table;
+    if let Some(Content::Running(run)) = ran.map(|slot| &mut next.slots[slot]) {
+        run.remaining -= 1;
+    }
+    for (slot, content) in next.slots.iter_mut().enumerate() {
+        *content = older(*content).ok_or(Refusal::at(14, slot))?;
+    }
+    next.clock += 1;
+    Ok((next, ran))
+}
+
+/// "Among running lines with c above 0, the one with the least T − a gets the tick; equal values
+/// go to the lowest slot."
+fn chosen(table: &Table) -> Option<usize> {
+    let owing = table.running().filter(|(_, run)| run.remaining > 0);
+    // min_by_key gives the first of equal values, and slots come from 0 up.
+    let least = owing.min_by_key(|(_, run)| run.period - run.age);
+    least.map(|(slot, _)| slot)
+}
+
+/// "Then every age rises by one, every wait falls by one"; "a line whose age is now T has ended
+/// its period: with c above 0 this is refusal 14 [here none]; else age becomes 0 and c becomes C.
+/// A line whose wait is now 0 runs with age 0, c = C." Only sound lines come here.
+fn older(content: Content) -> Option<Content> {
+    match content {
+        Content::Nothing => Some(Content::Nothing),
+        Content::Running(run) if run.age + 1 < run.period => Some(Content::Running(Run {
+            age: run.age + 1,
+            ..run
+        })),
+        Content::Running(run) if run.remaining > 0 => None,
+        Content::Running(run) => Some(begin(run.need, run.period)),
+        Content::Waiting(line) if line.wait > 1 => Some(Content::Waiting(Wait {
+            wait: line.wait - 1,
+            ..line
+        })),
+        Content::Waiting(line) => Some(begin(line.need, line.period)),
+    }
+}
+
+/// "The front lamp shows the refusal by its range: 1 to 3 one blink, 4 to 6 two, 7 to 10 three,
+/// 11 to 13 four, 14 and 15 five, any other number none."
+pub fn lamp(number: u64) -> u64 {
+    match number {
+        1..=3 => 1,
+        4..=6 => 2,
+        7..=10 => 3,
+        11..=13 => 4,
+        14 | 15 => 5,
+        _ => 0,
+    }
+}
+
+/// "Bit k of a sixteen-bit word is set exactly when slot k runs a line with remaining above 0,
+/// slot 0 lowest."
+pub fn ready(table: &Table) -> u16 {
+    let owing = table.running().filter(|(_, run)| run.remaining > 0);
+    owing.fold(0, |word, (slot, _)| word | 1 << slot)
+}
+
+#[cfg(test)]
+mod tests {
+    use super::*;
+    use crate::cases;
+    use crate::draw;
+    use crate::random::Random;
+    use crate::types::EMPTY;
+
+    /// The demand of one running line at t, word by word from document 01.
+    fn demand(line: &Stretched, t: i64) -> i64 {
+        let first_end = i64::from(line.stretched) - i64::from(line.run.age);
+        if t < first_end {
+            return 0;
+        }
+        let whole = (t - first_end) / i64::from(line.stretched);
+        i64::from(line.run.remaining) + i64::from(line.run.need) * whole
+    }
+
+    /// The excess at t with the new line at r, word by word from document 01.
+    fn excess(lines: &[Stretched], request: &Request, r: i64, t: i64) -> i64 {
+        let new = if t < r {
+            0
+        } else {
+            i64::from(request.need) * ((t - r) / i64::from(request.period))
+        };
+        lines.iter().map(|line| demand(line, t)).sum::<i64>() + new - t
+    }
+
+    #[test]
+    fn cases_of_document_01() {
+        for case in cases::all() {
+            assert_eq!(
+                ask(&case.table, &case.request),
+                case.answer,
+                "{}",
+                case.name
+            );
+        }
+    }
+
+    #[test]
+    fn frame_of_case_k_is_the_limit() {
+        let find = |name| cases::all().into_iter().find(|case| case.name == name);
+        let k = find("K").expect("case K");
+        assert_eq!(frame(&k.table, &k.request), Some(1_000_000));
+        let l = find("L").expect("case L");
+        assert_eq!(frame(&l.table, &l.request), None);
+    }
+
+    #[test]
+    fn summed_excess_is_the_defined_one() {
+        let mut random = Random::new(11);
+        for _ in 0..200 {
+            let (table, request) = draw::small(&mut random);
+            if refuse_plain(&table, &request, &stretched_lines(&table, &request)).is_err() {
+                continue;
+            }
+            let lines = stretched_lines(&table, &request);
+            for (t, summed) in running_excess(&lines, 300).into_iter().enumerate() {
+                assert_eq!(summed, excess(&lines, &request, 1_000, t as i64));
+            }
+        }
+    }
+
+    #[test]
+    fn ask_is_least_smooth_by_the_defined_excess_far_out() {
+        let mut random = Random::new(12);
+        let (mut answered, mut later) = (0, 0);
+        for _ in 0..3_000 {
+            let (table, request) = draw::small(&mut random);
+            let Ok(start) = ask(&table, &request) else {
+                continue;
+            };
+            let lines = stretched_lines(&table, &request);
+            let far = 4 * frame(&table, &request).unwrap_or(0) as i64 + 300;
+            let smooth = |r: i64| (0..far).all(|t| excess(&lines, &request, r, t) <= 0);
+            let delay = (start - table.clock) as i64;
+            assert!(smooth(delay));
+            assert!((0..delay).all(|r| !smooth(r)));
+            answered += 1;
+            later += i64::from(delay > 0);
+        }
+        assert!(answered > 500 && later > 100, "{answered} {later}");
+    }
+
+    #[test]
+    fn looking_before_the_last_end_gives_the_same() {
+        let mut random = Random::new(13);
+        for _ in 0..3_000 {
+            let (table, request) = draw::small(&mut random);
+            assert_eq!(ask(&table, &request), ask_before_last_end(&table, &request));
+        }
+    }
+
+    #[test]
+    fn any_numbers_are_taken() {
+        let mut random = Random::new(14);
+        for _ in 0..20_000 {
+            let (table, request) = draw::any(&mut random);
+            let asked = ask(&table, &request);
+            assert_eq!(admit(&table, &request).map(|(start, _)| start), asked);
+            let _ = step(&table);
+            let _ = ready(&table);
+        }
+    }
+
+    #[test]
+    fn the_third_fault_of_document_01() {
+        // Case M: 103 "but the bench's own first end would then be 109, with an excess of 1".
+        let m = cases::all().into_iter().find(|case| case.name == "M");
+        let m = m.expect("case M");
+        let lines = stretched_lines(&m.table, &m.request);
+        assert_eq!(excess(&lines, &m.request, 3, 9), 1);
+    }
+
+    #[test]
+    fn admit_places_and_waits() {
+        let a = &cases::all()[0];
+        let (start, next) = admit(&a.table, &a.request).expect("case A");
+        assert_eq!((start, next.clock), (13, 8));
+        let wait = Wait {
+            need: 1,
+            period: 4,
+            wait: 5,
+        };
+        assert_eq!(next.slots[2], Content::Waiting(wait));
+        let stretched = Run {
+            need: 8,
+            period: 32,
+            age: 8,
+            remaining: 0,
+        };
+        assert_eq!(next.slots[0], Content::Running(stretched));
+    }
+
+    #[test]
+    fn admitted_cases_run_without_a_short_period() {
+        for case in cases::all() {
+            let Ok((_, mut table)) = admit(&case.table, &case.request) else {
+                continue;
+            };
+            for _ in 0..5_000 {
+                table = match step(&table) {
+                    Ok((next, _)) => next,
+                    Err(refusal) => panic!("{} {refusal:?}", case.name),
+                };
+            }
+        }
+    }
+
+    fn one(content: Content, clock: u64) -> Table {
+        let mut table = EMPTY;
+        table.clock = clock;
+        table.slots[5] = content;
+        table
+    }
+
+    #[test]
+    fn step_refusals_in_order() {
+        let line = |age, remaining| {
+            Content::Running(Run {
+                need: 2,
+                period: 4,
+                age,
+                remaining,
+            })
+        };
+        let last = LAST_TICK;
+        assert_eq!(step(&one(line(4, 2), last)), Err(Refusal::at(15, 0)));
+        assert_eq!(step(&one(line(4, 2), last - 1)), Err(Refusal::at(4, 5)));
+        assert_eq!(step(&one(line(3, 2), 0)), Err(Refusal::at(14, 5)));
+        let (next, ran) = step(&one(line(3, 1), last - 1)).expect("ends in time");
+        assert_eq!(
+            (next.clock, next.slots[5], ran),
+            (last, line(0, 2), Some(5))
+        );
+        let (next, ran) = step(&one(line(1, 0), 0)).expect("nothing owed");
+        assert_eq!((next.slots[5], ran), (line(2, 0), None));
+    }
+
+    #[test]
+    fn step_of_waiting_lines() {
+        let wait = |wait| {
+            Content::Waiting(Wait {
+                need: 2,
+                period: 4,
+                wait,
+            })
+        };
+        assert_eq!(step(&one(wait(0), 0)), Err(Refusal::at(4, 5)));
+        let (next, ran) = step(&one(wait(2), 0)).expect("waits");
+        assert_eq!((next.slots[5], ran), (wait(1), None));
+        let (next, _) = step(&next).expect("starts");
+        assert_eq!(next.slots[5], begin(2, 4));
+    }
+
+    #[test]
+    fn equal_ends_go_to_the_lowest_slot() {
+        let mut table = EMPTY;
+        for slot in [3, 7, 9] {
+            table.slots[slot] = begin(1, 8);
+        }
+        let (next, ran) = step(&table).expect("sound");
+        assert_eq!((ran, ready(&table), ready(&next)), (Some(3), 0x288, 0x280));
+    }
+
+    #[test]
+    fn lamp_ranges() {
+        let blinks: Vec<u64> = (0..18).map(lamp).collect();
+        assert_eq!(
+            blinks,
+            [0, 1, 1, 1, 2, 2, 2, 3, 3, 3, 3, 4, 4, 4, 5, 5, 0, 0]
+        );
+        assert_eq!(lamp(u64::MAX), 0);
+    }
+}

@@ -1,0 +1,203 @@
+//! Broken cards: every kind that document 01 names, and random ones.
+
+use crate::card;
+use crate::cases;
+use crate::draw;
+use crate::random::Random;
+use crate::types::{EMPTY, SLOTS, ZEROS};
+
+/// The marks that are put in each other's places, and some that are none.
+const MARKS: [&[u8]; 12] = [
+    b"CK", b"TB", b"TF", b"TA", b"RQ", b"XX", b"tb", b"ck", b"BT", b"T\0", b"TG", b"\0\0",
+];
+
+/// A whole TB, TA and RQ record and a clock record, with numbers that a sound line may have.
+const LINE: &[u8] = b"TB\x01\x00\x40\x00\x40\x00\x00\x00\x01\x00";
+const OLD: &[u8] = b"TA\x01\x00\x40\x00\x40\x00\x01\x00\x00\x00";
+const ASKED: &[u8] = b"RQ\x01\x00\x04\x00";
+const CLOCK: &[u8] = b"CK\x08\x00\x00\x00\x00\x00\x00\x00";
+
+/// A card of `lines` equal lines; 16 make the longest card, 208 bytes.
+fn equal_lines(lines: usize) -> Vec<u8> {
+    [CLOCK, &LINE.repeat(lines), ASKED].concat()
+}
+
+/// The offsets of the records of a card of equal lines.
+fn offsets(lines: usize) -> Vec<usize> {
+    let first = [0];
+    let rest = (0..=lines).map(|record| 10 + 12 * record);
+    first.into_iter().chain(rest).collect()
+}
+
+fn with_mark(card: &[u8], offset: usize, mark: &[u8]) -> Vec<u8> {
+    let mut changed = card.to_vec();
+    changed[offset..offset + mark.len()].copy_from_slice(mark);
+    changed
+}
+
+/// Every prefix of the longest card, and the longest card with bytes after it.
+fn prefixes() -> Vec<Vec<u8>> {
+    let full = equal_lines(SLOTS);
+    let mut cards: Vec<Vec<u8>> = (0..=full.len()).map(|cut| full[..cut].to_vec()).collect();
+    for more in [&b"R"[..], b"RQ", b"TB", b"\0", ASKED, &[b'T'; 30]] {
+        cards.push([&full, more].concat());
+    }
+    cards
+}
+
+/// Each mark of the longest card and of card A replaced by each other mark.
+fn replaced_marks() -> Vec<Vec<u8>> {
+    let full = equal_lines(SLOTS);
+    let mut cards = Vec::new();
+    for mark in MARKS {
+        cards.extend(offsets(SLOTS).iter().map(|at| with_mark(&full, *at, mark)));
+        cards.extend([0, 10, 22, 34].map(|at| with_mark(&cases::CARD_A, at, mark)));
+    }
+    cards
+}
+
+/// TA in every place, cut to every length and whole, with and without more records after it.
+fn old_marks() -> Vec<Vec<u8>> {
+    let mut cards = vec![OLD.to_vec(), b"TA".to_vec(), b"T".to_vec(), b"C".to_vec()];
+    for lines in 0..=SLOTS {
+        let before = [CLOCK, &LINE.repeat(lines)].concat();
+        let cuts = if !(3..=14).contains(&lines) {
+            1..=12
+        } else {
+            2..=2
+        };
+        cards.extend(cuts.map(|cut| [&before, &OLD[..cut]].concat()));
+        cards.push([&before, OLD, ASKED].concat());
+        cards.push([&before, OLD, &LINE.repeat(3), ASKED].concat());
+    }
+    cards
+}
+
+/// Empty slots in all places, and directly before RQ.
+fn free_slots() -> Vec<Vec<u8>> {
+    let mut cards = Vec::new();
+    for frees in 0..=17 {
+        let free = b"TF".repeat(frees);
+        cards.push([CLOCK, &free, ASKED].concat());
+        cards.push([CLOCK, &free, LINE, ASKED].concat());
+        cards.push([CLOCK, LINE, &free, ASKED].concat());
+        cards.push([CLOCK, LINE, &free, OLD].concat());
+        cards.push([CLOCK, &free].concat());
+        cards.push([CLOCK, LINE, &free, LINE, b"TF", ASKED].concat());
+    }
+    for tail in [
+        &b"R"[..],
+        b"RQ",
+        b"RQ\x01\x00\x04",
+        b"RQ\x01\x00\x04\x00\x00",
+    ] {
+        cards.push([CLOCK, b"TF", tail].concat());
+        cards.push([CLOCK, tail].concat());
+        cards.push([CLOCK, LINE, b"TF", b"TF", tail].concat());
+    }
+    cards
+}
+
+/// A seventeenth record of each kind after sixteen of each kind, whole and cut.
+fn seventeenth() -> Vec<Vec<u8>> {
+    let mut cards = Vec::new();
+    for sixteen in [
+        LINE.repeat(16),
+        b"TF".repeat(16),
+        [LINE, b"TF"].concat().repeat(8),
+    ] {
+        for more in [
+            LINE, OLD, b"TF", b"TB", b"TA", b"T", b"XX", CLOCK, b"", b"RQ",
+        ] {
+            cards.push([CLOCK, &sixteen, more].concat());
+            cards.push([CLOCK, &sixteen, more, ASKED].concat());
+        }
+    }
+    cards
+}
+
+/// Records in each other's places, twice, or missing.
+fn swapped() -> Vec<Vec<u8>> {
+    let parts: [&[u8]; 5] = [CLOCK, LINE, b"TF", LINE, ASKED];
+    let mut cards = Vec::new();
+    for one in 0..parts.len() {
+        cards.push([&parts[..one], &parts[one + 1..]].concat().concat());
+        cards.push([&parts[..=one], &parts[one..]].concat().concat());
+        for other in one + 1..parts.len() {
+            let mut order = parts;
+            order.swap(one, other);
+            cards.push(order.concat());
+        }
+    }
+    cards
+}
+
+/// Every broken card of the stored set that is not random.
+pub fn named() -> Vec<Vec<u8>> {
+    [
+        prefixes(),
+        replaced_marks(),
+        old_marks(),
+        free_slots(),
+        seventeenth(),
+        swapped(),
+    ]
+    .concat()
+}
+
+/// A card of any table whatever; waiting lines cannot stand on a card.
+fn any_card(random: &mut Random) -> Vec<u8> {
+    let (table, request) = draw::any(random);
+    card::bytes(&table, &request)
+}
+
+/// One random change of a card's bytes.
+fn change(random: &mut Random, card: &mut Vec<u8>) {
+    let length = card.len() as u64;
+    let at = random.below(length.max(1)) as usize;
+    let aligned = (10 + 12 * random.below(17)).min(length.saturating_sub(6)) as usize;
+    match random.below(7) {
+        0 => card.truncate(at),
+        1 => card.push(random.below(256) as u8),
+        2 if at < card.len() => card[at] = random.below(256) as u8,
+        3 if at < card.len() => {
+            card.remove(at);
+        }
+        4 => card.insert(at, random.below(256) as u8),
+        _ => {
+            let mark = MARKS[random.below(MARKS.len() as u64) as usize];
+            if let Some(place) = card.get_mut(aligned..aligned + 2) {
+                place.copy_from_slice(mark);
+            }
+        }
+    }
+}
+
+/// A random card with one to three changes of its bytes.
+pub fn random_card(random: &mut Random) -> Vec<u8> {
+    let mut card = match random.below(4) {
+        0 => any_card(random),
+        1 => card::bytes(&EMPTY, &ZEROS),
+        _ => {
+            let (table, request) = draw::damaged(random);
+            card::bytes(&table, &request)
+        }
+    };
+    for _ in 0..1 + random.below(3) {
+        change(random, &mut card);
+    }
+    card
+}
+
+/// A random card of one of the kinds of `compare`: near full load, wide, damaged, any, broken.
+#[cfg(feature = "house")]
+pub fn mixed_card(random: &mut Random) -> Vec<u8> {
+    let of = |(table, request)| card::bytes(&table, &request);
+    match random.below(100) {
+        0..=59 => of(draw::near_full(random)),
+        60 => of(draw::wide(random)),
+        61..=74 => of(draw::damaged(random)),
+        75..=79 => of(draw::any(random)),
+        _ => random_card(random),
+    }
+}

@@ -1,0 +1,231 @@
+//! The stored set of cards with their answers, for a program that answers many cards in one run.
+
+use crate::card;
+use crate::cases;
+use crate::draw;
+use crate::published;
+use crate::random::Random;
+use crate::spoil;
+use crate::types::{Refusal, Request, Table, LAST_ASK, LAST_TICK};
+use std::fs;
+use std::io;
+use std::path::Path;
+
+/// The length that ends the set.
+const END: u16 = 0xFFFF;
+
+const SEED: u64 = 2;
+const NEAR_FULL: usize = 3_600;
+const WIDE: usize = 160;
+const DAMAGED: usize = 1_000;
+const ANY: usize = 150;
+const BROKEN: usize = 600;
+const MANY_LINES: usize = 60;
+const SAMPLES: u64 = 4;
+
+fn of(drawn: (Table, Request)) -> Vec<u8> {
+    card::bytes(&drawn.0, &drawn.1)
+}
+
+/// Cases A to M and the boundary cases of document 01.
+fn document_cases() -> Vec<Vec<u8>> {
+    let bytes = |case: &cases::Case| card::bytes(&case.table, &case.request);
+    cases::all().iter().map(bytes).collect()
+}
+
+/// Nothing is stored unless the cases of document 01 have the answers printed there.
+fn check_cases() -> io::Result<()> {
+    for case in cases::all() {
+        if card::judge(&card::bytes(&case.table, &case.request)) != case.answer {
+            return Err(io::Error::other(format!("case {} differs", case.name)));
+        }
+    }
+    Ok(())
+}
+
+/// Case D and the empty table at clocks around every limit.
+fn clocks() -> Vec<Vec<u8>> {
+    let lines = [(7, 28, 28, 20, 7), (8, 16, 32, 8, 0)];
+    let mut all = vec![
+        0,
+        1,
+        u64::MAX,
+        u64::MAX - 1,
+        1 << 63,
+        1 << 32,
+        (1 << 32) - 1,
+    ];
+    all.extend(LAST_ASK - 3..=LAST_ASK + 3);
+    all.extend(LAST_TICK - 3..=LAST_TICK + 3);
+    let card = |clock: u64, lines: &[cases::Line]| of(cases::row(clock, lines, (2, 4)));
+    all.into_iter()
+        .flat_map(|clock| [card(clock, &lines), card(clock, &[])])
+        .collect()
+}
+
+/// Tables of 15 lines and of all 16 slots, sound and then with one number changed.
+fn many_lines(random: &mut Random) -> Vec<Vec<u8>> {
+    let mut cards = Vec::new();
+    for index in 0..MANY_LINES {
+        let period = 60 * (1 + random.small(12));
+        let mut lines = Vec::new();
+        for _ in 0..15 + index % 2 {
+            let need = 1 + random.small(u64::from(period) / 16);
+            let age = random.small(u64::from(period));
+            let owed = u32::from(need) * u32::from(period - age) / u32::from(period);
+            let stretched = period * (1 + random.small(2));
+            lines.push((need, period, stretched, age, owed as u16));
+        }
+        if index % 5 == 4 {
+            lines[random.below(15) as usize].3 = period;
+        }
+        let new = (
+            1 + random.small(3),
+            [5, 10, 15, 30][random.below(4) as usize],
+        );
+        cards.push(of(cases::row(random.below(1_000), &lines, new)));
+    }
+    cards
+}
+
+/// Near full load with the clock at the limits.
+fn random_clocks(random: &mut Random) -> Vec<Vec<u8>> {
+    let mut cards = Vec::new();
+    for _ in 0..60 {
+        let (mut table, request) = draw::near_full(random);
+        table.clock = draw::any_clock(random);
+        cards.push(of((table, request)));
+    }
+    cards
+}
+
+/// The nine published answers and samples of each of the 184 sets, in rising order of the tick.
+fn published_cards(random: &mut Random) -> Vec<Vec<u8>> {
+    let mut cards = Vec::new();
+    for first_period in published::FIRST_PERIODS {
+        let Some((begin, request)) = published::set(first_period) else {
+            continue;
+        };
+        let round = published::round(first_period);
+        let mut ticks: Vec<u64> = (0..SAMPLES).map(|_| random.below(round)).collect();
+        let named = published::ANSWERS
+            .iter()
+            .filter(|(t, _, _)| *t == first_period);
+        ticks.extend(named.map(|(_, tick, _)| *tick));
+        ticks.sort_unstable();
+        let mut table = begin;
+        for tick in ticks {
+            table = published::at(&table, tick);
+            cards.push(of((table, request)));
+        }
+    }
+    cards
+}
+
+/// Every pair of a small table over its whole period: all ages and remainings of two lines.
+fn small_grid() -> Vec<Vec<u8>> {
+    let mut cards = Vec::new();
+    for age in 0..=6 {
+        for owed in 0..=3 {
+            for (other_age, other_owed) in [(0, 0), (0, 4), (3, 4), (5, 1), (7, 0)] {
+                let lines = [(2, 6, 12, age, owed), (4, 8, 8, other_age, other_owed)];
+                cards.push(of(cases::row(50, &lines, (1, 3))));
+            }
+        }
+    }
+    cards
+}
+
+fn repeat(count: usize, mut card: impl FnMut() -> Vec<u8>) -> Vec<Vec<u8>> {
+    (0..count).map(|_| card()).collect()
+}
+
+/// All cards in their order.
+fn cards() -> Vec<Vec<u8>> {
+    let mut random = Random::new(SEED);
+    let random = &mut random;
+    [
+        document_cases(),
+        clocks(),
+        spoil::named(),
+        small_grid(),
+        many_lines(random),
+        repeat(NEAR_FULL, || of(draw::near_full(random))),
+        random_clocks(random),
+        repeat(DAMAGED, || of(draw::damaged(random))),
+        repeat(ANY, || of(draw::any(random))),
+        repeat(BROKEN, || spoil::random_card(random)),
+        repeat(WIDE, || of(draw::wide(random))),
+        published_cards(random),
+    ]
+    .concat()
+}
+
+/// How often each answer stands in the set.
+#[derive(Default)]
+struct Counts {
+    refused: [u64; 16],
+    starts: u64,
+    later: u64,
+}
+
+impl Counts {
+    fn add(&mut self, bytes: &[u8], answer: Result<u64, Refusal>) {
+        match answer {
+            Err(refusal) => self.refused[usize::from(refusal.number)] += 1,
+            Ok(start) => {
+                self.starts += 1;
+                self.later += u64::from(start > card::read(bytes).table.clock);
+            }
+        }
+    }
+
+    fn report(&self, cards: usize, input: usize, output: usize) {
+        eprintln!("cards {cards} stdin {input} bytes stdout {output} bytes");
+        eprintln!(
+            "starts {} of them later than the clock {}",
+            self.starts, self.later
+        );
+        let reached = (1..16).filter(|number| self.refused[*number] > 0);
+        let pairs: Vec<String> = reached
+            .map(|number| format!("{number}:{}", self.refused[number]))
+            .collect();
+        eprintln!("refused {}", pairs.join(" "));
+    }
+}
+
+/// Writes `stdin` and `stdout` into a folder; the counts go to standard error.
+pub fn write(folder: &Path) -> io::Result<()> {
+    check_cases()?;
+    let cards = cards();
+    let (mut input, mut output) = (Vec::new(), String::new());
+    let mut counts = Counts::default();
+    for bytes in &cards {
+        let length = u16::try_from(bytes.len()).map_err(io::Error::other)?;
+        input.extend(length.to_le_bytes());
+        input.extend(bytes);
+        let answer = card::judge(bytes);
+        counts.add(bytes, answer);
+        output.push_str(&card::line(answer));
+    }
+    input.extend(END.to_le_bytes());
+    fs::create_dir_all(folder)?;
+    fs::write(folder.join("stdin"), &input)?;
+    fs::write(folder.join("stdout"), &output)?;
+    counts.report(cards.len(), input.len(), output.len());
+    Ok(())
+}
+
+#[cfg(test)]
+mod tests {
+    use super::*;
+
+    #[test]
+    fn the_set_keeps_its_limits() {
+        let cards = cards();
+        let bytes: usize = cards.iter().map(|card| card.len() + 2).sum();
+        assert!(cards.len() <= 8_000, "{}", cards.len());
+        assert!(bytes <= 1_500_000, "{bytes}");
+        assert!(cards.iter().all(|card| card.len() < usize::from(END)));
+    }
+}
