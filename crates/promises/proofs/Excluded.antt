@@ -1,7 +1,9 @@
 -- What the contracts rule out.
 use Prim.Native.Nat.{ℕ}
 use mathlib.Core.Path.{_≡_, refl, sym, ap, _∙_}
+use mathlib.Core.List.{List, []}
 use native.Mathlib.Omega.{arith}
+use lib.ListN.{getD, replicate}
 use Rattle.lines.specs.declared.Held.{Held}
 use Rattle.lines.specs.declared.Held.the-variants.{Nothing, Running, Waiting}
 use Rattle.lines.specs.declared.Table.{Table}
@@ -12,9 +14,14 @@ use Rattle.lines.specs.declared.Stepped.{Stepped}
 use Rattle.lines.specs.Slots.{emptyTable, at, lowest}
 use Rattle.lines.specs.Step.{chosen, advance, stepOf}
 use Rattle.lines.specs.Cases.{cases, caseA}
+use Rattle.card.specs.declared.ReadCard.{ReadCard}
+use Rattle.card.specs.Bytes.{marked}
+use Rattle.card.specs.Card.{cardOf}
+use Rattle.card.specs.Reading.{recordOf, recordsOf, readWith, readOf}
+use Rattle.card.specs.Answers.{handed, lengthOf, bufferOf}
 use Rattle.theory.proofs.Cases.{cases-answer}
 use Rattle.theory.proofs.Unique.{answers-is}
-use Rattle.promises.specs.Excluded.{MeetsAsk, MeetsStep, RefusesEverything, SaysTheClock, LeavesTheTable, OnlyMovesTheClock}
+use Rattle.promises.specs.Excluded.{MeetsAsk, MeetsStep, RefusesEverything, SaysTheClock, LeavesTheTable, OnlyMovesTheClock, MeetsRead, MeetsWrite, OneRequest, WritesNothing}
 
 -- whatever meets ask's contract says 13 in case A
 says-thirteen : (f : Table → Request → Answer) → MeetsAsk f → f (caseA .table) (caseA .request) ≡ Start 13
@@ -61,3 +68,32 @@ no-step-only-moves-the-clock f m r =
     let x = ap (λ (t : Table). at (t .slots) 1) (r (caseA .table) (omega arith)) in
     let y = ap (λ (s : Stepped). at (s .table .slots) 1) (m (caseA .table)) in
     case-A-serves (sym y ∙ x)
+
+-- the card of case A asks for a need of 1, no card at all for 0
+need-A : handed (readOf (cardOf (caseA .table) (caseA .request))) .request .need ≡ 1
+unfolding cardOf marked recordOf recordsOf readWith
+need-A = refl
+
+need-none : handed (readOf []) .request .need ≡ 0
+unfolding readWith
+need-none = refl
+
+pub no-reader-gives-one-request : (f : List ℕ → ReadCard) → MeetsRead f → OneRequest f → ⊥
+no-reader-gives-one-request f m r =
+    let a : List ℕ = cardOf (caseA .table) (caseA .request) in
+    let x : f a .request .need ≡ 1 = ap (λ (c : ReadCard). c .request .need) (m a) ∙ need-A in
+    let y : f [] .request .need ≡ 0 = ap (λ (c : ReadCard). c .request .need) (m []) ∙ need-none in
+    let z : f a .request .need ≡ f [] .request .need = ap (λ (q : Request). q .need) (r a []) in
+    omega arith
+
+-- the card of an empty table fits sixteen bytes, and its first is not 0
+written-first : getD (bufferOf emptyTable (caseA .request) (replicate 16 0)) 0 0 ≡ 0x43
+unfolding lowest cardOf lengthOf
+written-first = refl
+
+pub no-writer-writes-nothing : (f : Table → Request → List ℕ → List ℕ) → MeetsWrite f → WritesNothing f → ⊥
+no-writer-writes-nothing f m r =
+    let l : List ℕ = replicate 16 0 in
+    let x = ap (λ (b : List ℕ). getD b 0 0) (sym (m emptyTable (caseA .request) l) ∙ r emptyTable (caseA .request) l) in
+    let z : _≡_ {A = ℕ} 0x43 0 = sym written-first ∙ x in
+    omega arith

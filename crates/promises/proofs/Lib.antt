@@ -3,6 +3,7 @@ pub mod Good
 pub mod Kept
 pub mod Gets
 pub mod Early
+pub mod Demand1
 pub mod Demand3
 pub mod Witnesses
 pub mod Example

@@ -1,4 +1,4 @@
--- Each refusal of ask and step is met, by computation.
+-- Each refusal is met, by computation.
 use mathlib.Core.Path.{_≡_, refl}
 use mathlib.Core.List.{map}
 use Rattle.periods.specs.Multiples.{euclid, gcdOf, lcmOf, frameFrom}
@@ -9,7 +9,12 @@ use Rattle.lines.specs.Grounds.{stretched, periodsIn}
 use Rattle.lines.specs.Ask.{every, endsBefore, endsOf, slack, bound, greatest, anyOf, start, loadOf, askOf}
 use Rattle.lines.specs.Step.{chosen, advance, stepOf}
 use Rattle.lines.specs.Cases.{Case}
-use Rattle.promises.specs.Witnesses.{askMeets, Meets, stepMeets}
+use Rattle.card.specs.Bytes.{marked}
+use Rattle.card.specs.Card.{cardOf}
+use Rattle.card.specs.Reading.{recordOf, recordsOf, readWith, readOf}
+use Rattle.card.specs.Answers.{lengthOf, writeOf}
+use Rattle.lines.specs.Slots.{refuses}
+use Rattle.promises.specs.Witnesses.{askMeets, Meets, stepMeets, BrokenCard, readMeets, ShortBuffer, writeMeets}
 
 -- 1 to 10
 pub ask-meets : map (λ (c : Case). askOf (c .table) (c .request)) askMeets ≡ map (λ (c : Case). c .answer) askMeets
@@ -20,3 +25,13 @@ ask-meets = refl
 pub step-meets : map (λ (m : Meets). stepOf (m .table) .outcome) stepMeets ≡ map (λ (m : Meets). Refused (m .refused)) stepMeets
 unfolding lowest chosen advance stepOf stepMeets
 step-meets = refl
+
+-- 11 and 12
+pub read-meets : map (λ (c : BrokenCard). readOf (c .bytes)) readMeets ≡ map (λ (c : BrokenCard). refuses (c .refused)) readMeets
+unfolding cardOf marked recordOf recordsOf readWith readMeets
+read-meets = refl
+
+-- 3 and 13
+pub write-meets : map (λ (b : ShortBuffer). writeOf (b .table) (b .request) (b .room)) writeMeets ≡ map (λ (b : ShortBuffer). refuses (b .refused)) writeMeets
+unfolding lowest cardOf lengthOf writeMeets
+write-meets = refl

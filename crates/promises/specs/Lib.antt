@@ -1,4 +1,5 @@
 -- The promises, readable without their proofs.
+pub mod Demand1
 pub mod Demand3
 pub mod Witnesses
 pub mod Example

@@ -1,13 +1,16 @@
--- "Each number here can be met": for each of ask's and step's refusals a table and a request that meet it, with the place.
-use Prim.Native.Nat.{_+_, _-_, _^_}
-use mathlib.Core.List.{List, [], _∷_}
-use lib.ListN.{replicate}
+-- "Each number here can be met": for each of 1 to 15 an input that meets it, with the place.
+use Prim.Native.Nat.{ℕ, _+_, _-_, _^_}
+use mathlib.Core.List.{List, [], _∷_, _++_}
+use lib.ListN.{take, replicate}
 use Rattle.lines.specs.declared.Held.the-variants.{Running, Waiting}
 use Rattle.lines.specs.declared.Table.{Table}
+use Rattle.lines.specs.declared.Request.{Request}
 use Rattle.lines.specs.declared.Refusal.{Refusal}
 use Rattle.lines.specs.declared.Answer.the-variants.{Refused}
 use Rattle.lines.specs.Slots.{empty, refusal}
-use Rattle.lines.specs.Cases.{Bench, Case, line, tableFor, requestFor, case, caseG, caseI, caseJ, caseL}
+use Rattle.lines.specs.Cases.{Bench, Case, line, tableFor, requestFor, case, caseA, caseG, caseI, caseJ, caseL}
+use Rattle.card.specs.Bytes.{TA}
+use Rattle.card.specs.Card.{cardOf}
 
 -- slot 0 runs a line, slot 1 is empty, slot 2 waits
 abbrev pub waitingTable : Table
@@ -48,4 +51,30 @@ stepMeets =
     record { table = tableFor 0 (line 1 4 4 0 1 ∷ line 5 4 4 0 0 ∷ []); refused = refusal 4 1 }
     ∷ record { table = tableFor 0 (line 1 4 4 0 1 ∷ line 2 4 4 3 2 ∷ []); refused = refusal 14 1 }
     ∷ record { table = tableFor (2 ^ 48) []; refused = refusal 15 0 }
+    ∷ []
+
+pub record BrokenCard : Type 0 where
+  pub bytes : List ℕ
+  pub refused : Refusal
+
+pub record ShortBuffer : Type 0 where
+  pub table : Table
+  pub request : Request
+  pub room : ℕ
+  pub refused : Refusal
+
+-- 11: a card cut in its second slot record, and no card at all
+-- 12: an old record where the second slot's may stand
+unfoldable pub readMeets : List BrokenCard
+readMeets =
+    record { bytes = take 30 (cardOf (caseA .table) (caseA .request)); refused = refusal 11 22 }
+    ∷ record { bytes = []; refused = refusal 11 0 }
+    ∷ record { bytes = take 22 (cardOf (caseA .table) (caseA .request)) ++ TA; refused = refusal 12 22 }
+    ∷ []
+
+-- 3: a waiting line in slot 2; 13: one byte too few for the card of case A
+unfoldable pub writeMeets : List ShortBuffer
+writeMeets =
+    record { table = waitingTable; request = caseA .request; room = 240; refused = refusal 3 2 }
+    ∷ record { table = caseA .table; request = caseA .request; room = 39; refused = refusal 13 0 }
     ∷ []

@@ -1,0 +1,70 @@
+-- Requests that agree on what is looked at get the same answer and the same table.
+use Prim.Native.Nat.{ℕ, suc, _<_}
+use mathlib.Core.Path.{_≡_, refl, ap, _∙_}
+use mathlib.Core.Bool.{Bool}
+use mathlib.Core.List.{List, [], _∷_}
+use native.Mathlib.Omega.{arith}
+use lib.ListN.{length, set, replicate}
+use Rattle.periods.specs.Multiples.{euclid, gcdOf, lcmOf, frameFrom}
+use Rattle.lines.specs.declared.Held.{Held}
+use Rattle.lines.specs.declared.Held.the-variants.{Nothing, Running, Waiting}
+use Rattle.lines.specs.declared.Slot.{Slot}
+use Rattle.lines.specs.declared.Table.{Table}
+use Rattle.lines.specs.declared.Request.{Request}
+use Rattle.lines.specs.declared.Answer.{Answer}
+use Rattle.lines.specs.declared.Answer.the-variants.{Start, Refused}
+use Rattle.lines.specs.Slots.{at, total, lowest, emptyTable}
+use Rattle.lines.specs.Demand.{due, lastEnd}
+use Rattle.lines.specs.Grounds.{entry, stretch, stretched, asked, periodsIn}
+use Rattle.lines.specs.Ask.{shrunk, every, endsBefore, endsOf, slack, bound, greatest, anyOf, start, loadOf, askOf}
+use Rattle.lines.specs.Admit.{admitWith, admitOf}
+use Rattle.lines.proofs.Search.{lowest-congr}
+use Rattle.ask.specs.Agree.{Runs, Agree}
+
+stretch-agrees : (p r : ℕ) (h : Held) → (Runs h → p ≡ r) → stretch p h ≡ stretch r h
+stretch-agrees p r Nothing e = refl
+stretch-agrees p r (Running x) e = ap (λ (k : ℕ). stretch k (Running x)) (e tt)
+stretch-agrees p r (Waiting w) e = refl
+
+shrunk-agrees : (p r : ℕ) (h : Held) → (Runs h → p ≡ r) → shrunk p h ≡ shrunk r h
+shrunk-agrees p r Nothing e = refl
+shrunk-agrees p r (Running x) e = ap (λ (k : ℕ). shrunk k (Running x)) (e tt)
+shrunk-agrees p r (Waiting w) e = refl
+
+slots-agree : (l : List Slot) (p r : ℕ → ℕ) → ((i : ℕ) → i < length l → Runs (at l i) → p i ≡ r i) → stretched l p ≡ stretched l r
+unfolding stretched
+slots-agree [] p r e = refl
+slots-agree (s ∷ l) p r e =
+    rw (
+      stretch-agrees (p 0) (r 0) (s .held) (e 0 (omega arith)),
+      slots-agree l (λ i. p (suc i)) (λ i. r (suc i)) (λ i h. e (suc i) (omega arith)),
+    )
+
+module _ (t : Table) (q r : Request) (a : Agree t q r) where
+  asked-agrees : asked t q ≡ asked t r
+  asked-agrees = slots-agree (t .slots) (entry q) (entry r) (a .entries)
+
+  abbrev shrinks : Request → ℕ → Bool
+  shrinks x i = shrunk (entry x i) (at (t .slots) i)
+
+  answers-agree : askOf t q ≡ askOf t r
+  unfolding askOf
+  answers-agree =
+      rw (
+        lowest-congr (shrinks q) (shrinks r) (length (t .slots)) (λ i h. shrunk-agrees (entry q i) (entry r i) (at (t .slots) i) (a .entries i h)),
+        a .need,
+        a .period,
+        asked-agrees,
+      )
+
+  tables-agree : (x : Answer) → admitWith t q x ≡ admitWith t r x
+  tables-agree (Start s) = rw (a .need, a .period, asked-agrees)
+  tables-agree (Refused x) = refl
+
+  pub ask-agrees : (askOf t q ≡ askOf t r) × (admitOf t q ≡ admitOf t r)
+  ask-agrees = (answers-agree, ap (admitWith t q) answers-agree ∙ tables-agree (askOf t r))
+
+-- on the empty table an entry of 65,521 changes nothing: the new line starts at once
+pub empty-starts : askOf emptyTable (record { stretched = set (replicate 16 0) 3 65521; need = 3; period = 5 }) ≡ Start 0
+unfolding euclid gcdOf lcmOf frameFrom total lowest due lastEnd stretched periodsIn every endsBefore endsOf slack bound greatest anyOf start loadOf askOf
+empty-starts = refl

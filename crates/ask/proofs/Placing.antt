@@ -1,0 +1,43 @@
+-- The table that an admission leaves, by the slot that the search named.
+use Prim.Native.Nat.{ℕ, _-_}
+use mathlib.Core.Path.{_≡_, ap, sym, _∙_}
+use mathlib.Core.List.{List}
+use mathlib.Core.Option.{none, some}
+use lib.ListN.{set}
+use Rattle.lines.specs.declared.Held.{Held}
+use Rattle.lines.specs.declared.Slot.{Slot}
+use Rattle.lines.specs.declared.Table.{Table}
+use Rattle.lines.specs.declared.Request.{Request}
+use Rattle.lines.specs.declared.Answer.{Answer}
+use Rattle.lines.specs.declared.Answer.the-variants.{Start, Refused}
+use Rattle.lines.specs.declared.Refusal.{Refusal}
+use Rattle.lines.specs.declared.Admitted.{Admitted}
+use Rattle.lines.specs.Slots.{isNothing, lowestOf}
+use Rattle.lines.specs.Grounds.{asked}
+use Rattle.lines.specs.Ask.{askOf}
+use Rattle.lines.specs.Admit.{newLine, admittedAt, admitWith, admitOf}
+
+abbrev table : ℕ → List Slot → Table
+table k l = record { clock = k; slots = l }
+
+module _ (t : Table) (q : Request) (r : ℕ) {next : Table} (ec : next .clock ≡ t .clock) (es : next .slots ≡ asked t q) where
+  -- with no empty slot there is no place
+  pub put-nowhere : lowestOf isNothing (t .slots) ≡ none → next ≡ admittedAt t q r
+  put-nowhere e = rw e (ap (λ (k : ℕ). table k (next .slots)) ec ∙ ap (table (t .clock)) es)
+
+  pub put-at : {k : ℕ} {new : Held} {full : Table} → lowestOf isNothing (t .slots) ≡ some k → new ≡ newLine (q .need) (q .period) (r - t .clock)
+      → full .clock ≡ next .clock → full .slots ≡ set (next .slots) k (record { held = new }) → full ≡ admittedAt t q r
+  put-at {k} {new} {full} e g fc fs =
+      rw e
+      (ap (λ (c : ℕ). table c (full .slots)) (fc ∙ ec)
+      ∙ ap (table (t .clock)) (fs ∙ ap (λ (l : List Slot). set l k (record { held = new })) es)
+      ∙ ap (λ (h : Held). table (t .clock) (set (asked t q) k (record { held = h }))) g
+      )
+
+module _ (t : Table) (q : Request) {a : Answer} (e : a ≡ askOf t q) where
+  pub admit-start : {r : ℕ} {u : Table} → a ≡ Start r → u ≡ admittedAt t q r → _≡_ {A = Admitted} (record { table = u; answer = Start r }) (admitOf t q)
+  admit-start {r} g h =
+      ap (λ (x : Table). let y : Admitted = record { table = x; answer = Start r } in y) h ∙ ap (admitWith t q) (sym g ∙ e)
+
+  pub admit-refused : {x : Refusal} → a ≡ Refused x → _≡_ {A = Admitted} (record { table = t; answer = Refused x }) (admitOf t q)
+  admit-refused g = ap (admitWith t q) (sym g ∙ e)

@@ -1,0 +1,27 @@
+-- The computed answer is the document's, by the theory; and two answers that ask's or admit's contract allows are equal.
+use mathlib.Core.Path.{_≡_, refl, sym, ap, _∙_}
+use Rattle.lines.specs.declared.Table.{Table}
+use Rattle.lines.specs.declared.Request.{Request}
+use Rattle.lines.specs.declared.Answer.{Answer}
+use Rattle.lines.specs.declared.Answer.the-variants.{Start, Refused}
+use Rattle.lines.specs.declared.Admitted.{Admitted}
+use Rattle.lines.specs.Ask.{askOf}
+use Rattle.lines.specs.Admit.{admitWith, admitOf}
+use Rattle.theory.proofs.Answers.{ask-answers}
+use Rattle.ask.specs.Asked.{Asked, Admits}
+
+pub asked : (t : Table) (q : Request) {a : Answer} → a ≡ askOf t q → Asked t q a
+asked t q e = record { answers = rw e (ask-answers t q); computed = e }
+
+admit-answer : (t : Table) (q : Request) (a : Answer) → admitWith t q a .answer ≡ a
+admit-answer t q (Start r) = refl
+admit-answer t q (Refused x) = refl
+
+pub admits : (t : Table) (q : Request) {r : Admitted} → r ≡ admitOf t q → Admits t q r
+admits t q e = record { answers = rw (ap (λ (r : Admitted). r .answer) e ∙ admit-answer t q (askOf t q)) (ask-answers t q); computed = e }
+
+pub asked-unique : (t : Table) (q : Request) (a b : Answer) → Asked t q a → Asked t q b → a ≡ b
+asked-unique t q a b p r = p .computed ∙ sym (r .computed)
+
+pub admits-unique : (t : Table) (q : Request) (a b : Admitted) → Admits t q a → Admits t q b → a ≡ b
+admits-unique t q a b p r = p .computed ∙ sym (r .computed)

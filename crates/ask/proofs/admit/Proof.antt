@@ -1,0 +1,50 @@
+-- `admit` meets its contract: a start is admitted, a refusal leaves the table.
+use mathlib.Core.Path.{_∙_}
+use borrow.Author.Needs.{needs}
+use Rattle.ask.proofs.Placing.{admit-start, admit-refused}
+use Rattle.ask.proofs.Right.{admits}
+use Rattle.ask.proofs.admit.Statement.{statement}
+use Rattle.ask.proofs.admit.Tie as tie
+
+decide-requires : tie.Need-decide-requires
+decide-requires c κs = search needs
+
+enum-known-a : tie.Need-enum-known-a
+enum-known-a c = search needs
+
+admitted-requires : tie.Need-admitted-requires
+admitted-requires c κs = rw (c .before .a .given .1) at (c .before .before .before .decide .ensures .1)
+
+enum-known-a-2 : tie.Need-enum-known-a-2
+enum-known-a-2 c = search needs
+
+untouched-requires : tie.Need-untouched-requires
+untouched-requires c κs = search needs
+
+returns : tie.Need-returns
+returns c =
+    let x = c .before .before .before .before .before .args in
+    let decide = c .before .before .before .before .decide in
+    let a1 = c .before .before .a in
+    let admitted = c .admitted in
+    admits (x .t) (x .q) (admit-start (x .t) (x .q) (decide .ensures .0) (a1 .given .1) (admitted .ensures))
+
+returns-2 : tie.Need-returns-2
+returns-2 c =
+    let x = c .before .before .before .before .before .args in
+    let decide = c .before .before .before .before .decide in
+    let a2 = c .before .before .a2 in
+    let untouched = c .untouched in
+    admits (x .t) (x .q) (untouched .ensures ∙ admit-refused (x .t) (x .q) (decide .ensures .0) (a2 .given .1))
+
+pub admit-spec : {M : Type 1} → statement M
+admit-spec =
+    tie.close
+    (tie.spec
+    decide-requires
+    enum-known-a
+    admitted-requires
+    enum-known-a-2
+    untouched-requires
+    returns
+    returns-2)

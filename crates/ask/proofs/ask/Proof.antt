@@ -1,0 +1,14 @@
+-- `ask` meets its contract: the decision is the computed answer, which the theory shows to be the document's.
+use borrow.Author.Needs.{needs}
+use Rattle.ask.proofs.Right.{asked}
+use Rattle.ask.proofs.ask.Statement.{statement}
+use Rattle.ask.proofs.ask.Tie as tie
+
+decide-requires : tie.Need-decide-requires
+decide-requires c κs = search needs
+
+returns : tie.Need-returns
+returns c = asked (c .before .args .t) (c .before .args .q) (c .decide .ensures .0)
+
+pub ask-spec : {M : Type 1} → statement M
+ask-spec = tie.close (tie.spec decide-requires returns)

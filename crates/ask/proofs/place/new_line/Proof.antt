@@ -1,0 +1,13 @@
+-- `new_line` meets its contract: a line that waits or one that runs.
+use borrow.Author.Tests.{lt-ltb, le-ltb}
+use Rattle.ask.proofs.place.new_line.Statement.{statement}
+use Rattle.ask.proofs.place.new_line.Tie as tie
+
+returns : tie.Need-returns
+returns c = simp (lt-ltb _ _ (c .if1 .taken))
+
+returns-2 : tie.Need-returns-2
+returns-2 c = simp (le-ltb _ _ (c .if1 .left))
+
+pub new-line-spec : {M : Type 1} → statement M
+new-line-spec = tie.close (tie.spec returns returns-2)

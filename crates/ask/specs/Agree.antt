@@ -1,0 +1,21 @@
+-- Two requests that agree on what is looked at.
+use Prim.Native.Nat.{ℕ, _<_}
+use mathlib.Core.Path.{_≡_}
+use lib.ListN.{length}
+use Rattle.lines.specs.declared.Held.{Held}
+use Rattle.lines.specs.declared.Held.the-variants.{Nothing, Running, Waiting}
+use Rattle.lines.specs.declared.Table.{Table}
+use Rattle.lines.specs.declared.Request.{Request}
+use Rattle.lines.specs.Slots.{at}
+use Rattle.lines.specs.Grounds.{entry}
+
+abbrev pub Runs : Held → Type 0
+Runs Nothing = ⊥
+Runs (Running r) = Unit {0}
+Runs (Waiting w) = ⊥
+
+-- "entries of slots that hold no running line are not looked at"
+pub record Agree (t : Table) (q r : Request) : Type 0 where
+  pub need : q .need ≡ r .need
+  pub period : q .period ≡ r .period
+  pub entries : (i : ℕ) → i < length (t .slots) → Runs (at (t .slots) i) → entry q i ≡ entry r i

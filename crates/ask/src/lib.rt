@@ -1,0 +1,40 @@
+// Ask and admit: the answer to a request, and the table with the new line in it.
+mod place; // the table with the new line in it
+
+ghost use mathlib.Core.Path.{_≡_};
+ghost use Rattle.lines.specs.declared.Answer.the-variants.{Refused};
+ghost use Rattle.ask.specs.Asked.{Asked, Admits};
+
+// "Ask answers the start, and changes nothing."
+pub fn ask(t: lines::Table, q: lines::Request) -> lines::Answer
+    ensures { λ r. ⌜ Asked t q r ⌝ }
+{
+    demand::decide(t, q)
+}
+
+// "A refusal is its number and place, with table and buffers untouched."
+fn untouched(t: lines::Table, x: lines::Refusal) -> lines::Admitted
+    ensures { λ r. ⌜ r ≡ record { table = t; answer = Refused x } ⌝ }
+{
+    lines::Admitted {
+        table: t,
+        answer: lines::Answer::Refused(x),
+    }
+}
+
+// "Admit answers as ask does."
+pub fn admit(t: lines::Table, q: lines::Request) -> lines::Admitted
+    ensures { λ r. ⌜ Admits t q r ⌝ }
+{
+    let a = demand::decide(t, q);
+    match a {
+        lines::Answer::Start(r) => {
+            let next = place::admitted(t, q, r);
+            lines::Admitted {
+                table: next,
+                answer: lines::Answer::Start(r),
+            }
+        }
+        lines::Answer::Refused(x) => untouched(t, x),
+    }
+}

@@ -1,0 +1,39 @@
+-- The answers say all: two that a contract allows are the same.
+use mathlib.Core.Path.{_≡_, refl, sym, ap, _∙_}
+use mathlib.Core.List.{List}
+use Prim.Native.Nat.{ℕ}
+use lib.ListN.{length}
+use Rattle.lines.specs.declared.Table.{Table}
+use Rattle.lines.specs.declared.Request.{Request}
+use Rattle.lines.specs.Slots.{Said, gives, refuses}
+use Rattle.card.specs.declared.ReadCard.{ReadCard}
+use Rattle.card.specs.declared.WriteAnswer.{WriteAnswer}
+use Rattle.card.specs.Card.{Card}
+use Rattle.card.specs.Reading.{readOf}
+use Rattle.card.specs.Answers.{handed, saidRead, saidWritten, writeOf, bufferOf}
+
+-- what is handed out says what was read
+pub said-handed : (s : Said Card) → saidRead (handed s) ≡ s
+said-handed (gives c) = refl
+said-handed (refuses r) = refl
+
+pub one-reading : (l : List ℕ) (a b : ReadCard) → a ≡ handed (readOf l) → b ≡ handed (readOf l) → a ≡ b
+one-reading l a b p q = p ∙ sym q
+
+answer-with : Said ℕ → WriteAnswer
+answer-with (gives n) = WriteAnswer.Length n
+answer-with (refuses r) = WriteAnswer.Refused r
+
+answer-said : (a : WriteAnswer) → answer-with (saidWritten a) ≡ a
+unfolding answer-with
+answer-said (WriteAnswer.Length n) = refl
+answer-said (WriteAnswer.Refused r) = refl
+
+-- the answer a and the buffer m that the writer's contract allows for a buffer l
+abbrev pub Written : Table → Request → List ℕ → WriteAnswer → List ℕ → Type 0
+Written t q l a m = (saidWritten a ≡ writeOf t q (length l)) × (m ≡ bufferOf t q l)
+
+pub one-writing : (t : Table) (q : Request) (l : List ℕ) (a b : WriteAnswer) (m n : List ℕ)
+    → Written t q l a m → Written t q l b n → (a ≡ b) × (m ≡ n)
+one-writing t q l a b m n p r =
+    (sym (answer-said a) ∙ ap answer-with (p .0 ∙ sym (r .0)) ∙ answer-said b, p .1 ∙ sym (r .1))

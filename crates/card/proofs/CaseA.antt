@@ -1,0 +1,30 @@
+-- The card of case A, in the bytes that document 01 prints.
+use mathlib.Core.Path.{_≡_, refl}
+use mathlib.Core.List.{List, [], _∷_, _++_}
+use Prim.Native.Nat.{ℕ}
+use lib.ListN.{take}
+use Rattle.lines.specs.Cases.{caseA}
+use Rattle.lines.specs.Slots.{gives, refuses, refusal}
+use Rattle.card.specs.Bytes.{marked, TA}
+use Rattle.card.specs.Card.{cardOf}
+use Rattle.card.specs.Reading.{recordOf, recordsOf, readWith, readOf}
+
+abbrev printed : List ℕ
+printed =
+    0x43 ∷ 0x4B ∷ 0x08 ∷ 0x00 ∷ 0x00 ∷ 0x00 ∷ 0x00 ∷ 0x00 ∷ 0x00 ∷ 0x00 ∷
+    0x54 ∷ 0x42 ∷ 0x08 ∷ 0x00 ∷ 0x10 ∷ 0x00 ∷ 0x20 ∷ 0x00 ∷ 0x08 ∷ 0x00 ∷ 0x00 ∷ 0x00 ∷
+    0x54 ∷ 0x42 ∷ 0x08 ∷ 0x00 ∷ 0x10 ∷ 0x00 ∷ 0x10 ∷ 0x00 ∷ 0x08 ∷ 0x00 ∷ 0x08 ∷ 0x00 ∷
+    0x52 ∷ 0x51 ∷ 0x01 ∷ 0x00 ∷ 0x04 ∷ 0x00 ∷ []
+
+pub case-A-written : cardOf (caseA .table) (caseA .request) ≡ printed
+unfolding cardOf
+case-A-written = refl
+
+pub case-A-read : readOf printed ≡ gives (record { table = caseA .table; request = caseA .request })
+unfolding readWith recordsOf recordOf marked
+case-A-read = refl
+
+-- an old record where the second slot's may stand, cut to its mark
+pub case-A-old : readOf (take 22 printed ++ TA) ≡ refuses (refusal 12 22)
+unfolding readWith recordsOf recordOf marked
+case-A-old = refl

@@ -1,0 +1,13 @@
+-- The laws of the card.
+pub mod CaseA
+pub mod Numbers
+pub mod Marks
+pub mod Records
+pub mod Steps
+pub mod ReadsBack
+pub mod WritesBack
+pub mod Exactly
+pub mod Length
+pub mod Prefix
+pub mod Refusals
+pub mod Answers

@@ -1,0 +1,118 @@
+-- A written card reads back as the table and the request, entries of empty slots being 0.
+use mathlib.Core.Path.{_≡_, refl, sym, ap, ap₂, _∙_}
+use mathlib.Core.List.{List, [], _∷_, _++_}
+use mathlib.Core.Bool.{Bool, true, false}
+use Prim.Native.Nat.{ℕ, zero, suc, _+_, _≤_, _<_}
+use native.Mathlib.Omega.{arith}
+use lib.ListN.{length, drop, replicate}
+use Rattle.lines.specs.declared.Run.{Run}
+use Rattle.lines.specs.declared.Held.{Held}
+use Rattle.lines.specs.declared.Held.the-variants.{Nothing, Running, Waiting}
+use Rattle.lines.specs.declared.Slot.{Slot}
+use Rattle.lines.specs.declared.Table.{Table}
+use Rattle.lines.specs.declared.Request.{Request}
+use Rattle.lines.specs.Slots.{pick, both, empty, Said, gives}
+use Rattle.card.specs.Bytes.{le, value, CK, TF, marked}
+use Rattle.card.specs.Card.{clockRecord, lineRecord, requestRecord, slotRecords, oneMore, usedFrom, used, cardOf, Card, entryOf, entries, cleared, Carried, AllCarried, Fits}
+use Rattle.card.specs.Reading.{after, ending, broken, recordsOf, readWith, readOf}
+use Rattle.card.proofs.Numbers.{value-le}
+use Rattle.card.proofs.Marks.{false-true, marked-here}
+use Rattle.card.proofs.Records.{sees-line, sees-free, sees-last}
+use Rattle.card.proofs.Steps.{reads-clock, records-line, records-free, records-last}
+
+-- a card from its parts
+abbrev pub made : (clock : ℕ) → List Slot → List ℕ → (Cn Tn : ℕ) → Card
+made k ss ts c n =
+    record { table = record { clock = k; slots = ss }; request = record { stretched = ts; need = c; period = n } }
+
+pub oneMore-some : (u : ℕ) → (u ≡ 0 → ⊥) → oneMore u ≡ suc u
+oneMore-some zero h = absurd (h refl)
+oneMore-some (suc u) h = refl
+
+pub oneMore-none : (u : ℕ) → oneMore u ≡ 0 → u ≡ 0
+oneMore-none zero h = refl
+oneMore-none (suc u) h = absurd (omega arith)
+
+-- where nothing is held all slots are empty
+none-held : (ss : List Slot) (ts : List ℕ) → AllCarried ss ts → used ss ≡ 0
+    → (ss ≡ replicate (length ss) empty) × (entries ss ts ≡ replicate (length ss) 0)
+none-held [] [] f u = (refl, refl)
+none-held [] (t ∷ ts) f u = absurd f
+none-held (s ∷ ss) [] f u = absurd f
+none-held (s ∷ ss) (t ∷ ts) f u = go (s .held) (f .0) u (none-held ss ts (f .1))
+  where
+    go : (h : Held) → Carried h t → usedFrom h (used ss) ≡ 0
+        → (used ss ≡ 0 → (ss ≡ replicate (length ss) empty) × (entries ss ts ≡ replicate (length ss) 0))
+        → (_≡_ {A = List Slot} (record { held = h } ∷ ss) (empty ∷ replicate (length ss) empty))
+        × (entryOf h t ∷ entries ss ts ≡ 0 ∷ replicate (length ss) 0)
+    go Nothing g v ih =
+        let i = ih (oneMore-none (used ss) v) in
+        (ap (λ (x : List Slot). empty ∷ x) (i .0), ap (λ (y : List ℕ). 0 ∷ y) (i .1))
+    go (Running r) g v ih = absurd (omega arith)
+    go (Waiting w) g v ih = absurd g
+
+pub reads-last : (k c n : ℕ) → c < 65536 → n < 65536 → (left : ℕ) (gap : Bool) (at : ℕ) → (gap ≡ true → ⊥)
+    → recordsOf k left gap at (requestRecord c n) ≡ gives (ending k left c n)
+reads-last k c n hc hn left true at g = absurd (g refl)
+reads-last k c n hc hn left false at g = records-last k left false at (requestRecord c n) c n (sees-last left c n [] hc hn)
+
+pub reads-free : (k m : ℕ) (gap : Bool) (at : ℕ) (x : List ℕ)
+    → recordsOf k (suc m) gap at (TF ++ x) ≡ after (empty ∷ []) (0 ∷ []) (recordsOf k m true (at + 2) x)
+reads-free k m gap at x = records-free k m gap at (TF ++ x) (sees-free (suc m) x (omega arith))
+
+pub reads-line : (k m : ℕ) (gap : Bool) (at : ℕ) (r : Run) (t : ℕ) (x : List ℕ) → Carried (Running r) t
+    → recordsOf k (suc m) gap at (lineRecord r t ++ x)
+    ≡ after (record { held = Running r } ∷ []) (t ∷ []) (recordsOf k m false (at + 12) x)
+reads-line k m gap at r t x f =
+    records-line k m gap at (lineRecord r t ++ x) r t (sees-line (suc m) r t x (omega arith) (f .0) (f .1) (f .2) (f .3) (f .4))
+
+module _ (k c n : ℕ) (hc : c < 65536) (hn : n < 65536) where
+  -- the records of all slots up to the last used one, then RQ
+  abbrev rest : List Slot → List ℕ → List ℕ
+  rest ss ts = slotRecords (used ss) ss ts ++ requestRecord c n
+
+  one : (h : Held) (ss : List Slot) (t : ℕ) (ts : List ℕ) (gap : Bool) (at : ℕ) → Carried h t → AllCarried ss ts
+      → (gap ≡ true → usedFrom h (used ss) ≡ 0 → ⊥)
+      → ((o : Bool) (a : ℕ) → (o ≡ true → used ss ≡ 0 → ⊥) → recordsOf k (length ss) o a (rest ss ts) ≡ gives (made k ss (entries ss ts) c n))
+      → recordsOf k (suc (length ss)) gap at (slotRecords (usedFrom h (used ss)) (record { held = h } ∷ ss) (t ∷ ts) ++ requestRecord c n)
+      ≡ gives (made k (record { held = h } ∷ ss) (entryOf h t ∷ entries ss ts) c n)
+  one (Running r) ss t ts gap at fh f g ih =
+      reads-line k (length ss) gap at r t (rest ss ts) fh
+      ∙ ap (after (record { held = Running r } ∷ []) (t ∷ [])) (ih false (at + 12) (λ e u. false-true e))
+  one (Waiting w) ss t ts gap at fh f g ih = absurd fh
+  one Nothing ss t ts gap at fh f g ih = go (used ss) refl
+    where
+      go : (u : ℕ) → used ss ≡ u
+          → recordsOf k (suc (length ss)) gap at (slotRecords (oneMore (used ss)) (empty ∷ ss) (t ∷ ts) ++ requestRecord c n)
+          ≡ gives (made k (empty ∷ ss) (0 ∷ entries ss ts) c n)
+      go zero e =
+          let v = none-held ss ts f e in
+          ap (λ (u : ℕ). recordsOf k (suc (length ss)) gap at (slotRecords (oneMore u) (empty ∷ ss) (t ∷ ts) ++ requestRecord c n)) e
+          ∙ reads-last k c n hc hn (suc (length ss)) gap at (λ o. g o (ap oneMore e))
+          ∙ ap₂ (λ (x : List Slot) (y : List ℕ). gives (made k (empty ∷ x) (0 ∷ y) c n)) (sym (v .0)) (sym (v .1))
+      go (suc u) e =
+          ap (λ (u : ℕ). recordsOf k (suc (length ss)) gap at (slotRecords u (empty ∷ ss) (t ∷ ts) ++ requestRecord c n))
+          (oneMore-some (used ss) (omega arith))
+          ∙ reads-free k (length ss) gap at (rest ss ts)
+          ∙ ap (after (empty ∷ []) (0 ∷ [])) (ih true (at + 2) (λ o z. omega arith))
+
+  pub records-read : (ss : List Slot) (ts : List ℕ) (gap : Bool) (at : ℕ) → AllCarried ss ts → (gap ≡ true → used ss ≡ 0 → ⊥)
+      → recordsOf k (length ss) gap at (rest ss ts) ≡ gives (made k ss (entries ss ts) c n)
+  records-read [] [] gap at f g = reads-last k c n hc hn 0 gap at (λ e. g e refl)
+  records-read [] (t ∷ ts) gap at f g = absurd f
+  records-read (s ∷ ss) [] gap at f g = absurd f
+  records-read (s ∷ ss) (t ∷ ts) gap at f g = one (s .held) ss t ts gap at (f .0) (f .1) g (λ o a. records-read ss ts o a (f .1))
+
+-- a card that opens with the clock's record
+pub after-clock : (n k : ℕ) (x : List ℕ) → k < 18446744073709551616 → readWith n (clockRecord k ++ x) ≡ recordsOf k n false 10 x
+after-clock n k x h =
+    reads-clock n (clockRecord k ++ x) (omega arith) (marked-here CK (le 8 k ++ x))
+    ∙ ap (λ (v : ℕ). recordsOf v n false 10 x) (value-le 8 k x h)
+
+pub reads-back : (n : ℕ) (t : Table) (q : Request) → Fits n t q
+    → readWith n (cardOf t q) ≡ gives (record { table = t; request = cleared t q })
+unfolding cardOf
+reads-back n t q f =
+    after-clock n (t .clock) _ (f .clock)
+    ∙ ap (λ (m : ℕ). recordsOf (t .clock) m false 10 (slotRecords (used (t .slots)) (t .slots) (q .stretched) ++ requestRecord (q .need) (q .period))) (sym (f .slots))
+    ∙ records-read (t .clock) (q .need) (q .period) (f .need) (f .period) (t .slots) (q .stretched) false 10 (f .lines) (λ e u. false-true e)

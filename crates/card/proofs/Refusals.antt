@@ -1,0 +1,154 @@
+-- The refusals of document 01, each with its offset, behind whole records of any number of slots.
+use mathlib.Core.Path.{_≡_, refl, sym, ap, ap₂, _∙_}
+use mathlib.Core.List.{List, [], _∷_, _++_, append-assoc}
+use mathlib.Core.Bool.{Bool, true, false}
+use Prim.Native.Nat.{ℕ, zero, suc, _+_, _≤_, _<_}
+use native.Mathlib.Omega.{arith}
+use native.Mathlib.Nat.{zero-add, add-zero, suc-add}
+use native.Mathlib.Decide.{decLt}
+use lib.ListN.{length, drop}
+use lib.Dec.{leb, eqb}
+use borrow.Author.Tests.{lt-leb, ne-eqb}
+use Rattle.lines.specs.declared.Held.{Held}
+use Rattle.lines.specs.declared.Held.the-variants.{Nothing, Running, Waiting}
+use Rattle.lines.specs.declared.Slot.{Slot}
+use Rattle.lines.specs.declared.Refusal.{Refusal}
+use Rattle.lines.specs.Slots.{pick, both, empty, isNothing, refusal, Said, gives, refuses}
+use Rattle.card.specs.declared.Record.{Record}
+use Rattle.card.specs.declared.Record.the-variants.{Line, Free, Last, Refused}
+use Rattle.card.specs.Bytes.{value, CK, TB, TF, TA, RQ, marked}
+use Rattle.card.specs.Card.{clockRecord, lineRecord, slotRecord, slotRecords, entryOf, entries, Carried, AllCarried}
+use Rattle.card.specs.Reading.{lastOf, recordOf, after, ending, closing, broken, recordsOf, readWith}
+use Rattle.card.proofs.Marks.{marked-short, marked-other}
+use Rattle.card.proofs.Records.{at-last, at-end, at-line, at-old, at-unknown, line-cut, last-cut, last-whole}
+use Rattle.card.proofs.Steps.{records-last, records-refused, after-after, after-none}
+use Rattle.card.proofs.ReadsBack.{reads-free, reads-line, after-clock}
+
+-- the last record before was TF
+abbrev pub afterFree : Bool → List Slot → Bool
+afterFree gap [] = gap
+afterFree gap (s ∷ ss) = afterFree (isNothing (s .held)) ss
+
+-- the records of all these slots, empty ones at the end too
+abbrev pub allRecords : List Slot → List ℕ → List ℕ
+allRecords ss ts = slotRecords (length ss) ss ts
+
+-- one whole record is passed, and what follows from there on
+pass-one : (k left : ℕ) (x : List ℕ) (h : Held) (ss : List Slot) (t : ℕ) (ts : List ℕ) (gap : Bool) (at : ℕ) → Carried h t
+    → ((o : Bool) (a : ℕ) → recordsOf k (length ss + left) o a (allRecords ss ts ++ x)
+    ≡ after ss (entries ss ts) (recordsOf k left (afterFree o ss) (a + length (allRecords ss ts)) x))
+    → recordsOf k (suc (length ss) + left) gap at (slotRecord h t ++ (allRecords ss ts ++ x))
+    ≡ after (record { held = h } ∷ ss) (entryOf h t ∷ entries ss ts)
+    (recordsOf k left (afterFree (isNothing h) ss) (at + length (slotRecord h t ++ allRecords ss ts)) x)
+pass-one k left x (Waiting w) ss t ts gap at f ih = absurd f
+pass-one k left x Nothing ss t ts gap at f ih =
+    let e : at + 2 + length (allRecords ss ts) ≡ at + length (TF ++ allRecords ss ts) = omega arith in
+    rw suc-add
+    (reads-free k (length ss + left) gap at (allRecords ss ts ++ x)
+    ∙ ap (after (empty ∷ []) (0 ∷ [])) (ih true (at + 2))
+    ∙ after-after (empty ∷ []) ss (0 ∷ []) (entries ss ts) (recordsOf k left (afterFree true ss) (at + 2 + length (allRecords ss ts)) x)
+    ∙ ap (λ (a : ℕ). after (empty ∷ ss) (0 ∷ entries ss ts) (recordsOf k left (afterFree true ss) a x)) e)
+pass-one k left x (Running r) ss t ts gap at f ih =
+    let s : Slot = record { held = Running r } in
+    let e : at + 12 + length (allRecords ss ts) ≡ at + length (lineRecord r t ++ allRecords ss ts) = omega arith in
+    rw suc-add
+    (reads-line k (length ss + left) gap at r t (allRecords ss ts ++ x) f
+    ∙ ap (after (s ∷ []) (t ∷ [])) (ih false (at + 12))
+    ∙ after-after (s ∷ []) ss (t ∷ []) (entries ss ts) (recordsOf k left (afterFree false ss) (at + 12 + length (allRecords ss ts)) x)
+    ∙ ap (λ (a : ℕ). after (s ∷ ss) (t ∷ entries ss ts) (recordsOf k left (afterFree false ss) a x)) e)
+
+pub passed : (k left : ℕ) (x : List ℕ) (ss : List Slot) (ts : List ℕ) (gap : Bool) (at : ℕ) → AllCarried ss ts
+    → recordsOf k (length ss + left) gap at (allRecords ss ts ++ x)
+    ≡ after ss (entries ss ts) (recordsOf k left (afterFree gap ss) (at + length (allRecords ss ts)) x)
+passed k left x [] [] gap at f = rw (zero-add, add-zero) (sym (after-none (recordsOf k left gap at x)))
+passed k left x [] (t ∷ ts) gap at f = absurd f
+passed k left x (s ∷ ss) [] gap at f = absurd f
+passed k left x (s ∷ ss) (t ∷ ts) gap at f =
+    ap (recordsOf k (suc (length ss) + left) gap at) (append-assoc (slotRecord (s .held) t) (allRecords ss ts) x)
+    ∙ pass-one k left x (s .held) ss t ts gap at (f .0) (λ o a. passed k left x ss ts o a (f .1))
+
+-- the first record: "CK … First, once."
+module _ (n : ℕ) (l : List ℕ) where
+  pub no-clock : marked CK l ≡ false → readWith n l ≡ broken 0
+  unfolding readWith
+  no-clock h = go (leb 10 (length l))
+    where
+      go : (o : Bool) → pick (both o (marked CK l)) (recordsOf (value 8 l 2) n false 10 (drop 10 l)) (broken 0) ≡ broken 0
+      go true = ap (λ (u : Bool). pick u (recordsOf (value 8 l 2) n false 10 (drop 10 l)) (broken 0)) h
+      go false = refl
+
+  pub cut-clock : length l < 10 → readWith n l ≡ broken 0
+  unfolding readWith
+  cut-clock h = ap (λ (o : Bool). pick (both o (marked CK l)) (recordsOf (value 8 l 2) n false 10 (drop 10 l)) (broken 0)) (lt-leb 10 (length l) h)
+
+-- the bytes x behind the clock and the records of these slots, where so many slots are left
+module _ (k : ℕ) (ss : List Slot) (ts : List ℕ) (left : ℕ) (x : List ℕ) (hk : k < 18446744073709551616) (f : AllCarried ss ts) where
+  abbrev pub slotsOf : ℕ
+  slotsOf = length ss + left
+
+  abbrev pub card : List ℕ
+  card = clockRecord k ++ (allRecords ss ts ++ x)
+
+  abbrev pub offset : ℕ
+  offset = 10 + length (allRecords ss ts)
+
+  there : (r : Refusal) → recordsOf k left (afterFree false ss) offset x ≡ refuses r → readWith slotsOf card ≡ refuses r
+  there r e =
+      after-clock slotsOf k (allRecords ss ts ++ x) hk ∙ passed k left x ss ts false 10 f ∙ ap (after ss (entries ss ts)) e
+
+  refused-there : (m : ℕ) → recordOf left x ≡ Refused m → readWith slotsOf card ≡ refuses (refusal m offset)
+  refused-there m e = there (refusal m offset) (records-refused k left (afterFree false ss) offset x m e)
+
+  -- "A missing, unknown or misplaced mark": no RQ, and no slot's mark
+  pub unknown-mark : marked RQ x ≡ false → marked TB x ≡ false → marked TF x ≡ false → marked TA x ≡ false
+      → readWith slotsOf card ≡ broken offset
+  unknown-mark q b c d = refused-there 11 (go left refl)
+    where
+      go : (n : ℕ) → left ≡ n → recordOf left x ≡ Refused 11
+      go zero e = at-end left x q e
+      go (suc n) e = at-unknown left x q (omega arith) b c d
+
+  pub missing-mark : length x < 2 → readWith slotsOf card ≡ broken offset
+  missing-mark h = unknown-mark (marked-short RQ x h) (marked-short TB x h) (marked-short TF x h) (marked-short TA x h)
+
+  pub misplaced-mark : marked CK x ≡ true → readWith slotsOf card ≡ broken offset
+  unfolding marked
+  misplaced-mark h =
+      unknown-mark (marked-other CK RQ x h refl) (marked-other CK TB x h refl) (marked-other CK TF x h refl) (marked-other CK TA x h refl)
+
+  -- "a cut record"
+  pub cut-line : 0 < left → marked TB x ≡ true → length x < 12 → readWith slotsOf card ≡ broken offset
+  unfolding marked
+  cut-line p h c = refused-there 11 (at-line left x (marked-other TB RQ x h refl) p h ∙ line-cut x c)
+
+  pub cut-request : marked RQ x ≡ true → length x < 6 → readWith slotsOf card ≡ broken offset
+  cut-request h c = refused-there 11 (at-last left x h ∙ last-cut x c)
+
+  -- "a seventeenth slot record": its mark is TB, TF or TA, and no slot is left
+  pub one-record-too-many : left ≡ 0 → (b : ℕ) → marked (0x54 ∷ b ∷ []) x ≡ true → readWith slotsOf card ≡ broken offset
+  unfolding marked
+  one-record-too-many e b h = refused-there 11 (at-end left x (marked-other (0x54 ∷ b ∷ []) RQ x h refl) e)
+
+  -- "for TF before RQ, the offset of RQ"
+  pub free-before-request : afterFree false ss ≡ true → marked RQ x ≡ true → readWith slotsOf card ≡ broken offset
+  free-before-request g h =
+      elim (decLt (length x) 6) [
+        | yes c ↦ cut-request h c
+        | no w ↦ there (refusal 11 offset)
+            (records-last k left (afterFree false ss) offset x _ _ (at-last left x h ∙ last-whole x (omega arith))
+            ∙ ap (λ (o : Bool). closing o offset (length x) (ending k left (value 2 x 2) (value 2 x 4))) g)
+      ]
+
+  -- "a byte after RQ … at the offset where that … byte begins"
+  pub byte-after-request : afterFree false ss ≡ false → marked RQ x ≡ true → 6 < length x → readWith slotsOf card ≡ broken (offset + 6)
+  byte-after-request g h w =
+      there (refusal 11 (offset + 6))
+      (records-last k left (afterFree false ss) offset x _ _ (at-last left x h ∙ last-whole x (omega arith))
+      ∙ ap₂ (λ (o u : Bool). pick o (broken offset) (pick u (gives (ending k left (value 2 x 2) (value 2 x 4))) (broken (offset + 6))))
+      g (ne-eqb (length x) 6 (λ e. omega arith)))
+
+  -- "A TA mark where a slot record may stand is refusal 12, its record cut or whole."
+  pub old-mark : 0 < left → marked TA x ≡ true → readWith slotsOf card ≡ refuses (refusal 12 offset)
+  unfolding marked
+  old-mark p h =
+      refused-there 12 (at-old left x (marked-other TA RQ x h refl) p (marked-other TA TB x h refl) (marked-other TA TF x h refl) h)

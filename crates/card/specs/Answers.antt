@@ -1,0 +1,58 @@
+-- What the reader and the writer answer, and what the lent buffer holds then.
+use Prim.Native.Nat.{ℕ}
+use mathlib.Core.List.{List, _++_}
+use mathlib.Core.Option.{Option, none, some}
+use lib.ListN.{length, drop, replicate}
+use lib.Dec.{leb}
+use Rattle.lines.specs.declared.Table.{Table}
+use Rattle.lines.specs.declared.Request.{Request}
+use Rattle.lines.specs.Slots.{pick, emptyTable, isWaiting, lowestOf, refusal, Said, gives, refuses}
+use Rattle.card.specs.declared.CardAnswer.{CardAnswer}
+use Rattle.card.specs.declared.CardAnswer.the-variants.{Read, Refused}
+use Rattle.card.specs.declared.ReadCard.{ReadCard}
+use Rattle.card.specs.declared.WriteAnswer.{WriteAnswer}
+use Rattle.card.specs.Card.{Card, cardOf}
+
+-- "a request of zeros"
+abbrev pub zeroRequest : Request
+zeroRequest = record { stretched = replicate 16 0; need = 0; period = 0 }
+
+-- "With a refusal the reader hands out the empty table and a request of zeros."
+abbrev pub handed : Said Card → ReadCard
+handed (gives c) = record { table = c .table; request = c .request; answer = Read }
+handed (refuses r) = record { table = emptyTable; request = zeroRequest; answer = Refused r }
+
+-- what the reader's answer says of what it hands out
+abbrev pub saidWith : Table → Request → CardAnswer → Said Card
+saidWith t q Read = gives (record { table = t; request = q })
+saidWith t q (Refused r) = refuses r
+
+abbrev pub saidRead : ReadCard → Said Card
+saidRead c = saidWith (c .table) (c .request) (c .answer)
+
+-- what the writer's answer says: the card's length, or the refusal
+abbrev pub saidWritten : WriteAnswer → Said ℕ
+saidWritten (WriteAnswer.Length n) = gives n
+saidWritten (WriteAnswer.Refused r) = refuses r
+
+-- "buffer too short for the card" is 13; "otherwise it answers the card's length"
+unfoldable pub lengthOf : Table → Request → (room : ℕ) → Said ℕ
+lengthOf t q room =
+    pick (leb (length (cardOf t q)) room) (gives (length (cardOf t q))) (refuses (refusal 13 0))
+
+-- "a slot holds a waiting line" is 3, at the lowest such slot
+abbrev pub unlessWaiting : Option ℕ → Said ℕ → Said ℕ
+unlessWaiting (some k) s = refuses (refusal 3 k)
+unlessWaiting none s = s
+
+-- "The writer refuses 3, then 13"
+abbrev pub writeOf : Table → Request → (room : ℕ) → Said ℕ
+writeOf t q room = unlessWaiting (lowestOf isWaiting (t .slots)) (lengthOf t q room)
+
+-- the buffer after an answer: "bytes after the card stay"
+abbrev pub filled : List ℕ → List ℕ → Said ℕ → List ℕ
+filled card l (gives n) = card ++ drop n l
+filled card l (refuses r) = l
+
+abbrev pub bufferOf : Table → Request → List ℕ → List ℕ
+bufferOf t q l = filled (cardOf t q) l (writeOf t q (length l))

@@ -1,0 +1,102 @@
+-- The bytes of the card, record by record. Lists of any length: sixteen is the code's number.
+use Prim.Native.Nat.{ℕ, zero, suc, _+_, _<_}
+use mathlib.Core.Path.{_≡_}
+use mathlib.Core.List.{List, [], _∷_, _++_}
+use lib.ListN.{length}
+use Rattle.lines.specs.declared.Run.{Run}
+use Rattle.lines.specs.declared.Held.{Held}
+use Rattle.lines.specs.declared.Held.the-variants.{Nothing, Running, Waiting}
+use Rattle.lines.specs.declared.Slot.{Slot}
+use Rattle.lines.specs.declared.Table.{Table}
+use Rattle.lines.specs.declared.Request.{Request}
+use Rattle.card.specs.Bytes.{le, CK, TB, TF, RQ}
+
+-- "CK, then the clock, 8 bytes."
+abbrev pub clockRecord : (clock : ℕ) → List ℕ
+clockRecord k = CK ++ le 8 k
+
+-- "TB, then C, T, T', age, remaining, 2 bytes each"
+abbrev pub lineRecord : Run → (T' : ℕ) → List ℕ
+lineRecord r t = TB ++ (le 2 (r .need) ++ (le 2 (r .period) ++ (le 2 t ++ (le 2 (r .age) ++ le 2 (r .remaining)))))
+
+-- "or TF alone for a slot that holds nothing". A waiting line has no record: no card carries one.
+abbrev pub slotRecord : Held → (T' : ℕ) → List ℕ
+slotRecord Nothing t = TF
+slotRecord (Running r) t = lineRecord r t
+slotRecord (Waiting w) t = []
+
+-- "RQ, then Cn, Tn, 2 bytes each."
+abbrev pub requestRecord : (Cn Tn : ℕ) → List ℕ
+requestRecord c t = RQ ++ (le 2 c ++ le 2 t)
+
+-- the records of the first n slots, "from 0 up"
+abbrev pub slotRecords : ℕ → List Slot → (stretched : List ℕ) → List ℕ
+slotRecords zero ss ts = []
+slotRecords (suc n) [] ts = []
+slotRecords (suc n) (s ∷ ss) [] = []
+slotRecords (suc n) (s ∷ ss) (t ∷ ts) = slotRecord (s .held) t ++ slotRecords n ss ts
+
+-- one slot more in front of n that are used, if there are any
+abbrev pub oneMore : ℕ → ℕ
+oneMore zero = zero
+oneMore (suc n) = suc (suc n)
+
+abbrev pub usedFrom : Held → ℕ → ℕ
+usedFrom Nothing n = oneMore n
+usedFrom (Running r) n = suc n
+usedFrom (Waiting w) n = suc n
+
+-- how many slots there are up to the last that holds something: "Slots after the last record hold nothing"
+abbrev pub used : List Slot → ℕ
+used [] = zero
+used (s ∷ ss) = usedFrom (s .held) (used ss)
+
+unfoldable pub cardOf : Table → Request → List ℕ
+cardOf t q =
+    clockRecord (t .clock) ++
+    (slotRecords (used (t .slots)) (t .slots) (q .stretched) ++
+    requestRecord (q .need) (q .period))
+
+-- a table and a request, as a card carries them
+pub record Card : Type 0 where
+  pub table : Table
+  pub request : Request
+
+abbrev pub carrying : Table → Request → Card
+carrying t q = record { table = t; request = q }
+
+-- "entries of empty slots being 0"
+abbrev pub entryOf : Held → ℕ → ℕ
+entryOf Nothing t = 0
+entryOf (Running r) t = t
+entryOf (Waiting w) t = t
+
+abbrev pub entries : List Slot → List ℕ → List ℕ
+entries [] ts = []
+entries (s ∷ ss) [] = []
+entries (s ∷ ss) (t ∷ ts) = entryOf (s .held) t ∷ entries ss ts
+
+abbrev pub cleared : Table → Request → Request
+cleared t q = record { stretched = entries (t .slots) (q .stretched); need = q .need; period = q .period }
+
+-- the numbers of a slot fit two bytes each, and no line waits
+abbrev pub Carried : Held → (T' : ℕ) → Type 0
+Carried Nothing t = Unit {0}
+Carried (Running r) t =
+    (r .need < 65536) × (r .period < 65536) × (t < 65536) × (r .age < 65536) × (r .remaining < 65536)
+Carried (Waiting w) t = ⊥
+
+-- there is an entry for each slot
+abbrev pub AllCarried : List Slot → List ℕ → Type 0
+AllCarried [] [] = Unit {0}
+AllCarried [] (t ∷ ts) = ⊥
+AllCarried (s ∷ ss) [] = ⊥
+AllCarried (s ∷ ss) (t ∷ ts) = Carried (s .held) t × AllCarried ss ts
+
+-- a table of n slots without waiting lines and a request, whose numbers fit their widths
+pub record Fits (n : ℕ) (t : Table) (q : Request) : Type 0 where
+  pub slots : length (t .slots) ≡ n
+  pub clock : t .clock < 18446744073709551616
+  pub lines : AllCarried (t .slots) (q .stretched)
+  pub need : q .need < 65536
+  pub period : q .period < 65536

@@ -1,0 +1,75 @@
+-- The reading of a card: a recursive function on its bytes.
+use Prim.Native.Nat.{ℕ, zero, suc, _+_}
+use mathlib.Core.List.{List, [], _∷_, _++_}
+use mathlib.Core.Bool.{Bool, true, false}
+use lib.ListN.{length, drop, replicate}
+use lib.Dec.{eqb, leb, ltb}
+use Rattle.lines.specs.declared.Held.the-variants.{Running}
+use Rattle.lines.specs.declared.Slot.{Slot}
+use Rattle.lines.specs.Slots.{pick, both, empty, refusal, Said, gives, refuses}
+use Rattle.card.specs.declared.Record.{Record}
+use Rattle.card.specs.declared.Record.the-variants.{Line, Free, Last, Refused}
+use Rattle.card.specs.Bytes.{value, CK, TB, TF, TA, RQ, marked}
+use Rattle.card.specs.Card.{Card}
+
+-- "TB, then C, T, T', age, remaining"; "a cut record" is 11
+abbrev pub lineOf : List ℕ → Record
+lineOf l =
+    pick (leb 12 (length l))
+    (Line (record { need = value 2 l 2; period = value 2 l 4; age = value 2 l 8; remaining = value 2 l 10 }) (value 2 l 6))
+    (Refused 11)
+
+abbrev pub lastOf : List ℕ → Record
+lastOf l = pick (leb 6 (length l)) (Last (value 2 l 2) (value 2 l 4)) (Refused 11)
+
+-- where a slot record may stand: "A TA mark … is refusal 12, its record cut or whole. A missing, unknown or misplaced mark" is 11
+abbrev pub slotRecordOf : List ℕ → Record
+slotRecordOf l =
+    pick (marked TB l) (lineOf l) (pick (marked TF l) Free (pick (marked TA l) (Refused 12) (Refused 11)))
+
+-- what stands at the front where so many slots are left: "a seventeenth slot record" is 11
+unfoldable pub recordOf : (left : ℕ) → List ℕ → Record
+recordOf left l = pick (marked RQ l) (lastOf l) (pick (ltb 0 left) (slotRecordOf l) (Refused 11))
+
+abbrev pub broken : (place : ℕ) → Said Card
+broken at = refuses (refusal 11 at)
+
+-- the slots and entries read so far, in front of those that are read after
+abbrev pub after : List Slot → List ℕ → Said Card → Said Card
+after ss ts (gives c) =
+    gives (record {
+      table = record { clock = c .table .clock; slots = ss ++ c .table .slots };
+      request = record { stretched = ts ++ c .request .stretched; need = c .request .need; period = c .request .period };
+    })
+after ss ts (refuses r) = refuses r
+
+-- "Slots after the last record hold nothing"
+abbrev pub ending : (clock left Cn Tn : ℕ) → Card
+ending k left c n = record {
+  table = record { clock = k; slots = replicate left empty };
+  request = record { stretched = replicate left 0; need = c; period = n };
+}
+
+-- RQ at an offset, with so many bytes from there on: "a byte after RQ … for TF before RQ, the offset of RQ"
+abbrev pub closing : (gap : Bool) (at bytes : ℕ) → Card → Said Card
+closing gap at n c = pick gap (broken at) (pick (eqb n 6) (gives c) (broken (at + 6)))
+
+-- a record at an offset; next reads what follows
+abbrev pub step : (clock left : ℕ) (gap : Bool) (at : ℕ) → List ℕ → (Bool → ℕ → List ℕ → Said Card) → Record → Said Card
+step k left gap at l next (Line r t) = after (record { held = Running r } ∷ []) (t ∷ []) (next false (at + 12) (drop 12 l))
+step k left gap at l next Free = after (empty ∷ []) (0 ∷ []) (next true (at + 2) (drop 2 l))
+step k left gap at l next (Last c n) = closing gap at (length l) (ending k left c n)
+step k left gap at l next (Refused n) = refuses (refusal n at)
+
+-- the records from an offset on, with so many slots left; gap says that the record before was TF
+unfoldable pub recordsOf : (clock left : ℕ) (gap : Bool) (at : ℕ) → List ℕ → Said Card
+recordsOf k zero gap at l = step k 0 gap at l (λ g a x. broken at) (recordOf 0 l)
+recordsOf k (suc n) gap at l = step k (suc n) gap at l (recordsOf k n) (recordOf (suc n) l)
+
+-- the card of a unit with n slots: "CK … First, once."
+unfoldable pub readWith : (slots : ℕ) → List ℕ → Said Card
+readWith n l = pick (both (leb 10 (length l)) (marked CK l)) (recordsOf (value 8 l 2) n false 10 (drop 10 l)) (broken 0)
+
+-- the card of document 01
+abbrev pub readOf : List ℕ → Said Card
+readOf l = readWith 16 l

@@ -1,0 +1,30 @@
+// The words of the card: what stands in it, and what its reader and its writer answer.
+use lines::Refusal;
+use lines::Request;
+use lines::Run;
+use lines::Table;
+
+// What stands where a slot record or RQ may stand: a line with its T', a slot that holds nothing, the new line, or a refusal's number.
+pub enum Record {
+    Line(Run, u16),
+    Free,
+    Last(u16, u16),
+    Refused(u16),
+}
+
+pub enum CardAnswer {
+    Read,
+    Refused(Refusal),
+}
+
+// What the reader hands out. The table and the request stand beside the answer, as they are there with a refusal too.
+pub struct ReadCard {
+    pub table: Table,
+    pub request: Request,
+    pub answer: CardAnswer,
+}
+
+pub enum WriteAnswer {
+    Length(usize),
+    Refused(Refusal),
+}

@@ -1,0 +1,144 @@
+-- From the slots to the arrays: what is gathered is the list of the running lines, and each of them is fit.
+use Prim.Native.Nat.{ℕ, zero, suc, _+_, _≤_, _<_}
+use mathlib.Core.Path.{_≡_, refl, ap, sym, _∙_}
+use mathlib.Core.List.{List, [], _∷_, _++_, append-assoc, append-nil}
+use native.Mathlib.Nat.{le-of-suc-le-suc}
+use native.Mathlib.Numerals.{add-one}
+use native.Mathlib.Omega.{arith}
+use lib.ListN.{length, getD, set, drop, drop-of-length-le}
+use lib.Seq.{getD-set-same, getD-set-other}
+use borrow.Author.Count.{below-more}
+use Rattle.periods.specs.Multiples.{All}
+use Rattle.lines.specs.declared.Held.{Held}
+use Rattle.lines.specs.declared.Held.the-variants.{Nothing, Running, Waiting}
+use Rattle.lines.specs.declared.Wait.{Wait}
+use Rattle.lines.specs.declared.Slot.{Slot}
+use Rattle.lines.specs.Slots.{at}
+use Rattle.lines.specs.Grounds.{stretch, stretched}
+use Rattle.lines.proofs.Read.{read-any}
+use Rattle.demand.specs.declared.gather.Gathered.{Gathered}
+use Rattle.demand.specs.Lines.{Line, lineIn, linesIn, lineAt, linesTo, linesOf, Fit, PackedIn, Fine}
+
+-- ---- one line more in the arrays
+
+module _ (e c n p : List ℕ) (i x y z w : ℕ) where
+  -- the lines before i stay
+  lines-keep : (k : ℕ) → k ≤ i → linesTo (set e i x) (set c i y) (set n i z) (set p i w) k ≡ linesTo e c n p k
+  unfolding linesTo
+  lines-keep zero h = refl
+  lines-keep (suc k) h =
+      rw (
+        lines-keep k (omega arith),
+        getD-set-other e i k x 0 (λ g. omega arith),
+        getD-set-other c i k y 0 (λ g. omega arith),
+        getD-set-other n i k z 0 (λ g. omega arith),
+        getD-set-other p i k w 0 (λ g. omega arith),
+      )
+
+  pub lines-push : i < length e → i < length c → i < length n → i < length p
+      → linesTo (set e i x) (set c i y) (set n i z) (set p i w) (i + 1)
+      ≡ linesTo e c n p i ++ (record { end = x; remaining = y; need = z; period = w } ∷ [])
+  unfolding linesTo
+  lines-push g h j k =
+      rw (add-one i, lines-keep i (omega arith), getD-set-same e i x 0 g, getD-set-same c i y 0 h, getD-set-same n i z 0 j, getD-set-same p i w 0 k)
+
+-- ---- slot by slot
+
+asked-step : (l : List Slot) (p : ℕ → ℕ) (i : ℕ) → i < length l
+    → linesIn (drop i (stretched l p)) ≡ lineIn (stretch (p i) (at l i)) ++ linesIn (drop (suc i) (stretched l p))
+unfolding stretched linesIn
+asked-step [] p i h = absurd (omega arith)
+asked-step (s ∷ l) p zero h = refl
+asked-step (s ∷ l) p (suc i) h = asked-step l (λ k. p (suc k)) i (le-of-suc-le-suc h)
+
+asked-length : (l : List Slot) (p : ℕ → ℕ) → length (stretched l p) ≡ length l
+unfolding stretched
+asked-length [] p = refl
+asked-length (s ∷ l) p = ap suc (asked-length l (λ k. p (suc k)))
+
+-- a gathering that has passed i slots: what is left gives the whole
+pub record Gathering (l : List Slot) (p : ℕ → ℕ) (i : ℕ) (g : Gathered) : Type 0 where
+  pub long : length l ≡ 16
+  pub upto : i ≤ 16
+  pub few : g .count ≤ i
+  pub left : linesOf g ++ linesIn (drop i (stretched l p)) ≡ linesIn (stretched l p)
+  pub wide : (k : ℕ) → k < i → p k ≤ 65535
+
+pub gather-start : (l : List Slot) (p : ℕ → ℕ) (g : Gathered) → length l ≡ 16 → g .count ≡ 0 → Gathering l p 0 g
+unfolding linesTo
+gather-start l p g e z = record { long = e; upto = omega arith; few = omega arith; left = rw z; wide = λ k h. absurd (omega arith) }
+
+module _ {l : List Slot} {p : ℕ → ℕ} {i : ℕ} {g : Gathered} (v : Gathering l p i g) where
+  pub gather-on : (h : Gathered) → i < 16 → h .count ≤ g .count + 1 → linesOf h ≡ linesOf g ++ lineIn (stretch (p i) (at l i)) → p i ≤ 65535 → Gathering l p (i + 1) h
+  gather-on h k n e w =
+      let m : i < length l = omega (arith, v .long) in
+      record {
+        long = v .long;
+        upto = omega arith;
+        few = omega (arith, v .few);
+        left =
+            rw (add-one i)
+            (ap (λ (x : List Line). x ++ linesIn (drop (suc i) (stretched l p))) e
+            ∙ append-assoc (linesOf g) (lineIn (stretch (p i) (at l i))) (linesIn (drop (suc i) (stretched l p)))
+            ∙ ap (λ (x : List Line). linesOf g ++ x) (sym (asked-step l p i m))
+            ∙ v .left
+            );
+        wide = below-more _ i (v .wide) w;
+      }
+
+  pub gather-end : 16 ≤ i → linesOf g ≡ linesIn (stretched l p)
+  unfolding linesIn
+  gather-end h =
+      let m : length (stretched l p) ≤ i = omega (arith, asked-length l p, v .long) in
+      sym (append-nil (linesOf g)) ∙ ap (λ (x : List Slot). linesOf g ++ linesIn x) (sym (drop-of-length-le (stretched l p) m)) ∙ v .left
+
+-- ---- each line is fit
+
+fine-fit : (p : ℕ) (h : Held) → Fine p h → p ≤ 65535 → All Fit (lineIn (stretch p h))
+fine-fit p Nothing f w = tt
+fine-fit p (Running r) f w = (record { some = omega arith; ends = omega arith; less = omega arith; rest = f .1; wide = w }, tt)
+fine-fit p (Waiting x) f w = tt
+
+all-append : {A : Type 0} (P : A → Type 0) (a b : List A) → All P a → All P b → All P (a ++ b)
+all-append P [] b x y = y
+all-append P (z ∷ a) b x y = (x .0, all-append P a b (x .1) y)
+
+asked-fit : (l : List Slot) (p : ℕ → ℕ) → ((i : ℕ) → i < length l → Fine (p i) (at l i)) → ((i : ℕ) → i < length l → p i ≤ 65535)
+    → All Fit (linesIn (stretched l p))
+unfolding stretched linesIn
+asked-fit [] p f w = tt
+asked-fit (s ∷ l) p f w =
+    all-append Fit (lineIn (stretch (p 0) (s .held))) (linesIn (stretched l (λ k. p (suc k))))
+    (fine-fit (p 0) (s .held) (f 0 (omega arith)) (w 0 (omega arith)))
+    (asked-fit l (λ k. p (suc k)) (λ i h. f (suc i) (omega arith)) (λ i h. w (suc i) (omega arith)))
+
+all-split : {A : Type 0} (P : A → Type 0) (a b : List A) → All P (a ++ b) → All P a × All P b
+all-split P [] b x = (tt, x)
+all-split P (z ∷ a) b x = let r = all-split P a b (x .1) in ((x .0, r .0), r .1)
+
+fit-each : (e c n p : List ℕ) (k : ℕ) → All Fit (linesTo e c n p k) → (j : ℕ) → j < k → Fit (lineAt e c n p j)
+unfolding linesTo
+fit-each e c n p zero a j h = absurd (omega arith)
+fit-each e c n p (suc k) a j h =
+    let r = all-split Fit (linesTo e c n p k) (lineAt e c n p k ∷ []) a in
+    below-more (λ m. Fit (lineAt e c n p m)) k (fit-each e c n p k (r .0)) (r .1 .0) j (omega arith)
+
+pub packed : {l : List Slot} {p : ℕ → ℕ} {i : ℕ} {g : Gathered} → Gathering l p i g → ((k : ℕ) → k < length l → Fine (p k) (at l k)) → 16 ≤ i → PackedIn g
+packed {l} {p} {i} {g} v f h = record {
+  few = omega (arith, v .few, v .upto);
+  each =
+      fit-each (g .end) (g .remaining) (g .need) (g .period) (g .count)
+      (rw (gather-end v h) (asked-fit l p f (λ k m. v .wide k (omega (arith, v .long)))));
+}
+
+-- ---- the ways through `with`
+
+module _ (g : Gathered) (p : ℕ) (h : Held) where
+  pub with-nothing : h ≡ Nothing → linesOf g ≡ linesOf g ++ lineIn (stretch p h)
+  with-nothing e = rw e (sym (append-nil (linesOf g)))
+
+  pub with-waiting : {w : Wait} → h ≡ Waiting w → linesOf g ≡ linesOf g ++ lineIn (stretch p h)
+  with-waiting e = rw e (sym (append-nil (linesOf g)))
+
+pub read-fine : (l : List Slot) (i : ℕ) (d : Slot) (p : ℕ) → i < length l → Fine p (at l i) → Fine p (getD l i d .held)
+read-fine l i d p h f = rw (read-any l i d h) f

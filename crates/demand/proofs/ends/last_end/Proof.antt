@@ -1,0 +1,69 @@
+-- `last_end` meets its contract: the greatest of the ends passed.
+use Prim.Native.Nat.{_-_, _≤_}
+use mathlib.Core.Path.{_≡_, ap, sym, _∙_}
+use mathlib.Core.Logic.{⊎-elim}
+use native.Mathlib.Omega.{arith}
+use borrow.Author.Needs.{needs}
+use Rattle.demand.specs.Pass.{lastTo}
+use Rattle.demand.proofs.Passing.{last-none, last-more}
+use Rattle.demand.proofs.ends.last_end.Statement.{statement}
+use Rattle.demand.proofs.ends.last_end.Tie as tie
+
+abbrev Inv-loop : tie.InvT-loop
+Inv-loop end count last₀ i₀ last i = (i ≤ count) × (last ≡ lastTo end i)
+
+abbrev μ-loop : tie.MeasureT-loop
+μ-loop end count last₀ i₀ last i = count - i
+
+loop-holds : tie.Need-loop-holds Inv-loop μ-loop
+loop-holds c = (omega arith, sym (last-none _))
+
+mul-if1 : tie.Need-mul-if1 Inv-loop μ-loop
+mul-if1 c = search needs
+
+element-copy-out-if1 : tie.Need-element-copy-out-if1 Inv-loop μ-loop
+element-copy-out-if1 c = search needs
+
+mul-last : tie.Need-mul-last Inv-loop μ-loop
+mul-last c = search needs
+
+element-copy-out-last : tie.Need-element-copy-out-last Inv-loop μ-loop
+element-copy-out-last c = search needs
+
+add-i : tie.Need-add-i Inv-loop μ-loop
+add-i c = search needs
+
+loop-less : tie.Need-loop-less Inv-loop μ-loop
+loop-less c = search needs
+
+loop-again : tie.Need-loop-again Inv-loop μ-loop
+loop-again c =
+    let loop = c .before .before .before .loop in
+    let if1 = c .if1 in
+    let x = c .before .before .before .before .args in (
+      omega arith,
+      ⊎-elim (λ w. omega (arith, last-more (x .end .now) (loop .i)))
+          (λ w. omega (arith, last-more (x .end .now) (loop .i))) (if1 .came),
+    )
+
+returns : tie.Need-returns Inv-loop μ-loop
+returns c =
+    let x = c .before .before .args in
+    let loop = c .before .loop in
+    let z : loop .i ≡ x .count = omega arith in loop .inv .1 ∙ ap (lastTo (x .end .now)) z
+
+pub last-end-spec : {M : Type 1} → statement M
+last-end-spec =
+    tie.close
+    (tie.spec
+    Inv-loop
+    μ-loop
+    loop-holds
+    mul-if1
+    element-copy-out-if1
+    mul-last
+    element-copy-out-last
+    add-i
+    loop-less
+    loop-again
+    returns)

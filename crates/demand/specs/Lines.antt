@@ -1,0 +1,100 @@
+-- The running lines at their T', counted from the clock: as a list, and as the code's arrays hold them.
+use Prim.Native.Nat.{ℕ, zero, suc, _+_, _-_, _*_, _/_, _≤_, _<_}
+use mathlib.Core.List.{List, [], _∷_, _++_}
+use lib.ListN.{length, getD}
+use Rattle.lines.specs.declared.Run.{Run}
+use Rattle.lines.specs.declared.Held.{Held}
+use Rattle.lines.specs.declared.Held.the-variants.{Nothing, Running, Waiting}
+use Rattle.lines.specs.declared.Slot.{Slot}
+use Rattle.lines.specs.declared.Table.{Table}
+use Rattle.lines.specs.declared.Request.{Request}
+use Rattle.lines.specs.Slots.{at}
+use Rattle.lines.specs.Grounds.{entry}
+use Rattle.demand.specs.declared.gather.Gathered.{Gathered}
+
+-- a running line: its first end counted from the clock, what remains of its need, its need and its T'
+pub record Line : Type 0 where
+  pub end : ℕ
+  pub remaining : ℕ
+  pub need : ℕ
+  pub period : ℕ
+
+abbrev pub lineOf : Run → Line
+lineOf r = record { end = r .period - r .age; remaining = r .remaining; need = r .need; period = r .period }
+
+abbrev pub lineIn : Held → List Line
+lineIn Nothing = []
+lineIn (Running r) = lineOf r ∷ []
+lineIn (Waiting w) = []
+
+-- the running lines, lowest slot first
+unfoldable pub linesIn : List Slot → List Line
+linesIn [] = []
+linesIn (s ∷ l) = lineIn (s .held) ++ linesIn l
+
+-- f added up over the lines
+unfoldable pub sumOf : (Line → ℕ) → List Line → ℕ
+sumOf f [] = 0
+sumOf f (x ∷ l) = f x + sumOf f l
+
+-- f added up over the numbers below n
+unfoldable pub sumTo : (ℕ → ℕ) → ℕ → ℕ
+sumTo f zero = 0
+sumTo f (suc n) = sumTo f n + f n
+
+-- line k of four arrays
+abbrev pub lineAt : (e c n p : List ℕ) → ℕ → Line
+lineAt e c n p k = record { end = getD e k 0; remaining = getD c k 0; need = getD n k 0; period = getD p k 0 }
+
+-- the first k lines of four arrays
+unfoldable pub linesTo : (e c n p : List ℕ) → ℕ → List Line
+linesTo e c n p zero = []
+linesTo e c n p (suc k) = linesTo e c n p k ++ (lineAt e c n p k ∷ [])
+
+abbrev pub linesOf : Gathered → List Line
+linesOf g = linesTo (g .end) (g .remaining) (g .need) (g .period) (g .count)
+
+abbrev pub lineOfAt : Gathered → ℕ → Line
+lineOfAt g k = lineAt (g .end) (g .remaining) (g .need) (g .period) k
+
+-- what the tests 4 and 5 and the numbers' width leave of a line
+pub record Fit (x : Line) : Type 0 where
+  pub some : 1 ≤ x .period
+  pub ends : x .end ≤ x .period
+  pub less : x .need ≤ x .period
+  pub rest : x .remaining ≤ x .need
+  pub wide : x .period ≤ 65535
+
+-- sixteen lines at most, each of them fit
+pub record Packed (e c n p : List ℕ) (count : ℕ) : Type 0 where
+  pub few : count ≤ 16
+  pub each : (k : ℕ) → k < count → Fit (lineAt e c n p k)
+
+abbrev pub PackedIn : Gathered → Type 0
+PackedIn g = Packed (g .end) (g .remaining) (g .need) (g .period) (g .count)
+
+-- what the tests 4 and 5 leave of what a slot holds, with p for its T'
+abbrev pub Fine : ℕ → Held → Type 0
+Fine p Nothing = Unit {0}
+Fine p (Running r) = (r .need ≤ r .period) × (r .remaining ≤ r .need) × (r .age < r .period) × (r .period ≤ p)
+Fine p (Waiting w) = Unit {0}
+
+abbrev pub AllFine : Table → Request → Type 0
+AllFine t q = (i : ℕ) → i < length (t .slots) → Fine (entry q i) (at (t .slots) i)
+
+-- C/T' times F
+abbrev pub shareOf : ℕ → Line → ℕ
+shareOf F x = x .need * (F / x .period)
+
+-- c + C × a / T', times F
+abbrev pub owedOf : ℕ → Line → ℕ
+owedOf F x = F * x .remaining + x .need * (F / x .period) * (x .period - x .end)
+
+-- C, times F
+abbrev pub fullOf : ℕ → Line → ℕ
+fullOf F x = F * x .need
+
+-- the first k periods of an array
+unfoldable pub periodsTo : List ℕ → ℕ → List ℕ
+periodsTo p zero = []
+periodsTo p (suc k) = periodsTo p k ++ (getD p k 0 ∷ [])

@@ -1,0 +1,70 @@
+-- The pass over the ends, counted from the clock: at each end one demand sum, which tells whether the running lines have excess there and
+-- what start the new line may have.
+use Prim.Native.Nat.{ℕ, zero, suc, _+_, _-_, _≤_, max}
+use mathlib.Core.Bool.{Bool, true, false}
+use mathlib.Core.List.{List, [], _∷_, _++_}
+use lib.Dec.{ltb}
+use lib.ListN.{getD}
+use Rattle.lines.specs.Slots.{pick}
+use Rattle.lines.specs.Demand.{due}
+use Rattle.lines.specs.Ask.{endsBefore, bound}
+use Rattle.lines.specs.declared.Answer.{Answer}
+use Rattle.lines.specs.declared.Answer.the-variants.{Start, Refused}
+use Rattle.demand.specs.declared.ends.Pass.{Pass}
+use Rattle.demand.specs.declared.ends.New.{New}
+use Rattle.demand.specs.declared.gather.Gathered.{Gathered}
+use Rattle.demand.specs.Lines.{Line, lineAt, sumTo}
+
+-- a line's demand d ticks after the clock
+abbrev pub dueBy : ℕ → Line → ℕ
+dueBy d x = due (x .end) (x .remaining) (x .need) (x .period) d
+
+-- the demand of the first `count` lines of four arrays
+abbrev pub demandTo : (e c n p : List ℕ) (count d : ℕ) → ℕ
+demandTo e c n p count d = sumTo (λ k. dueBy d (lineAt e c n p k)) count
+
+-- the greatest of the first k ends, or 0
+unfoldable pub lastTo : List ℕ → ℕ → ℕ
+lastTo e zero = 0
+lastTo e (suc k) = max (lastTo e k) (getD e k 0)
+
+-- the ends before `last` of the first k lines
+unfoldable pub endsTo : (last : ℕ) (e p : List ℕ) → ℕ → List ℕ
+endsTo last e p zero = []
+endsTo last e p (suc k) = endsTo last e p k ++ endsBefore (getD e k 0) (getD p k 0) last
+
+-- from r on: short at the first end that is short, else the greatest of r and of f at each end
+unfoldable pub passOver : (ℕ → Bool) → (ℕ → ℕ) → ℕ → List ℕ → Pass
+passOver short f r [] = record { short = false; start = r }
+passOver short f r (d ∷ ds) = pick (short d) (record { short = true; start = r }) (passOver short f (max r (f d)) ds)
+
+-- with `all d` for the demand at d: more is demanded by d than time has gone by
+abbrev pub shortBy : (ℕ → ℕ) → ℕ → Bool
+shortBy all d = ltb d (all d)
+
+-- and the bound that d puts on the start
+abbrev pub boundBy : (Cn Tn last : ℕ) → (ℕ → ℕ) → ℕ → ℕ
+boundBy Cn Tn last all d = bound Cn Tn last d (d - all d)
+
+abbrev pub passBy : (Cn Tn last : ℕ) → (ℕ → ℕ) → ℕ → List ℕ → Pass
+passBy Cn Tn last all r ds = passOver (shortBy all) (boundBy Cn Tn last all) r ds
+
+-- the pass over all ends of the lines gathered that are before `last`, from the clock on
+abbrev pub passTo : Gathered → (Cn Tn last : ℕ) → Pass
+passTo g Cn Tn last =
+    passBy Cn Tn last (demandTo (g .end) (g .remaining) (g .need) (g .period) (g .count)) 0 (endsTo last (g .end) (g .period) (g .count))
+
+abbrev pub passIn : Gathered → (Cn Tn : ℕ) → Pass
+passIn g Cn Tn = passTo g Cn Tn (lastTo (g .end) (g .count))
+
+-- what the tests before leave of the new line
+pub record FitNew (new : New) : Type 0 where
+  pub some : 1 ≤ new .need
+  pub small : new .need ≤ 65535
+  pub wide : new .period ≤ 65535
+  pub near : new .last ≤ 65535
+
+-- a start is at the clock or at most 65,535 ticks after it
+abbrev pub Near : ℕ → Answer → Type 0
+Near clock (Start r) = (clock ≤ r) × (r ≤ clock + 65535)
+Near clock (Refused x) = Unit {0}

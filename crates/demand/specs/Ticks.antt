@@ -1,0 +1,35 @@
+-- The running lines as a list: their periods, their last end and their ends, counted from the clock.
+use Prim.Native.Nat.{ℕ, _+_, _≤_, max}
+use mathlib.Core.List.{List, [], _∷_, _++_}
+use Rattle.periods.specs.Multiples.{All}
+use Rattle.lines.specs.declared.Held.{Held}
+use Rattle.lines.specs.declared.Held.the-variants.{Nothing, Running, Waiting}
+use Rattle.lines.specs.declared.Slot.{Slot}
+use Rattle.lines.specs.Ask.{endsBefore}
+use Rattle.demand.specs.Lines.{Line}
+
+unfoldable pub periodsBy : List Line → List ℕ
+periodsBy [] = []
+periodsBy (x ∷ l) = x .period ∷ periodsBy l
+
+unfoldable pub lastOf : List Line → ℕ
+lastOf [] = 0
+lastOf (x ∷ l) = max (x .end) (lastOf l)
+
+unfoldable pub endsBy : (last : ℕ) → List Line → List ℕ
+endsBy last [] = []
+endsBy last (x ∷ l) = endsBefore (x .end) (x .period) last ++ endsBy last l
+
+-- ticks counted from the clock, as absolute ticks
+unfoldable pub after : (clock : ℕ) → List ℕ → List ℕ
+after t0 [] = []
+after t0 (d ∷ ds) = (t0 + d) ∷ after t0 ds
+
+-- a running line is no older than its T', so that its first end is not before the clock
+abbrev pub Young : Held → Type 0
+Young Nothing = Unit {0}
+Young (Running r) = r .age ≤ r .period
+Young (Waiting w) = Unit {0}
+
+abbrev pub AllYoung : List Slot → Type 0
+AllYoung l = All (λ (s : Slot). Young (s .held)) l

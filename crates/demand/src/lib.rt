@@ -1,0 +1,119 @@
+// The decision on a request: the tests 1 to 10 in their order, and the least smooth start.
+mod gather; // the running lines, counted from the clock
+mod sums; // the frame, and refusals 8 and 9
+mod ends; // refusal 10 and the start
+
+ghost use mathlib.Core.Path.{_≡_};
+ghost use Prim.Native.Nat.{_-_, _^_, _≤_};
+ghost use lib.Dec.{leb};
+ghost use lib.ListN.{length};
+ghost use Rattle.lines.specs.declared.Answer.the-variants.{Refused};
+ghost use Rattle.lines.specs.Slots.{at, both, lowest, slotOf, refusal};
+ghost use Rattle.lines.specs.Grounds.{entry, asked, frame};
+ghost use Rattle.lines.specs.Ask.{shrunk, loadOf, askOf};
+ghost use Rattle.demand.specs.Lines.{AllFine};
+ghost use Rattle.demand.specs.Pass.{Near};
+
+// "Asking is possible while the clock is at most 2^48 − 65,536."
+const LATEST: u64 = 281_474_976_645_120;
+
+// "The frame … at most 1,000,000."
+const LIMIT: u64 = 1_000_000;
+
+fn refused(number: u16, place: u64) -> lines::Answer
+    ensures { λ r. ⌜ r ≡ Refused (refusal number place) ⌝ }
+{
+    lines::Answer::Refused(lines::Refusal::new(number, place))
+}
+
+// "T' < T for a running line"
+fn is_shrunk(s: lines::Slot, p: u16) -> bool
+    ensures { λ r. ⌜ r ≡ shrunk p (s .held) ⌝ }
+{
+    let h = s.held;
+    match h {
+        lines::Held::Nothing => false,
+        lines::Held::Running(r) => p < r.period,
+        lines::Held::Waiting(_) => false,
+    }
+}
+
+fn lowest_shrunk(t: lines::Table, q: lines::Request) -> lines::Which
+    ensures { λ r. ⌜ slotOf r ≡ lowest (λ i. shrunk (entry q i) (at (t .slots) i)) (length (t .slots)) ⌝ }
+{
+    let mut i: usize = 0;
+    while i < 16 {
+        let s = t.slots[i];
+        let p = q.stretched[i];
+        if is_shrunk(s, p) {
+            return lines::Which::At(i);
+        }
+        i = i + 1;
+    }
+    lines::Which::None
+}
+
+// "1 ≤ Cn ≤ Tn"
+fn fits(need: u16, period: u16) -> bool
+    ensures { λ r. ⌜ r ≡ both (leb 1 need) (leb need period) ⌝ }
+{
+    if need < 1 {
+        return false;
+    }
+    need <= period
+}
+
+// Tests 7 to 10, and the start.
+fn load(t: lines::Table, q: lines::Request) -> lines::Answer
+    requires { ⌜ AllFine t q × (1 ≤ q .need) × (q .need ≤ q .period) × (t .clock ≤ 2 ^ 48 - 65536) ⌝ }
+    ensures { λ r. ⌜ (r ≡ loadOf (t .clock) (frame (asked t q) (q .period)) (asked t q) (q .need) (q .period)) × Near (t .clock) r ⌝ }
+{
+    let g = gather::gather(t, q);
+    let f = sums::frame(g, q.period);
+    if f > LIMIT {
+        return refused(7, 0);
+    }
+    let shares = sums::share_sum(g, f) + sums::share(f, q.need as u32, q.period as u32);
+    if shares > f {
+        return refused(8, 0);
+    }
+    let owed = sums::owed_sum(g, f);
+    let full = sums::full_sum(g, f);
+    if owed > full {
+        return refused(9, 0);
+    }
+    let p = ends::pass_all(g, q.need, q.period);
+    if p.short {
+        return refused(10, 0);
+    }
+    lines::Answer::Start(t.clock + p.start as u64)
+}
+
+// "Ask and admit test 1 to 10 in that order, and the first that holds is given."
+pub fn decide(t: lines::Table, q: lines::Request) -> lines::Answer
+    ensures { λ r. ⌜ (r ≡ askOf t q) × Near (t .clock) r ⌝ }
+{
+    if t.clock > LATEST {
+        return refused(1, 0);
+    }
+    match t.lowest_empty() {
+        lines::Which::None => return refused(2, 0),
+        lines::Which::At(_) => {}
+    }
+    match t.lowest_waiting() {
+        lines::Which::At(k) => return refused(3, k as u64),
+        lines::Which::None => {}
+    }
+    match t.lowest_unsound() {
+        lines::Which::At(k) => return refused(4, k as u64),
+        lines::Which::None => {}
+    }
+    match lowest_shrunk(t, q) {
+        lines::Which::At(k) => return refused(5, k as u64),
+        lines::Which::None => {}
+    }
+    if !fits(q.need, q.period) {
+        return refused(6, 0);
+    }
+    load(t, q)
+}

@@ -1,0 +1,2 @@
+-- The laws of the reader's loop.
+pub mod Loop

@@ -1,0 +1,41 @@
+-- `closed`: the two tests are those of the definition.
+use borrow.Author.Needs.{needs}
+use mathlib.Core.Path.{sym, ap, _∙_}
+use mathlib.Core.Bool.{Bool}
+use Prim.Native.Nat.{_+_, _-_}
+use native.Mathlib.Omega.{arith}
+use Rattle.card.specs.Card.{carrying}
+use Rattle.card.specs.Answers.{handed}
+use Rattle.reader.proofs.Loop.{closing-gap, closing-more, closing-good}
+use Rattle.reader.proofs.closed.Statement.{statement}
+use Rattle.reader.proofs.closed.Tie as tie
+
+refused-requires : tie.Need-refused-requires
+refused-requires c κs = search needs
+
+returns : tie.Need-returns
+returns c = c .refused .ensures ∙ ap handed (sym (closing-gap _ _ _ _ (c .before .if1 .taken)))
+
+add-if2 : tie.Need-add-if2
+add-if2 c = search needs
+
+add-refused : tie.Need-add-refused
+add-refused c = search needs
+
+refused-requires-2 : tie.Need-refused-requires-2
+refused-requires-2 c κs = search needs
+
+returns-2 : tie.Need-returns-2
+returns-2 c =
+    let a = c .before .before .before .args in
+    c .refused2 .ensures ∙ ap handed (sym (closing-more (a .gap) (a .at) (a .len) (carrying (a .table) (a .request)) (c .before .before .if1 .left) (c .before .if2 .taken)))
+
+returns-3 : tie.Need-returns-3
+returns-3 c =
+    let a = c .before .before .args in
+    ap handed (sym (closing-good (a .gap) (a .at) (a .len) (carrying (a .table) (a .request)) (c .before .if1 .left) (c .if2 .left)))
+
+pub closed-spec : {M : Type 1} → statement M
+closed-spec =
+    tie.close
+    (tie.spec refused-requires returns add-if2 add-refused refused-requires-2 returns-2 returns-3)

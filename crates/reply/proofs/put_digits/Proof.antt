@@ -1,0 +1,74 @@
+-- `reply::put_digits` meets its contract: the loop cites the laws of `Spelling`.
+use mathlib.Core.Path.{_≡_}
+use native.Mathlib.Omega.{arith}
+use lib.ListN.{length, length-set}
+use borrow.Author.Needs.{needs}
+use Rattle.reply.specs.Line.{digits}
+use Rattle.reply.proofs.Laid.{Spelling, spell-start, spell-on, spell-last, spell-end}
+use Rattle.reply.proofs.put_digits.Statement.{statement}
+use Rattle.reply.proofs.put_digits.Tie as tie
+
+abbrev Inv-loop : tie.InvT-loop
+Inv-loop out₀ n count left₀ rest₀ out left rest = (count ≡ length (digits n)) × Spelling n out₀ out left rest
+
+abbrev μ-loop : tie.MeasureT-loop
+μ-loop out₀ n count left₀ rest₀ out left rest = left
+
+places-requires : tie.Need-places-requires Inv-loop μ-loop
+places-requires c κs = search needs
+
+loop-holds : tie.Need-loop-holds Inv-loop μ-loop
+loop-holds c = (c .places .ensures .0, spell-start _ _ (c .places .ensures .0) (c .before .before .pre))
+
+digit-requires : tie.Need-digit-requires Inv-loop μ-loop
+digit-requires c κs = omega arith
+
+sub-out : tie.Need-sub-out Inv-loop μ-loop
+sub-out c = omega arith
+
+slice-write-out : tie.Need-slice-write-out Inv-loop μ-loop
+slice-write-out c = omega arith
+
+sub-left : tie.Need-sub-left Inv-loop μ-loop
+sub-left c = omega arith
+
+loop-less : tie.Need-loop-less Inv-loop μ-loop
+loop-less c = omega arith
+
+loop-again : tie.Need-loop-again Inv-loop μ-loop
+loop-again c = (c .before .before .loop .inv .0, spell-on (c .before .before .loop .inv .1) (c .before .loop-test .taken) (c .digit .ensures))
+
+digit-requires-2 : tie.Need-digit-requires-2 Inv-loop μ-loop
+digit-requires-2 c κs = spell-last (c .before .loop .inv .1) (c .loop-test .left)
+
+sub-out-2 : tie.Need-sub-out-2 Inv-loop μ-loop
+sub-out-2 c = omega arith
+
+slice-write-out-2 : tie.Need-slice-write-out-2 Inv-loop μ-loop
+slice-write-out-2 c = omega arith
+
+same-length : tie.Need-same-length Inv-loop μ-loop
+same-length c = simp length-set (c .before .before .loop .inv .1 .long)
+
+returns : tie.Need-returns Inv-loop μ-loop
+returns c = (c .before .before .loop .inv .0, spell-end (c .before .before .loop .inv .1) (c .before .loop-test .left) (c .digit2 .ensures))
+
+pub put-digits-spec : {M : Type 1} → statement M
+put-digits-spec =
+    tie.close
+    (tie.spec
+    Inv-loop
+    μ-loop
+    places-requires
+    loop-holds
+    digit-requires
+    sub-out
+    slice-write-out
+    sub-left
+    loop-less
+    loop-again
+    digit-requires-2
+    sub-out-2
+    slice-write-out-2
+    same-length
+    returns)

@@ -1,0 +1,163 @@
+// The line that the answering program prints.
+ghost use mathlib.Core.Path.{_≡_};
+ghost use Prim.Native.Nat.{_+_, _≤_, _<_};
+ghost use lib.ListN.{length};
+ghost use Rattle.lines.specs.Slots.{gives, refuses};
+ghost use Rattle.lines.specs.Ask.{says};
+ghost use Rattle.reply.specs.Line.{digits, lineOf, laid, laidFrom, Replied, lengthOf, lengthFor, heldAfter};
+use lines::Answer;
+use lines::Refusal;
+
+// A line in an array that is long enough for every answer: its first `len` bytes are the line, and the rest are 0.
+pub struct Reply {
+    pub bytes: [u8; 40],
+    pub len: usize,
+}
+
+// What putting a line into a lent buffer answers: the line's length, or that the buffer is too short for it.
+pub enum Written {
+    Length(usize),
+    Short,
+}
+
+// The line for an answer.
+pub fn reply_to(a: Answer) -> Reply
+    ensures { λ r. ⌜ Replied (lineOf (says a)) r ⌝ }
+{
+    let len = line_len(a);
+    let mut bytes = [0u8; 40];
+    put_line(&mut bytes, a);
+    Reply { bytes, len }
+}
+
+// Puts the line for an answer at the start of a lent buffer. One that is too short keeps every byte.
+pub fn put_reply(a: Answer, out: &mut [u8]) -> Written
+    ensures { λ r. ⌜ lengthOf r ≡ lengthFor (lineOf (says a)) (now (out .entry)) ⌝ }
+    ensures { λ _. ⌜ now (out .exit) ≡ heldAfter (lineOf (says a)) (now (out .entry)) ⌝ }
+{
+    let len = line_len(a);
+    if out.len() < len {
+        return Written::Short;
+    }
+    put_line(out, a);
+    Written::Length(len)
+}
+
+// The length of an answer's line.
+fn line_len(a: Answer) -> usize
+    ensures { λ r. ⌜ (r ≡ length (lineOf (says a))) × (r ≤ 40) ⌝ }
+{
+    match a {
+        Answer::Start(start) => 9 + places(start),
+        Answer::Refused(x) => 10 + places(wide(x.number)) + places(x.place),
+    }
+}
+
+// Puts the line for an answer at the start of out.
+fn put_line(out: &mut [u8], a: Answer)
+    requires { ⌜ length (lineOf (says a)) ≤ length (now out) ⌝ }
+    ensures { λ _. ⌜ now (out .exit) ≡ laid (lineOf (says a)) (now (out .entry)) ⌝ }
+{
+    match a {
+        Answer::Start(start) => put_release(out, start),
+        Answer::Refused(x) => put_refused(out, x),
+    }
+}
+
+// `release` and the start.
+fn put_release(out: &mut [u8], start: u64)
+    requires { ⌜ length (lineOf (gives start)) ≤ length (now out) ⌝ }
+    ensures { λ _. ⌜ now (out .exit) ≡ laid (lineOf (gives start)) (now (out .entry)) ⌝ }
+{
+    let at = add_bytes(out, 0, b"release ");
+    let end = add_number(out, at, start);
+    add_bytes(out, end, b"\n");
+}
+
+// `refused`, the refusal's number and its place.
+fn put_refused(out: &mut [u8], x: Refusal)
+    requires { ⌜ length (lineOf (refuses x)) ≤ length (now out) ⌝ }
+    ensures { λ _. ⌜ now (out .exit) ≡ laid (lineOf (refuses x)) (now (out .entry)) ⌝ }
+{
+    let number = wide(x.number);
+    let place = x.place;
+    let at = add_bytes(out, 0, b"refused ");
+    let gap = add_number(out, at, number);
+    let next = add_bytes(out, gap, b" ");
+    let last = add_number(out, next, place);
+    add_bytes(out, last, b"\n");
+}
+
+// A refusal's number, as wide as its place.
+fn wide(x: u16) -> u64
+    ensures { λ r. ⌜ (r ≡ x) × (r < 65536) ⌝ }
+{
+    x as u64
+}
+
+// Puts the bytes s after the first `at` bytes of out, and answers where they end.
+fn add_bytes(out: &mut [u8], at: usize, s: &[u8]) -> usize
+    requires { ⌜ at + length (now s) ≤ length (now out) ⌝ }
+    ensures { λ r. ⌜ (r ≡ at + length (now (s .entry))) × (now (out .exit) ≡ laidFrom at (now (s .entry)) (now (out .entry))) ⌝ }
+{
+    at + put(&mut out[at..], s)
+}
+
+// Puts the decimal digits of n after the first `at` bytes of out, and answers where they end.
+fn add_number(out: &mut [u8], at: usize, n: u64) -> usize
+    requires { ⌜ at + length (digits n) ≤ length (now out) ⌝ }
+    ensures { λ r. ⌜ (r ≡ at + length (digits n)) × (now (out .exit) ≡ laidFrom at (digits n) (now (out .entry))) ⌝ }
+{
+    at + put_digits(&mut out[at..], n)
+}
+
+// Puts the bytes s at the start of out, and answers how many they are.
+fn put(out: &mut [u8], s: &[u8]) -> usize
+    requires { ⌜ length (now s) ≤ length (now out) ⌝ }
+    ensures { λ r. ⌜ (r ≡ length (now (s .entry))) × (now (out .exit) ≡ laid (now (s .entry)) (now (out .entry))) ⌝ }
+{
+    let mut i = 0;
+    while i < s.len() {
+        out[i] = s[i];
+        i += 1;
+    }
+    i
+}
+
+// Puts the decimal digits of n at the start of out, the last one first, and answers how many they are.
+fn put_digits(out: &mut [u8], n: u64) -> usize
+    requires { ⌜ length (digits n) ≤ length (now out) ⌝ }
+    ensures { λ r. ⌜ (r ≡ length (digits n)) × (now (out .exit) ≡ laid (digits n) (now (out .entry))) ⌝ }
+{
+    let count = places(n);
+    let mut left = count;
+    let mut rest = n;
+    while left > 1 {
+        out[left - 1] = digit(rest % 10);
+        rest /= 10;
+        left -= 1;
+    }
+    out[left - 1] = digit(rest);
+    count
+}
+
+// How many decimal digits n has.
+fn places(n: u64) -> usize
+    ensures { λ r. ⌜ (r ≡ length (digits n)) × (1 ≤ r) × (r ≤ 20) ⌝ }
+{
+    let mut count = 1;
+    let mut rest = n;
+    while rest >= 10 {
+        rest /= 10;
+        count += 1;
+    }
+    count
+}
+
+// A digit in ASCII.
+fn digit(d: u64) -> u8
+    requires { ⌜ d < 10 ⌝ }
+    ensures { λ r. ⌜ r ≡ 48 + d ⌝ }
+{
+    48 + d as u8
+}

@@ -1,0 +1,182 @@
+-- The writer's loops over the slots: the used ones, the length of their records, the records.
+use mathlib.Core.Path.{_≡_, refl, sym, ap, ap₂, _∙_}
+use mathlib.Core.List.{List, [], _∷_, _++_, append-assoc, append-nil}
+use mathlib.Core.Bool.{Bool, true, false}
+use Prim.Native.Nat.{ℕ, zero, suc, _+_, _-_, _*_, _≤_, _<_}
+use native.Mathlib.Omega.{arith}
+use native.Mathlib.Nat.{le-of-suc-le-suc}
+use native.Mathlib.Numerals.{add-one}
+use lib.ListN.{length, take, drop, getD, length-append, length-drop}
+use lib.Seq.{drop-cons}
+use Rattle.lines.specs.declared.Held.{Held}
+use Rattle.lines.specs.declared.Held.the-variants.{Nothing, Running, Waiting}
+use Rattle.lines.specs.declared.Slot.{Slot}
+use Rattle.lines.specs.Slots.{empty, isNothing}
+use Rattle.card.specs.Card.{slotRecord, slotRecords, oneMore, usedFrom, used}
+use Rattle.card.proofs.Marks.{false-true}
+use Rattle.card.proofs.Length.{records-length}
+use Rattle.writer.proofs.Parts.{put-at}
+
+used-nothing : (h : Held) (n : ℕ) → isNothing h ≡ true → usedFrom h n ≡ oneMore n
+used-nothing Nothing n e = refl
+used-nothing (Running r) n e = absurd (false-true e)
+used-nothing (Waiting w) n e = absurd (false-true e)
+
+used-something : (h : Held) (n : ℕ) → isNothing h ≡ false → usedFrom h n ≡ suc n
+used-something Nothing n e = absurd (false-true (sym e))
+used-something (Running r) n e = refl
+used-something (Waiting w) n e = refl
+
+-- an empty slot more at the end, with none used after it
+pub used-less : (ss : List Slot) (k : ℕ) → k < length ss → isNothing (getD ss k empty .held) ≡ true → used (drop (suc k) ss) ≡ 0
+    → used (drop k ss) ≡ 0
+used-less ss k h e u =
+    ap used (drop-cons ss k empty h) ∙ used-nothing (getD ss k empty .held) (used (drop (suc k) ss)) e ∙ ap oneMore u
+
+used-front : (h : Held) (n : ℕ) → usedFrom h (suc n) ≡ suc (suc n)
+used-front Nothing n = refl
+used-front (Running r) n = refl
+used-front (Waiting w) n = refl
+
+-- the last slot that holds something
+pub used-at : (ss : List Slot) (k : ℕ) → k < length ss → isNothing (getD ss k empty .held) ≡ false → used (drop (suc k) ss) ≡ 0 → used ss ≡ suc k
+used-at [] k h e u = absurd (omega arith)
+used-at (s ∷ ss) zero h e u = used-something (s .held) (used ss) e ∙ ap suc u
+used-at (s ∷ ss) (suc k) h e u = ap (usedFrom (s .held)) (used-at ss k (le-of-suc-le-suc h) e u) ∙ used-front (s .held) k
+
+-- the length of a record, whatever the entry
+pub record-same : (h : Held) (t u : ℕ) → length (slotRecord h t) ≡ length (slotRecord h u)
+record-same Nothing t u = refl
+record-same (Running r) t u = refl
+record-same (Waiting w) t u = refl
+
+pub records-same : (n : ℕ) (ss : List Slot) (ts us : List ℕ) → length ts ≡ length us
+    → length (slotRecords n ss ts) ≡ length (slotRecords n ss us)
+records-same zero ss ts us e = refl
+records-same (suc n) [] ts us e = refl
+records-same (suc n) (s ∷ ss) [] [] e = refl
+records-same (suc n) (s ∷ ss) [] (u ∷ us) e = absurd (omega arith)
+records-same (suc n) (s ∷ ss) (t ∷ ts) [] e = absurd (omega arith)
+records-same (suc n) (s ∷ ss) (t ∷ ts) (u ∷ us) e =
+    length-append (slotRecord (s .held) t) (slotRecords n ss ts)
+    ∙ ap₂ _+_ (record-same (s .held) t u) (records-same n ss ts us (omega arith))
+    ∙ sym (length-append (slotRecord (s .held) u) (slotRecords n ss us))
+
+-- one record more
+pub records-next : (ss : List Slot) (ts : List ℕ) (i : ℕ) → i < length ss → i < length ts
+    → slotRecords (suc i) ss ts ≡ slotRecords i ss ts ++ slotRecord (getD ss i empty .held) (getD ts i 0)
+records-next [] ts i h k = absurd (omega arith)
+records-next (s ∷ ss) [] i h k = absurd (omega arith)
+records-next (s ∷ ss) (t ∷ ts) zero h k = append-nil (slotRecord (s .held) t)
+records-next (s ∷ ss) (t ∷ ts) (suc i) h k =
+    ap (λ (x : List ℕ). slotRecord (s .held) t ++ x) (records-next ss ts i (le-of-suc-le-suc h) (le-of-suc-le-suc k))
+    ∙ sym (append-assoc (slotRecord (s .held) t) (slotRecords i ss ts) (slotRecord (getD ss i empty .held) (getD ts i 0)))
+
+module _ (ss : List Slot) (ts : List ℕ) (i : ℕ) (h : i < length ss) (k : i < length ts) where
+  pub records-on : slotRecords (i + 1) ss ts ≡ slotRecords i ss ts ++ slotRecord (getD ss i empty .held) (getD ts i 0)
+  records-on = ap (λ (j : ℕ). slotRecords j ss ts) (add-one i) ∙ records-next ss ts i h k
+
+  pub length-on : length (slotRecords (i + 1) ss ts) ≡ length (slotRecords i ss ts) + length (slotRecord (getD ss i empty .held) (getD ts i 0))
+  length-on = ap length records-on ∙ length-append (slotRecords i ss ts) (slotRecord (getD ss i empty .held) (getD ts i 0))
+
+pub records-mono : (ss : List Slot) (ts : List ℕ) (i n : ℕ) → i ≤ n → length (slotRecords i ss ts) ≤ length (slotRecords n ss ts)
+records-mono ss ts zero n h = omega arith
+records-mono ss ts (suc i) zero h = absurd (omega arith)
+records-mono [] ts (suc i) (suc n) h = omega arith
+records-mono (s ∷ ss) [] (suc i) (suc n) h = omega arith
+records-mono (s ∷ ss) (t ∷ ts) (suc i) (suc n) h =
+    omega (
+      arith,
+      length-append (slotRecord (s .held) t) (slotRecords i ss ts),
+      length-append (slotRecord (s .held) t) (slotRecords n ss ts),
+      records-mono ss ts i n (le-of-suc-le-suc h),
+    )
+
+-- len is the length of i of n records
+pub record Counted (ss : List Slot) (ts : List ℕ) (n i len : ℕ) : Type 0 where
+  pub few : i ≤ n
+  pub slots : n ≤ length ss
+  pub stretched : n ≤ length ts
+  pub count : len ≡ length (slotRecords i ss ts)
+
+pub counted-start : (ss : List Slot) (ts : List ℕ) (n : ℕ) → n ≤ length ss → n ≤ length ts → Counted ss ts n 0 0
+counted-start ss ts n a b = record { few = omega arith; slots = a; stretched = b; count = refl }
+
+module _ {ss : List Slot} {ts : List ℕ} {n i len : ℕ} (m : Counted ss ts n i len) where
+  pub counted-small : len ≤ 12 * i
+  counted-small = omega (arith, records-length i ss ts, m .count)
+
+  pub counted-on : i < n → (r u : ℕ) → r ≡ length (slotRecord (getD ss i empty .held) u) → Counted ss ts n (i + 1) (len + r)
+  counted-on h r u e = record {
+    few = omega arith;
+    slots = m .slots;
+    stretched = m .stretched;
+    count =
+        (let a = length-on ss ts i (omega (arith, m .slots)) (omega (arith, m .stretched)) in
+        let b = record-same (getD ss i empty .held) u (getD ts i 0) in
+        omega (arith, m .count));
+  }
+
+  pub counted-end : n ≤ i → len ≡ length (slotRecords n ss ts)
+  counted-end h =
+      let j : i ≡ n = omega (arith, m .few) in
+      m .count ∙ ap (λ (k : ℕ). length (slotRecords k ss ts)) j
+
+-- i of n records stand in the buffer l, which was l₀
+pub record Put (l₀ : List ℕ) (ss : List Slot) (ts : List ℕ) (n : ℕ) (l : List ℕ) (at i : ℕ) : Type 0 where
+  pub few : i ≤ n
+  pub slots : n ≤ length ss
+  pub stretched : n ≤ length ts
+  pub room : length (slotRecords n ss ts) ≤ length l₀
+  pub place : at ≡ length (slotRecords i ss ts)
+  pub kept : l ≡ slotRecords i ss ts ++ drop at l₀
+
+pub put-start : (l₀ : List ℕ) (ss : List Slot) (ts : List ℕ) (n : ℕ) → n ≤ length ss → n ≤ length ts → length (slotRecords n ss ts) ≤ length l₀
+    → Put l₀ ss ts n l₀ 0 0
+put-start l₀ ss ts n a b c = record { few = omega arith; slots = a; stretched = b; room = c; place = refl; kept = refl }
+
+module _ {l₀ : List ℕ} {ss : List Slot} {ts : List ℕ} {n : ℕ} {l : List ℕ} {at i : ℕ} (m : Put l₀ ss ts n l at i) where
+  pub put-same : length l ≡ length l₀
+  put-same =
+      let e = ap length (m .kept) ∙ length-append (slotRecords i ss ts) (drop at l₀) in
+      omega (arith, length-drop at l₀, records-mono ss ts i n (m .few), m .room, m .place)
+
+  pub put-room : i < n → at + length (slotRecord (getD ss i empty .held) (getD ts i 0)) ≤ length l
+  put-room h =
+      omega (
+        arith,
+        length-on ss ts i (omega (arith, m .slots)) (omega (arith, m .stretched)),
+        records-mono ss ts (i + 1) n (omega arith),
+        put-same,
+        m .room,
+        m .place,
+      )
+
+  pub put-next : i < n → (r : ℕ) (ys : List ℕ) → r ≡ length (slotRecord (getD ss i empty .held) (getD ts i 0))
+      → ys ≡ slotRecord (getD ss i empty .held) (getD ts i 0)
+      ++ drop (length (slotRecord (getD ss i empty .held) (getD ts i 0))) (take (length l - at) (drop at l))
+      → Put l₀ ss ts n (take at l ++ (ys ++ drop (length l - at) (drop at l))) (at + r) (i + 1)
+  put-next h r ys e q =
+      let bs = slotRecord (getD ss i empty .held) (getD ts i 0) in
+      let hs : i < length ss = omega (arith, m .slots) in
+      let ht : i < length ts = omega (arith, m .stretched) in
+      let w = put-at l₀ l (slotRecords i ss ts) bs ys at (length bs) (m .kept) (sym (m .place)) refl q in
+      record {
+        few = omega arith;
+        slots = m .slots;
+        stretched = m .stretched;
+        room = m .room;
+        place = omega (arith, length-on ss ts i hs ht, m .place);
+        kept = w ∙ ap₂ (λ (x : List ℕ) (k : ℕ). x ++ drop (at + k) l₀) (sym (records-on ss ts i hs ht)) (sym e);
+      }
+
+  pub put-end : n ≤ i → (at ≡ length (slotRecords n ss ts)) × (l ≡ slotRecords n ss ts ++ drop (length (slotRecords n ss ts)) l₀)
+  put-end h =
+      let j : i ≡ n = omega (arith, m .few) in
+      let p : at ≡ length (slotRecords n ss ts) = m .place ∙ ap (λ (k : ℕ). length (slotRecords k ss ts)) j in
+      (p, m .kept ∙ ap₂ (λ (k x : ℕ). slotRecords k ss ts ++ drop x l₀) j p)
+
+-- a record that was written for what the slot holds
+pub put-held : (h k : Held) (t : ℕ) (l m : List ℕ) → h ≡ k → m ≡ slotRecord k t ++ drop (length (slotRecord k t)) l
+    → (length (slotRecord k t) ≡ length (slotRecord h t)) × (m ≡ slotRecord h t ++ drop (length (slotRecord h t)) l)
+put-held h k t l m e q = rw e (refl, q)

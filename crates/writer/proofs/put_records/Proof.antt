@@ -1,0 +1,94 @@
+-- `put_records`: the loop keeps `Put`; each record goes into the part after the last one.
+use borrow.Author.Needs.{needs}
+use borrow.Rule.Slice.PartMut.{same-len-mid}
+use mathlib.Core.Path.{_≡_, refl, sym, ap, _∙_}
+use Prim.Native.Nat.{ℕ, _+_, _-_, _≤_, _<_}
+use native.Mathlib.Omega.{arith}
+use lib.ListN.{length, drop, getD, length-drop}
+use Rattle.writer.proofs.Parts.{part-all}
+use Rattle.writer.proofs.Slots.{Put, put-start, put-same, put-room, put-next, put-end}
+use Rattle.writer.proofs.put_records.Statement.{statement}
+use Rattle.writer.proofs.put_records.Tie as tie
+
+abbrev Inv-loop : tie.InvT-loop
+Inv-loop out₀ n slots stretched at₀ i₀ out at i = Put out₀ slots stretched n out at i
+
+abbrev μ-loop : tie.MeasureT-loop
+μ-loop out₀ n slots stretched at₀ i₀ out at i = n - i
+
+loop-holds : tie.Need-loop-holds Inv-loop μ-loop
+loop-holds c =
+    let a = c .before .args in
+    let h : length (a .t2) ≡ 16 = search needs in
+    let k : length (a .t3) ≡ 16 = search needs in
+    put-start (a .out .now) (a .t2) (a .t3) (a .n) (omega (arith, c .before .pre .0)) (omega (arith, c .before .pre .0)) (c .before .pre .1)
+
+mul-s : tie.Need-mul-s Inv-loop μ-loop
+mul-s c = omega arith
+
+array-copy-out-s : tie.Need-array-copy-out-s Inv-loop μ-loop
+array-copy-out-s c = omega arith
+
+mul-t : tie.Need-mul-t Inv-loop μ-loop
+mul-t c = omega arith
+
+array-read-t : tie.Need-array-read-t Inv-loop μ-loop
+array-read-t c = omega arith
+
+sub-put-slot : tie.Need-sub-put-slot Inv-loop μ-loop
+sub-put-slot c = omega (arith, put-room (c .before .before .loop .inv) (omega arith))
+
+part-put-slot-start : tie.Need-part-put-slot-start Inv-loop μ-loop
+part-put-slot-start c = omega (arith, put-room (c .before .before .loop .inv) (omega arith))
+
+part-put-slot-end : tie.Need-part-put-slot-end Inv-loop μ-loop
+part-put-slot-end c = search needs
+
+put-slot-requires : tie.Need-put-slot-requires Inv-loop μ-loop
+put-slot-requires c κs =
+    let q = c .before .before .before .loop in
+    omega (arith, ap length (part-all (q .out) (q .at)), length-drop (q .at) (q .out), put-room (q .inv) (omega arith))
+
+add-at : tie.Need-add-at Inv-loop μ-loop
+add-at c =
+    let b = c .before .before .before .before .before .before in
+    omega (arith, put-room (b .loop .inv) (omega arith), put-same (b .loop .inv), c .before .before .put-slot .ensures .0, b .before .before .good .0 .0)
+
+add-i : tie.Need-add-i Inv-loop μ-loop
+add-i c = omega arith
+
+loop-less : tie.Need-loop-less Inv-loop μ-loop
+loop-less c = omega arith
+
+loop-again : tie.Need-loop-again Inv-loop μ-loop
+loop-again c =
+    let p = c .before .before .put-slot in
+    put-next (c .before .before .before .before .before .before .loop .inv) (omega arith) (p .result) (p .last .0) (p .ensures .0) (p .ensures .1)
+
+same-length : tie.Need-same-length Inv-loop μ-loop
+same-length c = put-same (c .before .loop .inv)
+
+returns : tie.Need-returns Inv-loop μ-loop
+returns c = put-end (c .before .loop .inv) (omega arith)
+
+pub put-records-spec : {M : Type 1} → statement M
+put-records-spec =
+    tie.close
+    (tie.spec
+    Inv-loop
+    μ-loop
+    loop-holds
+    mul-s
+    array-copy-out-s
+    mul-t
+    array-read-t
+    sub-put-slot
+    part-put-slot-start
+    part-put-slot-end
+    put-slot-requires
+    add-at
+    add-i
+    loop-less
+    loop-again
+    same-length
+    returns)

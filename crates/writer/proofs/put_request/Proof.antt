@@ -1,0 +1,45 @@
+-- `put_request`: the mark, then the part of the two numbers.
+use mathlib.Core.Path.{refl}
+use mathlib.Core.List.{_++_}
+use native.Mathlib.Omega.{arith}
+use Rattle.card.specs.Bytes.{le, RQ}
+use Rattle.writer.proofs.Parts.{put-at}
+use Rattle.writer.proofs.put_request.Statement.{statement}
+use Rattle.writer.proofs.put_request.Tie as tie
+
+put-mark-requires : tie.Need-put-mark-requires
+put-mark-requires c κs = omega arith
+
+sub-put-two : tie.Need-sub-put-two
+sub-put-two c = omega arith
+
+part-put-two-start : tie.Need-part-put-two-start
+part-put-two-start c = omega arith
+
+part-put-two-end : tie.Need-part-put-two-end
+part-put-two-end c = omega arith
+
+put-two-requires : tie.Need-put-two-requires
+put-two-requires c κs = omega arith
+
+same-length : tie.Need-same-length
+same-length c = omega arith
+
+returns : tie.Need-returns
+returns c =
+    let b = c .before .before .before .before .before .before in
+    let p = c .before .before .put-two in
+    let a = b .before .before .before .before .args in
+    put-at (a .out .now) (b .put-mark .last .0) RQ (le 2 (a .need) ++ le 2 (a .period)) (p .last .0) 2 4 (b .put-mark .ensures) refl refl (p .ensures)
+
+pub put-request-spec : {M : Type 1} → statement M
+put-request-spec =
+    tie.close
+    (tie.spec
+    put-mark-requires
+    sub-put-two
+    part-put-two-start
+    part-put-two-end
+    put-two-requires
+    same-length
+    returns)

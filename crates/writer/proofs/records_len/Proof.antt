@@ -1,0 +1,70 @@
+-- `records_len`: the sum so far is the length of the records so far.
+use borrow.Author.Needs.{needs}
+use mathlib.Core.Path.{_≡_}
+use Prim.Native.Nat.{_-_, _≤_}
+use native.Mathlib.Omega.{arith}
+use lib.ListN.{length, getD, replicate}
+use Rattle.lines.specs.Slots.{empty}
+use Rattle.card.proofs.Length.{record-length}
+use Rattle.writer.proofs.Slots.{Counted, counted-start, counted-small, counted-on, counted-end}
+use Rattle.writer.proofs.records_len.Statement.{statement}
+use Rattle.writer.proofs.records_len.Tie as tie
+
+abbrev Inv-loop : tie.InvT-loop
+Inv-loop n slots i₀ len₀ i len = (n ≤ 16) × Counted slots (replicate 16 0) n i len
+
+abbrev μ-loop : tie.MeasureT-loop
+μ-loop n slots i₀ len₀ i len = n - i
+
+loop-holds : tie.Need-loop-holds Inv-loop μ-loop
+loop-holds c =
+    let h : length (c .args .t1) ≡ 16 = search needs in
+    (c .pre, counted-start _ _ _ (omega (arith, c .pre)) (c .pre))
+
+mul-slot-len : tie.Need-mul-slot-len Inv-loop μ-loop
+mul-slot-len c = omega arith
+
+array-copy-out-slot-len : tie.Need-array-copy-out-slot-len Inv-loop μ-loop
+array-copy-out-slot-len c = omega arith
+
+slot-len-requires : tie.Need-slot-len-requires Inv-loop μ-loop
+slot-len-requires c κs = tt
+
+add-len : tie.Need-add-len Inv-loop μ-loop
+add-len c =
+    let s = c .before .before .before .before .args .t1 in
+    let q = c .before .before .before .loop in
+    omega (arith, counted-small (q .inv .1), record-length (getD s (q .i) empty .held) 0)
+
+add-i : tie.Need-add-i Inv-loop μ-loop
+add-i c = omega arith
+
+loop-less : tie.Need-loop-less Inv-loop μ-loop
+loop-less c = omega arith
+
+loop-again : tie.Need-loop-again Inv-loop μ-loop
+loop-again c =
+    let s = c .before .before .before .before .args .t1 in
+    let q = c .before .before .before .loop in
+    (q .inv .0, counted-on (q .inv .1) (omega arith) _ 0 (c .slot-len .ensures))
+
+returns : tie.Need-returns Inv-loop μ-loop
+returns c =
+    let q = c .before .loop in
+    (counted-end (q .inv .1) (omega arith), omega (arith, counted-small (q .inv .1)))
+
+pub records-len-spec : {M : Type 1} → statement M
+records-len-spec =
+    tie.close
+    (tie.spec
+    Inv-loop
+    μ-loop
+    loop-holds
+    mul-slot-len
+    array-copy-out-slot-len
+    slot-len-requires
+    add-len
+    add-i
+    loop-less
+    loop-again
+    returns)

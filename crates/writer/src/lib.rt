@@ -1,0 +1,181 @@
+// The card writer: each record goes into the part of the buffer after the last one.
+ghost use mathlib.Core.Path.{_≡_};
+ghost use mathlib.Core.List.{_++_};
+ghost use Prim.Native.Nat.{_+_, _*_, _≤_, _<_};
+ghost use lib.ListN.{length, drop, replicate};
+ghost use Rattle.lines.specs.Slots.{isNothing};
+ghost use Rattle.card.specs.Bytes.{le, markOf};
+ghost use Rattle.card.specs.Card.{clockRecord, lineRecord, requestRecord, slotRecord, slotRecords, used};
+ghost use Rattle.card.specs.Answers.{saidWritten, writeOf, bufferOf};
+use card::WriteAnswer;
+use lines::Held;
+use lines::Refusal;
+use lines::Request;
+use lines::Run;
+use lines::Slot;
+use lines::Table;
+use lines::Which;
+
+fn put16(out: &mut [u8], v: u16)
+    requires { ⌜ 2 ≤ length (now out) ⌝ }
+    ensures { λ _. ⌜ now (out .exit) ≡ le 2 v ++ drop 2 (now (out .entry)) ⌝ }
+{
+    out[0] = (v % 256) as u8;
+    out[1] = (v / 256) as u8;
+}
+
+// Two numbers, one after the other.
+fn put_two(out: &mut [u8], a: u16, b: u16)
+    requires { ⌜ 4 ≤ length (now out) ⌝ }
+    ensures { λ _. ⌜ now (out .exit) ≡ (le 2 a ++ le 2 b) ++ drop 4 (now (out .entry)) ⌝ }
+{
+    put16(out, a);
+    put16(&mut out[2..], b);
+}
+
+fn put_mark(out: &mut [u8], mark: &[u8; 2])
+    requires { ⌜ 2 ≤ length (now out) ⌝ }
+    ensures { λ _. ⌜ now (out .exit) ≡ markOf (now (mark .entry)) ++ drop 2 (now (out .entry)) ⌝ }
+{
+    out[0] = mark[0];
+    out[1] = mark[1];
+}
+
+fn put_clock(out: &mut [u8], clock: u64)
+    requires { ⌜ 10 ≤ length (now out) ⌝ }
+    ensures { λ _. ⌜ now (out .exit) ≡ clockRecord clock ++ drop 10 (now (out .entry)) ⌝ }
+{
+    put_mark(out, b"CK");
+    let low = clock % 4294967296;
+    let high = clock / 4294967296;
+    put_two(&mut out[2..], (low % 65536) as u16, (low / 65536) as u16);
+    put_two(&mut out[6..], (high % 65536) as u16, (high / 65536) as u16);
+}
+
+fn put_line(out: &mut [u8], r: Run, stretched: u16)
+    requires { ⌜ 12 ≤ length (now out) ⌝ }
+    ensures { λ _. ⌜ now (out .exit) ≡ lineRecord r stretched ++ drop 12 (now (out .entry)) ⌝ }
+{
+    put_mark(out, b"TB");
+    put_two(&mut out[2..], r.need, r.period);
+    put_two(&mut out[6..], stretched, r.age);
+    put16(&mut out[10..], r.remaining);
+}
+
+fn put_request(out: &mut [u8], need: u16, period: u16)
+    requires { ⌜ 6 ≤ length (now out) ⌝ }
+    ensures { λ _. ⌜ now (out .exit) ≡ requestRecord need period ++ drop 6 (now (out .entry)) ⌝ }
+{
+    put_mark(out, b"RQ");
+    put_two(&mut out[2..], need, period);
+}
+
+// Writes a slot's record and answers its length. A waiting line has none.
+fn put_slot(out: &mut [u8], s: Slot, stretched: u16) -> usize
+    requires { ⌜ length (slotRecord (s .held) stretched) ≤ length (now out) ⌝ }
+    ensures { λ r. ⌜ (r ≡ length (slotRecord (s .held) stretched)) × (now (out .exit) ≡ slotRecord (s .held) stretched ++ drop (length (slotRecord (s .held) stretched)) (now (out .entry))) ⌝ }
+{
+    let h = s.held;
+    match h {
+        Held::Nothing => {
+            put_mark(out, b"TF");
+            2
+        }
+        Held::Running(r) => {
+            put_line(out, r, stretched);
+            12
+        }
+        Held::Waiting(_) => 0,
+    }
+}
+
+// The length of a slot's record, which no entry of the request changes.
+fn slot_len(s: Slot) -> usize
+    ensures { λ r. ⌜ r ≡ length (slotRecord (s .held) 0) ⌝ }
+{
+    let h = s.held;
+    match h {
+        Held::Nothing => 2,
+        Held::Running(_) => 12,
+        Held::Waiting(_) => 0,
+    }
+}
+
+fn is_empty(s: Slot) -> bool
+    ensures { λ r. ⌜ r ≡ isNothing (s .held) ⌝ }
+{
+    let h = s.held;
+    match h {
+        Held::Nothing => true,
+        Held::Running(_) => false,
+        Held::Waiting(_) => false,
+    }
+}
+
+// How many slots there are up to the last that holds something.
+fn used_slots(slots: [Slot; 16]) -> usize
+    ensures { λ r. ⌜ (r ≡ used slots) × (r ≤ 16) ⌝ }
+{
+    let mut n: usize = 16;
+    while 0 < n {
+        let k = n - 1;
+        if is_empty(slots[k]) {
+            n = k;
+        } else {
+            return n;
+        }
+    }
+    0
+}
+
+// The length of the records of the first `n` slots.
+fn records_len(slots: [Slot; 16], n: usize) -> usize
+    requires { ⌜ n ≤ 16 ⌝ }
+    ensures { λ r. ⌜ (r ≡ length (slotRecords n slots (replicate 16 0))) × (r ≤ 192) ⌝ }
+{
+    let mut i: usize = 0;
+    let mut len: usize = 0;
+    while i < n {
+        len = len + slot_len(slots[i]);
+        i = i + 1;
+    }
+    len
+}
+
+// Writes the records of the first `n` slots and answers their length.
+fn put_records(out: &mut [u8], slots: [Slot; 16], stretched: [u16; 16], n: usize) -> usize
+    requires { ⌜ (n ≤ 16) × (length (slotRecords n slots stretched) ≤ length (now out)) ⌝ }
+    ensures { λ r. ⌜ (r ≡ length (slotRecords n slots stretched)) × (now (out .exit) ≡ slotRecords n slots stretched ++ drop (length (slotRecords n slots stretched)) (now (out .entry))) ⌝ }
+{
+    let mut at: usize = 0;
+    let mut i: usize = 0;
+    while i < n {
+        let s = slots[i];
+        let t = stretched[i];
+        at = at + put_slot(&mut out[at..], s, t);
+        i = i + 1;
+    }
+    at
+}
+
+// "The writer refuses 3, then 13; otherwise it answers the card's length." The length is known before a byte is written.
+pub fn write(t: Table, q: Request, out: &mut [u8]) -> WriteAnswer
+    ensures { λ r. ⌜ (saidWritten r ≡ writeOf t q (length (now (out .entry)))) × (now (out .exit) ≡ bufferOf t q (now (out .entry))) ⌝ }
+{
+    match t.lowest_waiting() {
+        Which::At(k) => WriteAnswer::Refused(Refusal::new(3, k as u64)),
+        Which::None => {
+            let slots = t.slots;
+            let stretched = q.stretched;
+            let n = used_slots(slots);
+            let len = 16 + records_len(slots, n);
+            if out.len() < len {
+                return WriteAnswer::Refused(Refusal::new(13, 0));
+            }
+            put_clock(out, t.clock);
+            let at = 10 + put_records(&mut out[10..], slots, stretched, n);
+            put_request(&mut out[at..], q.need, q.period);
+            WriteAnswer::Length(len)
+        }
+    }
+}
