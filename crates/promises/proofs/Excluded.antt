@@ -12,8 +12,12 @@ use Rattle.lines.specs.declared.Answer.{Answer}
 use Rattle.lines.specs.declared.Answer.the-variants.{Start}
 use Rattle.lines.specs.declared.Stepped.{Stepped}
 use Rattle.lines.specs.Slots.{emptyTable, at, lowest}
+use Rattle.lines.specs.Grounds.{Answers}
+use Rattle.lines.specs.Ask.{says}
 use Rattle.lines.specs.Step.{chosen, advance, stepOf}
-use Rattle.lines.specs.Cases.{cases, caseA}
+use Rattle.lines.specs.Cases.{Case, cases, caseA, caseB}
+use Rattle.lines.specs.Faults.{closedStart}
+use Rattle.lines.proofs.Faults.{closed-formula-B}
 use Rattle.card.specs.declared.ReadCard.{ReadCard}
 use Rattle.card.specs.Bytes.{marked}
 use Rattle.card.specs.Card.{cardOf}
@@ -23,12 +27,15 @@ use Rattle.theory.proofs.Cases.{cases-answer}
 use Rattle.theory.proofs.Unique.{answers-is}
 use Rattle.promises.specs.Excluded.{MeetsAsk, MeetsStep, RefusesEverything, SaysTheClock, LeavesTheTable, OnlyMovesTheClock, MeetsRead, MeetsWrite, OneRequest, WritesNothing}
 
--- whatever meets ask's contract says 13 in case A
+-- whatever meets ask's contract gives each case its answer
+right-in : (f : Table → Request → Answer) → MeetsAsk f → (c : Case) → Answers (c .table) (c .request) (says (c .answer))
+    → f (c .table) (c .request) ≡ c .answer
+right-in f m c h =
+    answers-is (c .table) (c .request) (f (c .table) (c .request)) (m (c .table) (c .request)) ∙ sym (answers-is (c .table) (c .request) (c .answer) h)
+
 says-thirteen : (f : Table → Request → Answer) → MeetsAsk f → f (caseA .table) (caseA .request) ≡ Start 13
 unfolding cases
-says-thirteen f m =
-    answers-is (caseA .table) (caseA .request) (f (caseA .table) (caseA .request)) (m (caseA .table) (caseA .request))
-    ∙ sym (answers-is (caseA .table) (caseA .request) (Start 13) (cases-answer .0))
+says-thirteen f m = right-in f m caseA (cases-answer .0)
 
 pub no-ask-refuses-everything : (f : Table → Request → Answer) → MeetsAsk f → RefusesEverything f → ⊥
 no-ask-refuses-everything f m r =
@@ -42,6 +49,15 @@ no-ask-says-the-clock f m r =
     let e = says-thirteen f m in
     let x : f (caseA .table) (caseA .request) ≡ Start 8 = r (caseA .table) (caseA .request) in
     let z : _≡_ {A = ℕ} 8 13 = cc in omega arith
+
+-- the closed formula, in case B
+pub no-ask-uses-the-closed-formula : (f : Table → Request → Answer) → MeetsAsk f
+    → f (caseB .table) (caseB .request) ≡ Start (closedStart 6 (record { need = 8; period = 16; age = 6; remaining = 2 }) 32) → ⊥
+unfolding cases
+no-ask-uses-the-closed-formula f m r =
+    let e = right-in f m caseB (cases-answer .1 .0) in
+    let x : Start 6 ≡ Start 8 = sym e ∙ r ∙ ap Start closed-formula-B in
+    let z : _≡_ {A = ℕ} 6 8 = cc in omega arith
 
 empty-steps : stepOf emptyTable .table .clock ≡ 1
 unfolding lowest chosen advance stepOf
