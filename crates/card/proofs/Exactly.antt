@@ -6,7 +6,7 @@ use Rattle.lines.specs.declared.Table.{Table}
 use Rattle.lines.specs.declared.Request.{Request}
 use Rattle.lines.specs.Slots.{gives}
 use Rattle.card.specs.Bytes.{Bytes}
-use Rattle.card.specs.Card.{Card, cardOf, cleared, Fits}
+use Rattle.card.specs.Card.{Card, carrying, cardOf, cleared, Fits}
 use Rattle.card.specs.Reading.{readWith}
 use Rattle.card.proofs.ReadsBack.{reads-back}
 use Rattle.card.proofs.WritesBack.{writes-back}
@@ -26,5 +26,5 @@ module _ (n : ℕ) where
   pub reads-exactly : (l : List ℕ) → Bytes l → (Reads l → IsCard l) × (IsCard l → Reads l)
   reads-exactly l b = (
     λ r. let w = writes-back n l b (r .0) (r .1) in (r .0 .table, r .0 .request, w .1, w .0),
-    λ k. (record { table = k .0; request = cleared (k .0) (k .1) }, rw (k .3) at (reads-back n (k .0) (k .1) (k .2))),
+    λ k. (carrying (k .0) (cleared (k .0) (k .1)), rw (k .3) at (reads-back n (k .0) (k .1) (k .2))),
   )

@@ -1,7 +1,7 @@
 -- How long a card is.
-use mathlib.Core.Path.{_≡_, refl, sym, ap, ap₂, _∙_}
-use mathlib.Core.List.{List, [], _∷_, _++_}
-use Prim.Native.Nat.{ℕ, zero, suc, _+_, _*_, _≤_, _<_}
+use mathlib.Core.Path.{_≡_}
+use mathlib.Core.List.{List, [], _∷_}
+use Prim.Native.Nat.{ℕ, zero, suc, _+_, _*_, _≤_}
 use native.Mathlib.Omega.{arith}
 use lib.ListN.{length, length-append}
 use Rattle.lines.specs.declared.Held.{Held}
@@ -9,7 +9,7 @@ use Rattle.lines.specs.declared.Held.the-variants.{Nothing, Running, Waiting}
 use Rattle.lines.specs.declared.Slot.{Slot}
 use Rattle.lines.specs.declared.Table.{Table}
 use Rattle.lines.specs.declared.Request.{Request}
-use Rattle.card.specs.Card.{slotRecord, slotRecords, requestRecord, oneMore, usedFrom, used, cardOf}
+use Rattle.card.specs.Card.{slotRecord, slotRecords, requestRecord, usedFrom, used, cardOf}
 
 pub record-length : (h : Held) (t : ℕ) → length (slotRecord h t) ≤ 12
 record-length Nothing t = omega arith
@@ -19,7 +19,8 @@ record-length (Waiting w) t = omega arith
 pub records-length : (n : ℕ) (ss : List Slot) (ts : List ℕ) → length (slotRecords n ss ts) ≤ 12 * n
 records-length zero ss ts = omega arith
 records-length (suc n) [] ts = omega arith
-records-length (suc n) (s ∷ ss) [] = omega arith
+records-length (suc n) (s ∷ ss) [] =
+    omega (arith, length-append (slotRecord (s .held) 0) (slotRecords n ss []), record-length (s .held) 0, records-length n ss [])
 records-length (suc n) (s ∷ ss) (t ∷ ts) =
     omega (arith, length-append (slotRecord (s .held) t) (slotRecords n ss ts), record-length (s .held) t, records-length n ss ts)
 

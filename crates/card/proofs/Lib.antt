@@ -1,5 +1,6 @@
 -- The laws of the card.
 pub mod CaseA
+pub mod Parts
 pub mod Numbers
 pub mod Marks
 pub mod Records
@@ -10,4 +11,5 @@ pub mod Exactly
 pub mod Length
 pub mod Prefix
 pub mod Refusals
+pub mod Written
 pub mod Answers

@@ -2,19 +2,19 @@
 use mathlib.Core.Path.{_≡_, refl, sym, ap, ap₂, _∙_}
 use mathlib.Core.List.{List, [], _∷_, _++_}
 use mathlib.Core.Bool.{Bool, true, false}
-use Prim.Native.Nat.{ℕ, zero, suc, _+_, _≤_, _<_}
+use Prim.Native.Nat.{ℕ, zero, suc, _+_, _<_}
 use native.Mathlib.Omega.{arith}
-use lib.ListN.{length, drop, replicate}
+use lib.ListN.{length, replicate}
 use Rattle.lines.specs.declared.Run.{Run}
 use Rattle.lines.specs.declared.Held.{Held}
 use Rattle.lines.specs.declared.Held.the-variants.{Nothing, Running, Waiting}
 use Rattle.lines.specs.declared.Slot.{Slot}
 use Rattle.lines.specs.declared.Table.{Table}
 use Rattle.lines.specs.declared.Request.{Request}
-use Rattle.lines.specs.Slots.{pick, both, empty, Said, gives}
-use Rattle.card.specs.Bytes.{le, value, CK, TF, marked}
-use Rattle.card.specs.Card.{clockRecord, lineRecord, requestRecord, slotRecords, oneMore, usedFrom, used, cardOf, Card, entryOf, entries, cleared, Carried, AllCarried, Fits}
-use Rattle.card.specs.Reading.{after, ending, broken, recordsOf, readWith, readOf}
+use Rattle.lines.specs.Slots.{empty, gives}
+use Rattle.card.specs.Bytes.{le, CK, TF}
+use Rattle.card.specs.Card.{clockRecord, lineRecord, requestRecord, slotRecords, oneMore, usedFrom, used, cardOf, Card, carrying, entryOf, entries, cleared, Carried, AllCarried, Fits}
+use Rattle.card.specs.Reading.{after, ending, recordsOf, readWith}
 use Rattle.card.proofs.Numbers.{value-le}
 use Rattle.card.proofs.Marks.{false-true, marked-here}
 use Rattle.card.proofs.Records.{sees-line, sees-free, sees-last}
@@ -110,7 +110,7 @@ after-clock n k x h =
     ∙ ap (λ (v : ℕ). recordsOf v n false 10 x) (value-le 8 k x h)
 
 pub reads-back : (n : ℕ) (t : Table) (q : Request) → Fits n t q
-    → readWith n (cardOf t q) ≡ gives (record { table = t; request = cleared t q })
+    → readWith n (cardOf t q) ≡ gives (carrying t (cleared t q))
 unfolding cardOf
 reads-back n t q f =
     after-clock n (t .clock) _ (f .clock)

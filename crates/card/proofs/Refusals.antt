@@ -2,23 +2,22 @@
 use mathlib.Core.Path.{_≡_, refl, sym, ap, ap₂, _∙_}
 use mathlib.Core.List.{List, [], _∷_, _++_, append-assoc}
 use mathlib.Core.Bool.{Bool, true, false}
-use Prim.Native.Nat.{ℕ, zero, suc, _+_, _≤_, _<_}
+use Prim.Native.Nat.{ℕ, zero, suc, _+_, _<_}
 use native.Mathlib.Omega.{arith}
 use native.Mathlib.Nat.{zero-add, add-zero, suc-add}
 use native.Mathlib.Decide.{decLt}
 use lib.ListN.{length, drop}
-use lib.Dec.{leb, eqb}
+use lib.Dec.{leb}
 use borrow.Author.Tests.{lt-leb, ne-eqb}
 use Rattle.lines.specs.declared.Held.{Held}
 use Rattle.lines.specs.declared.Held.the-variants.{Nothing, Running, Waiting}
 use Rattle.lines.specs.declared.Slot.{Slot}
 use Rattle.lines.specs.declared.Refusal.{Refusal}
-use Rattle.lines.specs.Slots.{pick, both, empty, isNothing, refusal, Said, gives, refuses}
-use Rattle.card.specs.declared.Record.{Record}
-use Rattle.card.specs.declared.Record.the-variants.{Line, Free, Last, Refused}
+use Rattle.lines.specs.Slots.{pick, both, empty, isNothing, refusal, gives, refuses}
+use Rattle.card.specs.declared.Record.the-variants.{Refused}
 use Rattle.card.specs.Bytes.{value, CK, TB, TF, TA, RQ, marked}
 use Rattle.card.specs.Card.{clockRecord, lineRecord, slotRecord, slotRecords, entryOf, entries, Carried, AllCarried}
-use Rattle.card.specs.Reading.{lastOf, recordOf, after, ending, closing, broken, recordsOf, readWith}
+use Rattle.card.specs.Reading.{recordOf, after, ending, closing, broken, recordsOf, readWith}
 use Rattle.card.proofs.Marks.{marked-short, marked-other}
 use Rattle.card.proofs.Records.{at-last, at-end, at-line, at-old, at-unknown, line-cut, last-cut, last-whole}
 use Rattle.card.proofs.Steps.{records-last, records-refused, after-after, after-none}
@@ -76,6 +75,11 @@ module _ (n : ℕ) (l : List ℕ) where
       go : (o : Bool) → pick (both o (marked CK l)) (recordsOf (value 8 l 2) n false 10 (drop 10 l)) (broken 0) ≡ broken 0
       go true = ap (λ (u : Bool). pick u (recordsOf (value 8 l 2) n false 10 (drop 10 l)) (broken 0)) h
       go false = refl
+
+  -- where a slot record may not stand, the old mark is one more wrong mark
+  pub old-mark-first : marked TA l ≡ true → readWith n l ≡ broken 0
+  unfolding marked
+  old-mark-first h = no-clock (marked-other TA CK l h refl)
 
   pub cut-clock : length l < 10 → readWith n l ≡ broken 0
   unfolding readWith

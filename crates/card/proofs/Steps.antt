@@ -9,7 +9,6 @@ use Rattle.lines.specs.declared.Run.{Run}
 use Rattle.lines.specs.declared.Held.the-variants.{Running}
 use Rattle.lines.specs.declared.Slot.{Slot}
 use Rattle.lines.specs.Slots.{pick, both, empty, refusal, Said, gives, refuses}
-use Rattle.card.specs.declared.Record.{Record}
 use Rattle.card.specs.declared.Record.the-variants.{Line, Free, Last, Refused}
 use Rattle.card.specs.Bytes.{value, CK, marked}
 use Rattle.card.specs.Card.{Card}

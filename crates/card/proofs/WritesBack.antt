@@ -9,16 +9,15 @@ use lib.Dec.{leb, eqb}
 use borrow.Author.Tests.{leb-true, eqb-true}
 use Rattle.lines.specs.declared.Run.{Run}
 use Rattle.lines.specs.declared.Held.the-variants.{Running}
-use Rattle.lines.specs.declared.Slot.{Slot}
 use Rattle.lines.specs.Slots.{pick, both, empty, Said, gives, refuses}
 use Rattle.card.specs.declared.Record.{Record}
 use Rattle.card.specs.declared.Record.the-variants.{Line, Free, Last, Refused}
-use Rattle.card.specs.Bytes.{Bytes, le, value, CK, TF, marked}
+use Rattle.card.specs.Bytes.{Bytes, value, CK, TF, marked}
 use Rattle.card.specs.Card.{clockRecord, lineRecord, requestRecord, slotRecords, oneMore, used, cardOf, Card, Carried, AllCarried, Fits}
 use Rattle.card.specs.Reading.{after, ending, broken, closing, step, recordOf, recordsOf, readWith}
 use Rattle.card.proofs.Numbers.{bytes-drop, le-value, value-lt}
 use Rattle.card.proofs.Marks.{false-true, both-true, marked-is}
-use Rattle.card.proofs.Records.{runAt, Stands, stands, line-is, last-is}
+use Rattle.card.proofs.Records.{Stands, stands, line-is, last-is}
 use Rattle.card.proofs.ReadsBack.{oneMore-some}
 
 -- what a card read from these bytes, with n slots left, owes them; after a TF something is still held

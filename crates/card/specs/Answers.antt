@@ -22,11 +22,12 @@ abbrev pub handed : Said Card → ReadCard
 handed (gives c) = record { table = c .table; request = c .request; answer = Read }
 handed (refuses r) = record { table = emptyTable; request = zeroRequest; answer = Refused r }
 
--- what the reader's answer says of what it hands out
+-- what the reader's answer says: the table and the request beside it, or the refusal's number and place
 abbrev pub saidWith : Table → Request → CardAnswer → Said Card
 saidWith t q Read = gives (record { table = t; request = q })
 saidWith t q (Refused r) = refuses r
 
+-- the same of all that the reader hands out
 abbrev pub saidRead : ReadCard → Said Card
 saidRead c = saidWith (c .table) (c .request) (c .answer)
 
@@ -54,5 +55,6 @@ abbrev pub filled : List ℕ → List ℕ → Said ℕ → List ℕ
 filled card l (gives n) = card ++ drop n l
 filled card l (refuses r) = l
 
+-- the lent buffer when the writer returns
 abbrev pub bufferOf : Table → Request → List ℕ → List ℕ
 bufferOf t q l = filled (cardOf t q) l (writeOf t q (length l))

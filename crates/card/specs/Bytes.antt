@@ -20,19 +20,23 @@ abbrev pub value : (width : ℕ) → List ℕ → (at : ℕ) → ℕ
 value zero l at = 0
 value (suc n) l at = getD l at 0 + 256 * value n l (suc at)
 
--- "Every record opens with a two-byte mark in ASCII"
+-- "Every record opens with a two-byte mark in ASCII": the clock
 abbrev pub CK : List ℕ
 CK = 0x43 ∷ 0x4B ∷ []
 
+-- a slot that runs a line
 abbrev pub TB : List ℕ
 TB = 0x54 ∷ 0x42 ∷ []
 
+-- a slot that holds nothing
 abbrev pub TF : List ℕ
 TF = 0x54 ∷ 0x46 ∷ []
 
+-- generation three's line
 abbrev pub TA : List ℕ
 TA = 0x54 ∷ 0x41 ∷ []
 
+-- the new line
 abbrev pub RQ : List ℕ
 RQ = 0x52 ∷ 0x51 ∷ []
 

@@ -1,5 +1,5 @@
 -- The bytes of the card, record by record. Lists of any length: sixteen is the code's number.
-use Prim.Native.Nat.{ℕ, zero, suc, _+_, _<_}
+use Prim.Native.Nat.{ℕ, zero, suc, _<_}
 use mathlib.Core.Path.{_≡_}
 use mathlib.Core.List.{List, [], _∷_, _++_}
 use lib.ListN.{length}
@@ -29,18 +29,19 @@ slotRecord (Waiting w) t = []
 abbrev pub requestRecord : (Cn Tn : ℕ) → List ℕ
 requestRecord c t = RQ ++ (le 2 c ++ le 2 t)
 
--- the records of the first n slots, "from 0 up"
+-- the records of the first n slots, "from 0 up"; where there is no entry it is 0
 abbrev pub slotRecords : ℕ → List Slot → (stretched : List ℕ) → List ℕ
 slotRecords zero ss ts = []
 slotRecords (suc n) [] ts = []
-slotRecords (suc n) (s ∷ ss) [] = []
+slotRecords (suc n) (s ∷ ss) [] = slotRecord (s .held) 0 ++ slotRecords n ss []
 slotRecords (suc n) (s ∷ ss) (t ∷ ts) = slotRecord (s .held) t ++ slotRecords n ss ts
 
--- one slot more in front of n that are used, if there are any
+-- an empty slot in front of others counts only if one of these is used
 abbrev pub oneMore : ℕ → ℕ
 oneMore zero = zero
 oneMore (suc n) = suc (suc n)
 
+-- a slot in front of others of which n are used
 abbrev pub usedFrom : Held → ℕ → ℕ
 usedFrom Nothing n = oneMore n
 usedFrom (Running r) n = suc n
@@ -51,6 +52,7 @@ abbrev pub used : List Slot → ℕ
 used [] = zero
 used (s ∷ ss) = usedFrom (s .held) (used ss)
 
+-- the card: the clock, the slots up to the last used one, the new line
 unfoldable pub cardOf : Table → Request → List ℕ
 cardOf t q =
     clockRecord (t .clock) ++
@@ -62,20 +64,23 @@ pub record Card : Type 0 where
   pub table : Table
   pub request : Request
 
+-- the two together
 abbrev pub carrying : Table → Request → Card
 carrying t q = record { table = t; request = q }
 
--- "entries of empty slots being 0"
+-- "entries of empty slots being 0": what a card carries of the entry of a slot
 abbrev pub entryOf : Held → ℕ → ℕ
 entryOf Nothing t = 0
 entryOf (Running r) t = t
 entryOf (Waiting w) t = t
 
+-- the entries, one for each slot, that a card carries
 abbrev pub entries : List Slot → List ℕ → List ℕ
 entries [] ts = []
 entries (s ∷ ss) [] = []
 entries (s ∷ ss) (t ∷ ts) = entryOf (s .held) t ∷ entries ss ts
 
+-- the request that a card carries
 abbrev pub cleared : Table → Request → Request
 cleared t q = record { stretched = entries (t .slots) (q .stretched); need = q .need; period = q .period }
 

@@ -19,6 +19,7 @@ lineOf l =
     (Line (record { need = value 2 l 2; period = value 2 l 4; age = value 2 l 8; remaining = value 2 l 10 }) (value 2 l 6))
     (Refused 11)
 
+-- "RQ, then Cn, Tn", or cut
 abbrev pub lastOf : List ℕ → Record
 lastOf l = pick (leb 6 (length l)) (Last (value 2 l 2) (value 2 l 4)) (Refused 11)
 
@@ -31,6 +32,7 @@ slotRecordOf l =
 unfoldable pub recordOf : (left : ℕ) → List ℕ → Record
 recordOf left l = pick (marked RQ l) (lastOf l) (pick (ltb 0 left) (slotRecordOf l) (Refused 11))
 
+-- "broken card": its place is a byte offset
 abbrev pub broken : (place : ℕ) → Said Card
 broken at = refuses (refusal 11 at)
 

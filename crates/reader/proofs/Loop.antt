@@ -7,7 +7,7 @@ use native.Mathlib.Omega.{arith}
 use native.Mathlib.Numerals.{add-one}
 use native.Mathlib.Nat.{add-zero}
 use lib.ListN.{length, take, drop, set, getD, replicate, length-drop, length-set, take-append-drop}
-use lib.Seq.{getD-drop, take-suc-set, drop-set-lt, drop-drop, take-suc, take-all}
+use lib.Seq.{getD-drop, take-suc-set, drop-set-lt, drop-drop, take-suc}
 use lib.Dec.{eqb}
 use borrow.Author.Tests.{eq-eqb, ne-eqb}
 use Rattle.lines.specs.declared.Run.{Run}
@@ -21,10 +21,6 @@ use Rattle.card.specs.Reading.{after, ending, closing, broken, recordOf, record
 use Rattle.card.proofs.Records.{says}
 use Rattle.card.proofs.Steps.{records-line, records-free, records-last, records-refused, after-after, after-none}
 use Rattle.card.proofs.ReadsBack.{made}
-
--- the part from a start to the end is what drop leaves
-pub part-all : (l : List ℕ) (a : ℕ) → take (length l - a) (drop a l) ≡ drop a l
-part-all l a = take-all (length l - a) (drop a l) (omega (arith, length-drop a l))
 
 -- the records behind the clock's, read with n slots
 abbrev pub reading : ℕ → List ℕ → Said Card

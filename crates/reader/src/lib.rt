@@ -211,6 +211,7 @@ fn records(card: &[u8]) -> ReadCard
     }
 }
 
+// Any bytes of any length. The contract is an equation: it settles all that is handed out.
 pub fn read(card: &[u8]) -> ReadCard
     ensures { λ r. ⌜ r ≡ handed (readOf (now (card .entry))) ⌝ }
 {

@@ -1,15 +1,11 @@
 -- What lending a part of the buffer leaves of the whole.
 use mathlib.Core.Path.{_≡_, sym, ap, _∙_}
-use mathlib.Core.List.{List, [], _∷_, _++_, append-assoc, append-nil}
-use Prim.Native.Nat.{ℕ, zero, suc, _+_, _-_, _/_, _%_, _≤_, _<_}
+use mathlib.Core.List.{List, [], _++_, append-assoc, append-nil}
+use Prim.Native.Nat.{ℕ, _+_, _-_}
 use native.Mathlib.Omega.{arith}
 use lib.ListN.{length, take, drop, length-drop, drop-of-length-le}
-use lib.Seq.{take-all, take-at, drop-at, drop-drop}
-use Rattle.card.specs.Bytes.{le}
-
--- the part from a start to the end is what drop leaves
-pub part-all : (l : List ℕ) (a : ℕ) → take (length l - a) (drop a l) ≡ drop a l
-part-all l a = take-all (length l - a) (drop a l) (omega (arith, length-drop a l))
+use lib.Seq.{take-at, drop-at, drop-drop}
+use Rattle.card.proofs.Parts.{part-all}
 
 -- a callee writes bs at the front of the part from a on, where p stands written before
 pub put-at : (l₀ l p bs ys : List ℕ) (a n : ℕ) → l ≡ p ++ drop a l₀ → length p ≡ a → length bs ≡ n

@@ -1,13 +1,13 @@
 -- The writer's loops over the slots: the used ones, the length of their records, the records.
 use mathlib.Core.Path.{_≡_, refl, sym, ap, ap₂, _∙_}
 use mathlib.Core.List.{List, [], _∷_, _++_, append-assoc, append-nil}
-use mathlib.Core.Bool.{Bool, true, false}
+use mathlib.Core.Bool.{true, false}
 use Prim.Native.Nat.{ℕ, zero, suc, _+_, _-_, _*_, _≤_, _<_}
 use native.Mathlib.Omega.{arith}
-use native.Mathlib.Nat.{le-of-suc-le-suc}
+use native.Mathlib.Nat.{le-of-suc-le-suc, add-comm}
 use native.Mathlib.Numerals.{add-one}
 use lib.ListN.{length, take, drop, getD, length-append, length-drop}
-use lib.Seq.{drop-cons}
+use lib.Seq.{drop-cons, getD-drop}
 use Rattle.lines.specs.declared.Held.{Held}
 use Rattle.lines.specs.declared.Held.the-variants.{Nothing, Running, Waiting}
 use Rattle.lines.specs.declared.Slot.{Slot}
@@ -50,31 +50,36 @@ record-same Nothing t u = refl
 record-same (Running r) t u = refl
 record-same (Waiting w) t u = refl
 
-pub records-same : (n : ℕ) (ss : List Slot) (ts us : List ℕ) → length ts ≡ length us
-    → length (slotRecords n ss ts) ≡ length (slotRecords n ss us)
-records-same zero ss ts us e = refl
-records-same (suc n) [] ts us e = refl
-records-same (suc n) (s ∷ ss) [] [] e = refl
-records-same (suc n) (s ∷ ss) [] (u ∷ us) e = absurd (omega arith)
-records-same (suc n) (s ∷ ss) (t ∷ ts) [] e = absurd (omega arith)
-records-same (suc n) (s ∷ ss) (t ∷ ts) (u ∷ us) e =
-    length-append (slotRecord (s .held) t) (slotRecords n ss ts)
-    ∙ ap₂ _+_ (record-same (s .held) t u) (records-same n ss ts us (omega arith))
-    ∙ sym (length-append (slotRecord (s .held) u) (slotRecords n ss us))
+-- the first record, and then the others
+pub records-first : (n : ℕ) (s : Slot) (ss : List Slot) (ts : List ℕ)
+    → slotRecords (suc n) (s ∷ ss) ts ≡ slotRecord (s .held) (getD ts 0 0) ++ slotRecords n ss (drop 1 ts)
+records-first n s ss [] = refl
+records-first n s ss (t ∷ ts) = refl
+
+pub records-same : (n : ℕ) (ss : List Slot) (ts us : List ℕ) → length (slotRecords n ss ts) ≡ length (slotRecords n ss us)
+records-same zero ss ts us = refl
+records-same (suc n) [] ts us = refl
+records-same (suc n) (s ∷ ss) ts us =
+    ap length (records-first n s ss ts) ∙ length-append (slotRecord (s .held) (getD ts 0 0)) (slotRecords n ss (drop 1 ts))
+    ∙ ap₂ _+_ (record-same (s .held) (getD ts 0 0) (getD us 0 0)) (records-same n ss (drop 1 ts) (drop 1 us))
+    ∙ sym (ap length (records-first n s ss us) ∙ length-append (slotRecord (s .held) (getD us 0 0)) (slotRecords n ss (drop 1 us)))
 
 -- one record more
-pub records-next : (ss : List Slot) (ts : List ℕ) (i : ℕ) → i < length ss → i < length ts
+pub records-next : (ss : List Slot) (ts : List ℕ) (i : ℕ) → i < length ss
     → slotRecords (suc i) ss ts ≡ slotRecords i ss ts ++ slotRecord (getD ss i empty .held) (getD ts i 0)
-records-next [] ts i h k = absurd (omega arith)
-records-next (s ∷ ss) [] i h k = absurd (omega arith)
-records-next (s ∷ ss) (t ∷ ts) zero h k = append-nil (slotRecord (s .held) t)
-records-next (s ∷ ss) (t ∷ ts) (suc i) h k =
-    ap (λ (x : List ℕ). slotRecord (s .held) t ++ x) (records-next ss ts i (le-of-suc-le-suc h) (le-of-suc-le-suc k))
-    ∙ sym (append-assoc (slotRecord (s .held) t) (slotRecords i ss ts) (slotRecord (getD ss i empty .held) (getD ts i 0)))
+records-next [] ts i h = absurd (omega arith)
+records-next (s ∷ ss) ts zero h = records-first 0 s ss ts ∙ append-nil (slotRecord (s .held) (getD ts 0 0))
+records-next (s ∷ ss) ts (suc i) h =
+    let v = slotRecord (getD ss i empty .held) (getD (drop 1 ts) i 0) in
+    let w : getD (drop 1 ts) i 0 ≡ getD ts (suc i) 0 = getD-drop 1 ts i 0 ∙ ap (λ (k : ℕ). getD ts k 0) (add-comm 1 i ∙ add-one i) in
+    records-first (suc i) s ss ts
+    ∙ ap (λ (x : List ℕ). slotRecord (s .held) (getD ts 0 0) ++ x) (records-next ss (drop 1 ts) i (le-of-suc-le-suc h))
+    ∙ sym (append-assoc (slotRecord (s .held) (getD ts 0 0)) (slotRecords i ss (drop 1 ts)) v)
+    ∙ ap₂ (λ (x : List ℕ) (y : ℕ). x ++ slotRecord (getD ss i empty .held) y) (sym (records-first i s ss ts)) w
 
-module _ (ss : List Slot) (ts : List ℕ) (i : ℕ) (h : i < length ss) (k : i < length ts) where
+module _ (ss : List Slot) (ts : List ℕ) (i : ℕ) (h : i < length ss) where
   pub records-on : slotRecords (i + 1) ss ts ≡ slotRecords i ss ts ++ slotRecord (getD ss i empty .held) (getD ts i 0)
-  records-on = ap (λ (j : ℕ). slotRecords j ss ts) (add-one i) ∙ records-next ss ts i h k
+  records-on = ap (λ (j : ℕ). slotRecords j ss ts) (add-one i) ∙ records-next ss ts i h
 
   pub length-on : length (slotRecords (i + 1) ss ts) ≡ length (slotRecords i ss ts) + length (slotRecord (getD ss i empty .held) (getD ts i 0))
   length-on = ap length records-on ∙ length-append (slotRecords i ss ts) (slotRecord (getD ss i empty .held) (getD ts i 0))
@@ -83,24 +88,21 @@ pub records-mono : (ss : List Slot) (ts : List ℕ) (i n : ℕ) → i ≤ n → 
 records-mono ss ts zero n h = omega arith
 records-mono ss ts (suc i) zero h = absurd (omega arith)
 records-mono [] ts (suc i) (suc n) h = omega arith
-records-mono (s ∷ ss) [] (suc i) (suc n) h = omega arith
-records-mono (s ∷ ss) (t ∷ ts) (suc i) (suc n) h =
-    omega (
-      arith,
-      length-append (slotRecord (s .held) t) (slotRecords i ss ts),
-      length-append (slotRecord (s .held) t) (slotRecords n ss ts),
-      records-mono ss ts i n (le-of-suc-le-suc h),
-    )
+records-mono (s ∷ ss) ts (suc i) (suc n) h =
+    let r = slotRecord (s .held) (getD ts 0 0) in
+    let a = ap length (records-first i s ss ts) ∙ length-append r (slotRecords i ss (drop 1 ts)) in
+    let b = ap length (records-first n s ss ts) ∙ length-append r (slotRecords n ss (drop 1 ts)) in
+    let c = records-mono ss (drop 1 ts) i n (le-of-suc-le-suc h) in
+    omega arith
 
 -- len is the length of i of n records
 pub record Counted (ss : List Slot) (ts : List ℕ) (n i len : ℕ) : Type 0 where
   pub few : i ≤ n
   pub slots : n ≤ length ss
-  pub stretched : n ≤ length ts
   pub count : len ≡ length (slotRecords i ss ts)
 
-pub counted-start : (ss : List Slot) (ts : List ℕ) (n : ℕ) → n ≤ length ss → n ≤ length ts → Counted ss ts n 0 0
-counted-start ss ts n a b = record { few = omega arith; slots = a; stretched = b; count = refl }
+pub counted-start : (ss : List Slot) (ts : List ℕ) (n : ℕ) → n ≤ length ss → Counted ss ts n 0 0
+counted-start ss ts n a = record { few = omega arith; slots = a; count = refl }
 
 module _ {ss : List Slot} {ts : List ℕ} {n i len : ℕ} (m : Counted ss ts n i len) where
   pub counted-small : len ≤ 12 * i
@@ -110,9 +112,8 @@ module _ {ss : List Slot} {ts : List ℕ} {n i len : ℕ} (m : Counted ss ts n i
   counted-on h r u e = record {
     few = omega arith;
     slots = m .slots;
-    stretched = m .stretched;
     count =
-        (let a = length-on ss ts i (omega (arith, m .slots)) (omega (arith, m .stretched)) in
+        (let a = length-on ss ts i (omega (arith, m .slots)) in
         let b = record-same (getD ss i empty .held) u (getD ts i 0) in
         omega (arith, m .count));
   }
@@ -126,14 +127,13 @@ module _ {ss : List Slot} {ts : List ℕ} {n i len : ℕ} (m : Counted ss ts n i
 pub record Put (l₀ : List ℕ) (ss : List Slot) (ts : List ℕ) (n : ℕ) (l : List ℕ) (at i : ℕ) : Type 0 where
   pub few : i ≤ n
   pub slots : n ≤ length ss
-  pub stretched : n ≤ length ts
   pub room : length (slotRecords n ss ts) ≤ length l₀
   pub place : at ≡ length (slotRecords i ss ts)
   pub kept : l ≡ slotRecords i ss ts ++ drop at l₀
 
-pub put-start : (l₀ : List ℕ) (ss : List Slot) (ts : List ℕ) (n : ℕ) → n ≤ length ss → n ≤ length ts → length (slotRecords n ss ts) ≤ length l₀
+pub put-start : (l₀ : List ℕ) (ss : List Slot) (ts : List ℕ) (n : ℕ) → n ≤ length ss → length (slotRecords n ss ts) ≤ length l₀
     → Put l₀ ss ts n l₀ 0 0
-put-start l₀ ss ts n a b c = record { few = omega arith; slots = a; stretched = b; room = c; place = refl; kept = refl }
+put-start l₀ ss ts n a c = record { few = omega arith; slots = a; room = c; place = refl; kept = refl }
 
 module _ {l₀ : List ℕ} {ss : List Slot} {ts : List ℕ} {n : ℕ} {l : List ℕ} {at i : ℕ} (m : Put l₀ ss ts n l at i) where
   pub put-same : length l ≡ length l₀
@@ -145,7 +145,7 @@ module _ {l₀ : List ℕ} {ss : List Slot} {ts : List ℕ} {n : ℕ} {l : List 
   put-room h =
       omega (
         arith,
-        length-on ss ts i (omega (arith, m .slots)) (omega (arith, m .stretched)),
+        length-on ss ts i (omega (arith, m .slots)),
         records-mono ss ts (i + 1) n (omega arith),
         put-same,
         m .room,
@@ -159,15 +159,13 @@ module _ {l₀ : List ℕ} {ss : List Slot} {ts : List ℕ} {n : ℕ} {l : List 
   put-next h r ys e q =
       let bs = slotRecord (getD ss i empty .held) (getD ts i 0) in
       let hs : i < length ss = omega (arith, m .slots) in
-      let ht : i < length ts = omega (arith, m .stretched) in
       let w = put-at l₀ l (slotRecords i ss ts) bs ys at (length bs) (m .kept) (sym (m .place)) refl q in
       record {
         few = omega arith;
         slots = m .slots;
-        stretched = m .stretched;
         room = m .room;
-        place = omega (arith, length-on ss ts i hs ht, m .place);
-        kept = w ∙ ap₂ (λ (x : List ℕ) (k : ℕ). x ++ drop (at + k) l₀) (sym (records-on ss ts i hs ht)) (sym e);
+        place = omega (arith, length-on ss ts i hs, m .place);
+        kept = w ∙ ap₂ (λ (x : List ℕ) (k : ℕ). x ++ drop (at + k) l₀) (sym (records-on ss ts i hs)) (sym e);
       }
 
   pub put-end : n ≤ i → (at ≡ length (slotRecords n ss ts)) × (l ≡ slotRecords n ss ts ++ drop (length (slotRecords n ss ts)) l₀)

@@ -1,6 +1,6 @@
 -- The answer and the buffer of the whole writer.
 use mathlib.Core.Path.{_≡_, refl, sym, ap, ap₂, _∙_}
-use mathlib.Core.List.{List, [], _∷_, _++_, append-assoc}
+use mathlib.Core.List.{List, _++_, append-assoc}
 use mathlib.Core.Bool.{Bool}
 use Prim.Native.Nat.{ℕ, suc, _+_, _*_, _/_, _%_, _≤_, _<_}
 use native.Mathlib.Omega.{arith}
@@ -56,9 +56,9 @@ module _ (t : Table) (q : Request) where
       append-assoc (clockRecord (t .clock)) (slotRecords n (t .slots) (q .stretched)) (requestRecord (q .need) (q .period))
       ∙ ap (λ (m : ℕ). clockRecord (t .clock) ++ (slotRecords m (t .slots) (q .stretched) ++ requestRecord (q .need) (q .period))) e
 
-  module _ (n m : ℕ) (e : n ≡ used (t .slots)) (f : m ≡ length (slotRecords n (t .slots) (replicate 16 0))) (k : length (q .stretched) ≡ 16) where
+  module _ (n m : ℕ) (e : n ≡ used (t .slots)) (f : m ≡ length (slotRecords n (t .slots) (replicate 16 0))) where
     pub records-len : m ≡ length (slotRecords n (t .slots) (q .stretched))
-    records-len = f ∙ records-same n (t .slots) (replicate 16 0) (q .stretched) (sym k)
+    records-len = f ∙ records-same n (t .slots) (replicate 16 0) (q .stretched)
 
     pub card-len : 16 + m ≡ length (cardOf t q)
     card-len =

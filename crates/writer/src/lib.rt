@@ -159,6 +159,7 @@ fn put_records(out: &mut [u8], slots: [Slot; 16], stretched: [u16; 16], n: usize
 }
 
 // "The writer refuses 3, then 13; otherwise it answers the card's length." The length is known before a byte is written.
+// The contract settles the answer and the whole buffer: both parts are equations.
 pub fn write(t: Table, q: Request, out: &mut [u8]) -> WriteAnswer
     ensures { λ r. ⌜ (saidWritten r ≡ writeOf t q (length (now (out .entry)))) × (now (out .exit) ≡ bufferOf t q (now (out .entry))) ⌝ }
 {

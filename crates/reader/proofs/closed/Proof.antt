@@ -1,9 +1,6 @@
 -- `closed`: the two tests are those of the definition.
 use borrow.Author.Needs.{needs}
 use mathlib.Core.Path.{sym, ap, _∙_}
-use mathlib.Core.Bool.{Bool}
-use Prim.Native.Nat.{_+_, _-_}
-use native.Mathlib.Omega.{arith}
 use Rattle.card.specs.Card.{carrying}
 use Rattle.card.specs.Answers.{handed}
 use Rattle.reader.proofs.Loop.{closing-gap, closing-more, closing-good}

@@ -1,10 +1,8 @@
 -- `record_at`: the part from `at` to the end is what `drop` leaves.
 use borrow.Author.Needs.{needs}
 use mathlib.Core.Path.{ap, _∙_}
-use mathlib.Core.List.{List}
-use Prim.Native.Nat.{ℕ}
 use Rattle.card.specs.Reading.{recordOf}
-use Rattle.reader.proofs.Loop.{part-all}
+use Rattle.card.proofs.Parts.{part-all}
 use Rattle.reader.proofs.record_at.Statement.{statement}
 use Rattle.reader.proofs.record_at.Tie as tie
 

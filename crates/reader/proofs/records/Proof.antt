@@ -32,29 +32,23 @@ enum-known-r c = search needs
 running-requires : tie.Need-running-requires Inv-loop μ-loop
 running-requires c κs = tt
 
-mul-slots : tie.Need-mul-slots Inv-loop μ-loop
-mul-slots c =
+loop-less : tie.Need-loop-less Inv-loop μ-loop
+loop-less c =
     let q = c .before .before .before .before .before .loop in
     let e = sym (c .before .before .before .before .record-at .ensures) ∙ c .before .before .r .given .1 in
     omega (arith, line-room (q .inv) e)
+
+mul-slots : tie.Need-mul-slots Inv-loop μ-loop
+mul-slots c = omega (arith, loop-less c)
 
 array-set-from-slots : tie.Need-array-set-from-slots Inv-loop μ-loop
-array-set-from-slots c =
-    let q = c .before .before .before .before .before .loop in
-    let e = sym (c .before .before .before .before .record-at .ensures) ∙ c .before .before .r .given .1 in
-    omega (arith, line-room (q .inv) e)
+array-set-from-slots c = omega (arith, loop-less c)
 
 mul-stretched : tie.Need-mul-stretched Inv-loop μ-loop
-mul-stretched c =
-    let q = c .before .before .before .before .before .loop in
-    let e = sym (c .before .before .before .before .record-at .ensures) ∙ c .before .before .r .given .1 in
-    omega (arith, line-room (q .inv) e)
+mul-stretched c = omega (arith, loop-less c)
 
 array-write-stretched : tie.Need-array-write-stretched Inv-loop μ-loop
-array-write-stretched c =
-    let q = c .before .before .before .before .before .loop in
-    let e = sym (c .before .before .before .before .record-at .ensures) ∙ c .before .before .r .given .1 in
-    omega (arith, line-room (q .inv) e)
+array-write-stretched c = omega (arith, loop-less c)
 
 add-at : tie.Need-add-at Inv-loop μ-loop
 add-at c =
@@ -63,16 +57,7 @@ add-at c =
     omega (arith, line-room (q .inv) e)
 
 add-i : tie.Need-add-i Inv-loop μ-loop
-add-i c =
-    let q = c .before .before .before .before .before .loop in
-    let e = sym (c .before .before .before .before .record-at .ensures) ∙ c .before .before .r .given .1 in
-    omega (arith, line-room (q .inv) e)
-
-loop-less : tie.Need-loop-less Inv-loop μ-loop
-loop-less c =
-    let q = c .before .before .before .before .before .loop in
-    let e = sym (c .before .before .before .before .record-at .ensures) ∙ c .before .before .r .given .1 in
-    omega (arith, line-room (q .inv) e)
+add-i c = omega (arith, loop-less c)
 
 loop-again : tie.Need-loop-again Inv-loop μ-loop
 loop-again c =
@@ -83,6 +68,12 @@ loop-again c =
 enum-told : tie.Need-enum-told Inv-loop μ-loop
 enum-told c = search needs
 
+loop-less-2 : tie.Need-loop-less-2 Inv-loop μ-loop
+loop-less-2 c =
+    let q = c .before .before .before .loop in
+    let e = sym (c .before .before .record-at .ensures) ∙ c .enum-told .given .1 in
+    omega (arith, free-room (q .inv) e)
+
 add-at-2 : tie.Need-add-at-2 Inv-loop μ-loop
 add-at-2 c =
     let q = c .before .before .before .loop in
@@ -90,16 +81,7 @@ add-at-2 c =
     omega (arith, free-room (q .inv) e)
 
 add-i-2 : tie.Need-add-i-2 Inv-loop μ-loop
-add-i-2 c =
-    let q = c .before .before .before .loop in
-    let e = sym (c .before .before .record-at .ensures) ∙ c .enum-told .given .1 in
-    omega (arith, free-room (q .inv) e)
-
-loop-less-2 : tie.Need-loop-less-2 Inv-loop μ-loop
-loop-less-2 c =
-    let q = c .before .before .before .loop in
-    let e = sym (c .before .before .record-at .ensures) ∙ c .enum-told .given .1 in
-    omega (arith, free-room (q .inv) e)
+add-i-2 c = omega (arith, loop-less-2 c)
 
 loop-again-2 : tie.Need-loop-again-2 Inv-loop μ-loop
 loop-again-2 c =

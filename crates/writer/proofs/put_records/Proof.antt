@@ -1,11 +1,10 @@
 -- `put_records`: the loop keeps `Put`; each record goes into the part after the last one.
 use borrow.Author.Needs.{needs}
-use borrow.Rule.Slice.PartMut.{same-len-mid}
-use mathlib.Core.Path.{_≡_, refl, sym, ap, _∙_}
-use Prim.Native.Nat.{ℕ, _+_, _-_, _≤_, _<_}
+use mathlib.Core.Path.{_≡_, ap}
+use Prim.Native.Nat.{_-_}
 use native.Mathlib.Omega.{arith}
-use lib.ListN.{length, drop, getD, length-drop}
-use Rattle.writer.proofs.Parts.{part-all}
+use lib.ListN.{length, length-drop}
+use Rattle.card.proofs.Parts.{part-all}
 use Rattle.writer.proofs.Slots.{Put, put-start, put-same, put-room, put-next, put-end}
 use Rattle.writer.proofs.put_records.Statement.{statement}
 use Rattle.writer.proofs.put_records.Tie as tie
@@ -20,8 +19,7 @@ loop-holds : tie.Need-loop-holds Inv-loop μ-loop
 loop-holds c =
     let a = c .before .args in
     let h : length (a .t2) ≡ 16 = search needs in
-    let k : length (a .t3) ≡ 16 = search needs in
-    put-start (a .out .now) (a .t2) (a .t3) (a .n) (omega (arith, c .before .pre .0)) (omega (arith, c .before .pre .0)) (c .before .pre .1)
+    put-start (a .out .now) (a .t2) (a .t3) (a .n) (omega (arith, c .before .pre .0)) (c .before .pre .1)
 
 mul-s : tie.Need-mul-s Inv-loop μ-loop
 mul-s c = omega arith

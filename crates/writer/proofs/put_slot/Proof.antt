@@ -1,7 +1,6 @@
 -- `put_slot`: one record writer for each thing that a slot may hold.
 use borrow.Author.Needs.{needs}
 use mathlib.Core.Path.{ap}
-use Prim.Native.Nat.{ℕ}
 use native.Mathlib.Omega.{arith}
 use lib.ListN.{length}
 use Rattle.lines.specs.declared.Held.{Held}

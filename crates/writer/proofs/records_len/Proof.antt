@@ -19,7 +19,7 @@ abbrev μ-loop : tie.MeasureT-loop
 loop-holds : tie.Need-loop-holds Inv-loop μ-loop
 loop-holds c =
     let h : length (c .args .t1) ≡ 16 = search needs in
-    (c .pre, counted-start _ _ _ (omega (arith, c .pre)) (c .pre))
+    (c .pre, counted-start _ _ _ (omega (arith, c .pre)))
 
 mul-slot-len : tie.Need-mul-slot-len Inv-loop μ-loop
 mul-slot-len c = omega arith

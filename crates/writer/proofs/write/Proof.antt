@@ -1,41 +1,42 @@
 -- `write`: a waiting line is refused first, a short buffer before a byte is written; then the three parts of the card go one after the other.
 use borrow.Rule.Slice.PartMut.{putMid, same-len-mid}
 use borrow.Author.Needs.{needs}
-use mathlib.Core.Path.{_≡_, refl, sym, ap, _∙_}
+use mathlib.Core.Path.{refl, sym, ap, _∙_}
 use mathlib.Core.List.{_++_}
 use Prim.Native.Nat.{ℕ, _+_, _-_}
 use native.Mathlib.Omega.{arith}
 use lib.ListN.{length, drop, length-drop}
 use Rattle.lines.specs.Slots.{gives, refuses}
 use Rattle.card.specs.Card.{clockRecord, slotRecords, requestRecord}
-use Rattle.writer.proofs.Parts.{part-all, put-at}
+use Rattle.card.proofs.Parts.{part-all}
+use Rattle.writer.proofs.Parts.{put-at}
 use Rattle.writer.proofs.Whole.{card-len, records-len, short-writing, whole-writing, waiting-writing, other-writing}
 use Rattle.writer.proofs.write.Statement.{statement}
 use Rattle.writer.proofs.write.Tie as tie
 
 lowest-waiting-requires : tie.Need-lowest-waiting-requires
-lowest-waiting-requires c κs = search needs
+lowest-waiting-requires c κs = tt
 
 enum-known-k : tie.Need-enum-known-k
 enum-known-k c = search needs
 
 new-requires : tie.Need-new-requires
-new-requires c κs = search needs
+new-requires c κs = tt
 
 enum-told : tie.Need-enum-told
 enum-told c = search needs
 
 used-slots-requires : tie.Need-used-slots-requires
-used-slots-requires c κs = search needs
+used-slots-requires c κs = tt
 
 records-len-requires : tie.Need-records-len-requires
-records-len-requires c κs = search needs
+records-len-requires c κs = omega arith
 
 add-len : tie.Need-add-len
-add-len c = search needs
+add-len c = omega arith
 
 new-requires-2 : tie.Need-new-requires-2
-new-requires-2 c κs = search needs
+new-requires-2 c κs = tt
 
 returns : tie.Need-returns
 returns c =
@@ -43,24 +44,23 @@ returns c =
     let a = b .before .before .before .before .before .before .before .before .args in
     let u = b .before .used-slots in
     let r = b .records-len in
-    let h : length (a .q .stretched) ≡ 16 = search (needs, b .before .before .before .before .before .before .before .before .good .1 .0) in
     let w = b .before .before .before .before .before .before .lowest-waiting in
     let z = b .before .before .before .before .enum-told .given .1 in
-    let k = card-len (a .t) (a .q) (u .result) (r .result) (u .ensures .0) (r .ensures .0) h in
+    let k = card-len (a .t) (a .q) (u .result) (r .result) (u .ensures .0) (r .ensures .0) in
     other-writing (a .t) (a .q) (w .result) (w .ensures) z (a .out .now) (a .out .now) (refuses (c .new2 .result))
     (short-writing (a .t) (a .q) (a .out .now) (c .new2 .result) (c .new2 .ensures) (omega (arith, k)))
 
 put-clock-requires : tie.Need-put-clock-requires
-put-clock-requires c κs = search needs
+put-clock-requires c κs = omega arith
 
 sub-put-records : tie.Need-sub-put-records
-sub-put-records c = search needs
+sub-put-records c = omega arith
 
 part-put-records-start : tie.Need-part-put-records-start
-part-put-records-start c = search needs
+part-put-records-start c = omega arith
 
 part-put-records-end : tie.Need-part-put-records-end
-part-put-records-end c = search needs
+part-put-records-end c = omega arith
 
 put-records-requires : tie.Need-put-records-requires
 put-records-requires c κs =
@@ -68,23 +68,9 @@ put-records-requires c κs =
     let a = b .before .before .before .before .before .before .before .before .args in
     let u = b .before .used-slots in
     let r = b .records-len in
-    let h : length (a .q .stretched) ≡ 16 = search (needs, b .before .before .before .before .before .before .before .before .good .1 .0) in
-    let k = records-len (a .t) (a .q) (u .result) (r .result) (u .ensures .0) (r .ensures .0) h in
+    let k = records-len (a .t) (a .q) (u .result) (r .result) (u .ensures .0) (r .ensures .0) in
     let l = c .before .before .before .put-clock .last .0 in
     (u .ensures .1, omega (arith, k, ap length (part-all l 10), length-drop 10 l))
-
-add-at : tie.Need-add-at
-add-at c =
-    let b = c .before .before .before .before .before .before .before .before .before in
-    let a = b .before .before .before .before .before .before .before .before .args in
-    let u = b .before .used-slots in
-    let r = b .records-len in
-    let h : length (a .q .stretched) ≡ 16 = search (needs, b .before .before .before .before .before .before .before .before .good .1 .0) in
-    let k = records-len (a .t) (a .q) (u .result) (r .result) (u .ensures .0) (r .ensures .0) h in
-    let p = c .before .before .put-records in
-    let l = c .before .before .before .before .before .before .put-clock .last .0 in
-    let m = same-len-mid 10 (length l - 10) l (p .last .0) (p .kept .0) in
-    omega (arith, k, m, p .ensures .0)
 
 sub-put-request : tie.Need-sub-put-request
 sub-put-request c =
@@ -92,28 +78,20 @@ sub-put-request c =
     let a = b .before .before .before .before .before .before .before .before .args in
     let u = b .before .used-slots in
     let r = b .records-len in
-    let h : length (a .q .stretched) ≡ 16 = search (needs, b .before .before .before .before .before .before .before .before .good .1 .0) in
-    let k = records-len (a .t) (a .q) (u .result) (r .result) (u .ensures .0) (r .ensures .0) h in
+    let k = records-len (a .t) (a .q) (u .result) (r .result) (u .ensures .0) (r .ensures .0) in
     let p = c .before .before .put-records in
     let l = c .before .before .before .before .before .before .put-clock .last .0 in
     let m = same-len-mid 10 (length l - 10) l (p .last .0) (p .kept .0) in
     omega (arith, k, m, p .ensures .0)
+
+add-at : tie.Need-add-at
+add-at c = omega (arith, sub-put-request c)
 
 part-put-request-start : tie.Need-part-put-request-start
-part-put-request-start c =
-    let b = c .before .before .before .before .before .before .before .before .before in
-    let a = b .before .before .before .before .before .before .before .before .args in
-    let u = b .before .used-slots in
-    let r = b .records-len in
-    let h : length (a .q .stretched) ≡ 16 = search (needs, b .before .before .before .before .before .before .before .before .good .1 .0) in
-    let k = records-len (a .t) (a .q) (u .result) (r .result) (u .ensures .0) (r .ensures .0) h in
-    let p = c .before .before .put-records in
-    let l = c .before .before .before .before .before .before .put-clock .last .0 in
-    let m = same-len-mid 10 (length l - 10) l (p .last .0) (p .kept .0) in
-    omega (arith, k, m, p .ensures .0)
+part-put-request-start c = omega (arith, sub-put-request c)
 
 part-put-request-end : tie.Need-part-put-request-end
-part-put-request-end c = search needs
+part-put-request-end c = omega arith
 
 put-request-requires : tie.Need-put-request-requires
 put-request-requires c κs =
@@ -121,8 +99,7 @@ put-request-requires c κs =
     let a = b .before .before .before .before .before .before .before .before .args in
     let u = b .before .used-slots in
     let r = b .records-len in
-    let h : length (a .q .stretched) ≡ 16 = search (needs, b .before .before .before .before .before .before .before .before .good .1 .0) in
-    let k = records-len (a .t) (a .q) (u .result) (r .result) (u .ensures .0) (r .ensures .0) h in
+    let k = records-len (a .t) (a .q) (u .result) (r .result) (u .ensures .0) (r .ensures .0) in
     let p = c .before .before .before .put-records in
     let l = c .before .before .before .before .before .before .before .put-clock .last .0 in
     let m = same-len-mid 10 (length l - 10) l (p .last .0) (p .kept .0) in
@@ -144,8 +121,7 @@ returns-3 c =
     let a = b .before .before .before .before .before .before .before .before .args in
     let u = b .before .used-slots in
     let r = b .records-len in
-    let h : length (a .q .stretched) ≡ 16 = search (needs, b .before .before .before .before .before .before .before .before .good .1 .0) in
-    let k = records-len (a .t) (a .q) (u .result) (r .result) (u .ensures .0) (r .ensures .0) h in
+    let k = records-len (a .t) (a .q) (u .result) (r .result) (u .ensures .0) (r .ensures .0) in
     let w = b .before .before .before .before .before .before .lowest-waiting in
     let z = b .before .before .before .before .enum-told .given .1 in
     let p = c .before .before .before .before .before .before .put-records in
@@ -159,7 +135,7 @@ returns-3 c =
     let i = put-at o (l .last .0) ck rs (p .last .0) 10 (length rs) (l .ensures) refl refl (p .ensures .1)
     ∙ ap (λ (j : ℕ). (ck ++ rs) ++ drop (10 + j) o) (sym (p .ensures .0)) in
     let j = put-at o _ (ck ++ rs) rq (d .last .0) (10 + p .result) 6 i (omega (arith, p .ensures .0)) refl (d .ensures) in
-    let n = card-len (a .t) (a .q) (u .result) (r .result) (u .ensures .0) (r .ensures .0) h in
+    let n = card-len (a .t) (a .q) (u .result) (r .result) (u .ensures .0) (r .ensures .0) in
     other-writing (a .t) (a .q) (w .result) (w .ensures) z o _ (gives (16 + r .result))
     (whole-writing (a .t) (a .q) o _ (u .result) (p .result) (16 + r .result) (u .ensures .0) (omega (arith, k, n, p .ensures .0)) n (omega (arith, n, e)) j)
 
