@@ -59,6 +59,7 @@ fn new_line(need: u16, period: u16, wait: u16) -> lines::Held
     })
 }
 
+// The line in the slot named.
 fn put(t: lines::Table, at: usize, h: lines::Held) -> lines::Table
     requires { ⌜ at < 16 ⌝ }
     ensures { λ r. ⌜ (r .clock ≡ t .clock) × (r .slots ≡ set (t .slots) at (record { held = h })) ⌝ }

@@ -53,7 +53,7 @@ pub(crate) fn share_sum(g: Gathered, frame: u64) -> u64
     sum
 }
 
-// c + C × a / T', times the frame; the age is what is left of the period.
+// c + C × a / T', times the frame; the age is what the first end leaves of the period.
 fn owed(frame: u64, end: u32, remaining: u32, need: u32, period: u32) -> u64
     requires { ⌜ (frame ≤ 1000000) × (1 ≤ period) × (end ≤ period) × (need ≤ period) × (remaining ≤ need) × (period ≤ 65535) ⌝ }
     ensures { λ r. ⌜ (r ≡ frame * remaining + need * (frame / period) * (period - end)) × (r ≤ 131070000000) ⌝ }

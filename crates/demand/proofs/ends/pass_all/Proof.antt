@@ -1,7 +1,6 @@
 -- `pass_all` meets its contract: the pass over the lines cites the laws of `Each`.
 use Prim.Native.Nat.{_-_, _≤_}
 use mathlib.Core.Path.{ap, _∙_}
-use mathlib.Core.Option.{some}
 use native.Mathlib.Omega.{arith}
 use borrow.Author.Needs.{needs}
 use Rattle.demand.specs.Pass.{demandTo, passTo}

@@ -3,7 +3,6 @@ use Prim.Native.Nat.{_-_}
 use mathlib.Core.Path.{_≡_, ap, _∙_}
 use mathlib.Core.List.{_∷_}
 use borrow.Author.Needs.{needs}
-use Rattle.lines.specs.Ask.{bound}
 use Rattle.demand.specs.Lines.{periodsTo}
 use Rattle.periods.specs.Multiples.{frameOf, capped}
 use Rattle.demand.proofs.Adding.{frame-padded}

@@ -1,6 +1,5 @@
 -- `share_sum` meets its contract: a sum that cites the laws of `Summing`.
 use Prim.Native.Nat.{_-_}
-use mathlib.Core.Option.{some}
 use native.Mathlib.Omega.{arith}
 use borrow.Author.Needs.{needs}
 use Rattle.demand.specs.Lines.{lineOfAt, shareOf}
