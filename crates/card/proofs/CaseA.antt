@@ -4,10 +4,11 @@ use mathlib.Core.List.{List, [], _∷_, _++_}
 use Prim.Native.Nat.{ℕ}
 use lib.ListN.{take}
 use Rattle.lines.specs.Cases.{caseA}
-use Rattle.lines.specs.Slots.{gives, refuses, refusal}
+use Rattle.lines.specs.Slots.{gives, refuses, refusal, lowest}
 use Rattle.card.specs.Bytes.{marked, TA}
 use Rattle.card.specs.Card.{cardOf}
 use Rattle.card.specs.Reading.{recordOf, recordsOf, readWith, readOf}
+use Rattle.card.specs.Answers.{lengthOf, writeOf}
 
 abbrev printed : List ℕ
 printed =
@@ -28,3 +29,12 @@ case-A-read = refl
 pub case-A-old : readOf (take 22 printed ++ TA) ≡ refuses (refusal 12 22)
 unfolding readWith recordsOf recordOf marked
 case-A-old = refl
+
+-- "a buffer of 40 bytes against 39 for card A"
+pub case-A-in-forty : writeOf (caseA .table) (caseA .request) 40 ≡ gives 40
+unfolding cardOf lowest lengthOf
+case-A-in-forty = refl
+
+pub case-A-in-thirty-nine : writeOf (caseA .table) (caseA .request) 39 ≡ refuses (refusal 13 0)
+unfolding cardOf lowest lengthOf
+case-A-in-thirty-nine = refl
