@@ -1,11 +1,12 @@
 //! Random cards answered through the C boundary and by this program, with the feature `house`.
 
-use crate::boundary;
 use crate::card;
 use crate::random::Random;
 use crate::rules;
 use crate::spoil;
+use crate::types::Refusal;
 use std::time::Instant;
+use trimthuel::{Refused, Told, CARD_MAX};
 
 const SEED: u64 = 4;
 /// The longest buffer lent for a line, and the bytes kept behind every lent buffer.
@@ -15,9 +16,14 @@ const BEHIND: usize = 16;
 const EVERY_LENGTH: u64 = 16;
 const SHOWN: u64 = 10;
 
-/// What `trimthuel_run` has to answer: the ticks in which a line ran, or minus the first refusal.
-pub fn run_of(bytes: &[u8], ticks: u64) -> i64 {
-    let refused = |refusal: crate::types::Refusal| -i64::from(refusal.number);
+/// The refusal as the boundary gives it, without its place.
+fn refused<T>(refusal: Refusal) -> Told<T> {
+    let number = u64::from(refusal.number);
+    Err(Refused { number })
+}
+
+/// What a run has to answer: the ticks in which a line ran, or the first refusal.
+pub fn run_of(bytes: &[u8], ticks: u32) -> Told<u64> {
     let reading = card::read(bytes);
     if let Some(refusal) = reading.refusal {
         return refused(refusal);
@@ -30,35 +36,59 @@ pub fn run_of(bytes: &[u8], ticks: u64) -> i64 {
     for _ in 0..ticks {
         match rules::step(&table) {
             Ok((next, slot)) => {
-                ran += i64::from(slot.is_some());
+                ran += u64::from(slot.is_some());
                 table = next;
             }
             Err(refusal) => return refused(refusal),
         }
     }
-    ran
+    Ok(ran)
 }
 
-/// Lends a buffer of `lent` bytes: the line and what follows it untouched, or −13 and nothing
-/// touched.
-fn lent_as_wanted(bytes: &[u8], line: &[u8], lent: usize, fill: u8) -> bool {
-    let mut buffer = [fill; LONGEST_LENT + BEHIND];
-    let answer = boundary::answer(bytes, &mut buffer[..lent]);
-    let written = if line.len() <= lent { line.len() } else { 0 };
-    let wanted = if written > 0 { written as i64 } else { -13 };
-    answer == wanted
-        && buffer[..written] == line[..written]
-        && buffer[written..].iter().all(|byte| *byte == fill)
+/// Lends a buffer of `lent` bytes to `put`: what is wanted and the bytes after it untouched, or
+/// the refusal and nothing touched.
+fn lent_as_wanted(
+    put: fn(&[u8], &mut [u8]) -> Told<usize>,
+    bytes: &[u8],
+    wanted: Told<&[u8]>,
+    lent: usize,
+    fill: u8,
+) -> bool {
+    let mut buffer = [fill; CARD_MAX + BEHIND];
+    let answer = put(bytes, &mut buffer[..lent]);
+    let wanted = match wanted {
+        Ok(all) if lent < all.len() => Err(Refused { number: 13 }),
+        other => other,
+    };
+    let written = wanted.unwrap_or(&[]);
+    answer == wanted.map(<[u8]>::len)
+        && &buffer[..written.len()] == written
+        && buffer[written.len()..].iter().all(|byte| *byte == fill)
 }
 
 /// All lengths 0 to 64 for some cards; the full length, and one drawn length, for the others.
 fn answers_agree(random: &mut Random, bytes: &[u8], line: &[u8]) -> bool {
     let fill = random.below(256) as u8;
+    let agrees = |lent| lent_as_wanted(trimthuel::answer, bytes, Ok(line), lent, fill);
     if random.below(EVERY_LENGTH) == 0 {
-        return (0..=LONGEST_LENT).all(|lent| lent_as_wanted(bytes, line, lent, fill));
+        return (0..=LONGEST_LENT).all(agrees);
     }
     let drawn = random.below(LONGEST_LENT as u64 + 1) as usize;
-    lent_as_wanted(bytes, line, LONGEST_LENT, fill) && lent_as_wanted(bytes, line, drawn, fill)
+    agrees(LONGEST_LENT) && agrees(drawn)
+}
+
+/// A card that reads is written back byte for byte, into buffers that are long enough, exactly so,
+/// and one byte too short; a broken one is refused.
+fn rewrites_agree(random: &mut Random, bytes: &[u8]) -> bool {
+    let fill = random.below(256) as u8;
+    let wanted = match card::read(bytes).refusal {
+        Some(refusal) => refused(refusal),
+        None => Ok(bytes),
+    };
+    let exact = bytes.len().min(CARD_MAX);
+    [CARD_MAX, exact, exact.saturating_sub(1)]
+        .into_iter()
+        .all(|lent| lent_as_wanted(trimthuel::rewrite, bytes, wanted, lent, fill))
 }
 
 fn hex(bytes: &[u8]) -> String {
@@ -75,14 +105,15 @@ pub fn run(count: u64) -> bool {
         let line = card::answer(&bytes);
         released += u64::from(line.starts_with("release"));
         let answered = answers_agree(&mut random, &bytes, line.as_bytes());
-        let ticks = random.below(400);
-        let (theirs, ours) = (boundary::run(&bytes, ticks), run_of(&bytes, ticks));
-        if !answered || theirs != ours {
+        let rewritten = rewrites_agree(&mut random, &bytes);
+        let ticks = random.below(400) as u32;
+        let (theirs, ours) = (trimthuel::run(&bytes, ticks), run_of(&bytes, ticks));
+        if !answered || !rewritten || theirs != ours {
             differing += 1;
             if differing <= SHOWN {
-                let same = if answered { "same" } else { "another" };
                 print!("{index} {} {line}", hex(&bytes));
-                println!("  line {same}; run of {ticks}: {theirs}, expected {ours}");
+                println!("  line as wanted {answered}; rewritten as wanted {rewritten}");
+                println!("  run of {ticks}: {theirs:?}, expected {ours:?}");
             }
         }
     }

@@ -1,8 +1,6 @@
 //! The independent reference program. README.md says what it is and why it stands alone.
 
 mod bench;
-#[cfg(feature = "house")]
-mod boundary;
 mod card;
 mod cases;
 #[cfg(feature = "house")]

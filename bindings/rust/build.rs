@@ -1,11 +1,8 @@
-//! Links `libhouse.a` from the folder `$TRIMTHUEL_LIB`, only with the feature `house`.
+//! Links `libhouse.a` from the folder `$TRIMTHUEL_LIB`.
 
 fn main() {
     println!("cargo:rerun-if-changed=build.rs");
     println!("cargo:rerun-if-env-changed=TRIMTHUEL_LIB");
-    if std::env::var_os("CARGO_FEATURE_HOUSE").is_none() {
-        return;
-    }
     match std::env::var("TRIMTHUEL_LIB") {
         Ok(folder) => {
             println!("cargo:rerun-if-changed={folder}/libhouse.a");
@@ -13,7 +10,9 @@ fn main() {
             println!("cargo:rustc-link-lib=static=house");
         }
         Err(_) => {
-            println!("cargo:warning=feature house: set TRIMTHUEL_LIB to the folder of libhouse.a");
+            println!(
+                "cargo:warning=set TRIMTHUEL_LIB to the folder of libhouse.a (rt staticlib house)"
+            );
         }
     }
 }

@@ -1,0 +1,113 @@
+//! Safe functions over the pump's C boundary, `include/trimthuel.h`: any bytes may be handed in, nothing is kept after a call,
+//! and a refusal leaves every byte of the lent buffer as it was.
+//!
+//! ```
+//! let mut out = [0; trimthuel::LINE_MAX];
+//! let n = trimthuel::answer(b"", &mut out).unwrap();
+//! assert_eq!(&out[..n], b"refused 11 0\n");
+//! ```
+
+/// No card that reads is longer, and no card that is written.
+pub const CARD_MAX: usize = 208;
+
+/// No answer line is longer, its newline included.
+pub const LINE_MAX: usize = 40;
+
+/// A refusal by its number in document 01. Its place stands in the answer line only.
+#[derive(Clone, Copy, Debug, PartialEq, Eq)]
+pub struct Refused {
+    pub number: u64,
+}
+
+/// What was asked for, or a refusal.
+pub type Told<T> = Result<T, Refused>;
+
+extern "C" {
+    fn trimthuel_answer(card: *const u8, card_len: usize, out: *mut u8, out_len: usize) -> i64;
+    fn trimthuel_rewrite(card: *const u8, card_len: usize, out: *mut u8, out_len: usize) -> i64;
+    fn trimthuel_run(card: *const u8, card_len: usize, ticks: u32) -> i64;
+}
+
+/// A number below 0 is minus a refusal's.
+fn told(number: i64) -> Told<u64> {
+    let size = number.unsigned_abs();
+    if number < 0 {
+        return Err(Refused { number: size });
+    }
+    Ok(size)
+}
+
+/// Writes the answer line of a card, with its newline, to the start of `out`, and answers its
+/// length. Bytes after it stay.
+///
+/// # Errors
+/// Refusal 13 if `out` is too short. Any other refusal is a line.
+pub fn answer(card: &[u8], out: &mut [u8]) -> Told<usize> {
+    // SAFETY: both pointers come from slices, which do not overlap, and are given with their lengths.
+    let length =
+        unsafe { trimthuel_answer(card.as_ptr(), card.len(), out.as_mut_ptr(), out.len()) };
+    told(length).map(|length| length as usize)
+}
+
+/// Reads a card, writes it anew to the start of `out`, byte for byte, and answers its length.
+/// Bytes after it stay.
+///
+/// # Errors
+/// Refusal 11 or 12 of the reader, or 13 if `out` is too short.
+pub fn rewrite(card: &[u8], out: &mut [u8]) -> Told<usize> {
+    // SAFETY: as in `answer`.
+    let length =
+        unsafe { trimthuel_rewrite(card.as_ptr(), card.len(), out.as_mut_ptr(), out.len()) };
+    told(length).map(|length| length as usize)
+}
+
+/// Admits the card's request, lets the pump run for `ticks` ticks, and answers in how many of them
+/// a line ran.
+///
+/// # Errors
+/// The first refusal: the reader's, ask's, or a step's.
+pub fn run(card: &[u8], ticks: u32) -> Told<u64> {
+    // SAFETY: the pointer comes from a slice and is given with its length.
+    told(unsafe { trimthuel_run(card.as_ptr(), card.len(), ticks) })
+}
+
+#[cfg(test)]
+mod tests {
+    use super::*;
+
+    /// The card of case A, as document 01 prints it.
+    const CASE_A: &[u8] = b"CK\x08\0\0\0\0\0\0\0\
+        TB\x08\0\x10\0\x20\0\x08\0\0\0\
+        TB\x08\0\x10\0\x10\0\x08\0\x08\0\
+        RQ\x01\0\x04\0";
+
+    fn refused<T>(number: u64) -> Told<T> {
+        Err(Refused { number })
+    }
+
+    #[test]
+    fn the_line_and_what_stays() {
+        let mut out = [b'.'; LINE_MAX];
+        assert_eq!(answer(CASE_A, &mut out[..10]), refused(13));
+        assert_eq!(out, [b'.'; LINE_MAX]);
+        assert_eq!(answer(CASE_A, &mut out[..11]), Ok(11));
+        assert_eq!(&out[..12], b"release 13\n.");
+    }
+
+    #[test]
+    fn a_card_is_written_back() {
+        let mut out = [b'.'; CARD_MAX];
+        assert_eq!(rewrite(CASE_A, &mut out[..39]), refused(13));
+        assert_eq!(rewrite(&CASE_A[..39], &mut out), refused(11));
+        assert_eq!(out, [b'.'; CARD_MAX]);
+        assert_eq!(rewrite(CASE_A, &mut out), Ok(40));
+        assert_eq!((&out[..40], out[40]), (CASE_A, b'.'));
+    }
+
+    #[test]
+    fn the_pump_runs() {
+        assert_eq!(run(CASE_A, 0), Ok(0));
+        assert_eq!(run(CASE_A, 26), Ok(23));
+        assert_eq!(run(b"CK", 1), refused(11));
+    }
+}

@@ -1,0 +1,43 @@
+-- Case A over the boundary, by computation: its answer line, and 26 ticks of the pump.
+use mathlib.Core.Path.{_≡_, refl, ap, _∙_}
+use mathlib.Core.List.{List, [], _∷_}
+use Prim.Native.Nat.{ℕ}
+use lib.IntN.{pos}
+use Rattle.periods.specs.Multiples.{euclid, gcdOf, lcmOf, frameFrom}
+use Rattle.lines.specs.declared.Answer.{Answer}
+use Rattle.lines.specs.declared.Answer.the-variants.{Start}
+use Rattle.lines.specs.Slots.{total, lowest, gives}
+use Rattle.lines.specs.Demand.{due, lastEnd}
+use Rattle.lines.specs.Grounds.{stretched, periodsIn}
+use Rattle.lines.specs.Ask.{says, every, endsBefore, endsOf, slack, bound, greatest, anyOf, start, loadOf, askOf}
+use Rattle.lines.specs.Admit.{admitOf}
+use Rattle.lines.specs.Step.{chosen, advance, stepOf}
+use Rattle.lines.specs.Cases.{caseA}
+use Rattle.card.specs.Card.{cardOf, carrying}
+use Rattle.card.specs.Reading.{readOf}
+use Rattle.card.proofs.CaseA.{case-A-written, case-A-read}
+use Rattle.reply.specs.Line.{lineOf}
+use Rattle.reply.proofs.Line.{line-of-case-A}
+use Rattle.house.specs.House.{answerFor, lineFor, numberOf, ranIn, runAdmitted, runFor, runOf}
+
+abbrev pub cardA : List ℕ
+cardA = cardOf (caseA .table) (caseA .request)
+
+reads-A : readOf cardA ≡ gives (carrying (caseA .table) (caseA .request))
+reads-A = ap readOf case-A-written ∙ case-A-read
+
+asks-A : askOf (caseA .table) (caseA .request) ≡ Start 13
+unfolding euclid gcdOf lcmOf frameFrom total lowest due lastEnd stretched periodsIn every endsBefore endsOf slack bound greatest anyOf start loadOf askOf
+asks-A = refl
+
+-- "Its whole output is `release 13` and a newline"
+pub line-A : lineFor cardA ≡ 114 ∷ 101 ∷ 108 ∷ 101 ∷ 97 ∷ 115 ∷ 101 ∷ 32 ∷ 49 ∷ 51 ∷ 10 ∷ []
+line-A = ap (λ (a : Answer). lineOf (says a)) (ap answerFor reads-A ∙ asks-A) ∙ line-of-case-A
+
+runs-A : runAdmitted 26 (admitOf (caseA .table) (caseA .request)) ≡ gives 23
+unfolding euclid gcdOf lcmOf frameFrom total lowest due lastEnd stretched periodsIn every endsBefore endsOf slack bound greatest anyOf start loadOf askOf chosen advance stepOf ranIn
+runs-A = refl
+
+-- three of the 26 ticks run no line
+pub run-A : numberOf (runOf cardA 26) ≡ pos 23
+run-A = ap numberOf (ap (runFor 26) reads-A ∙ runs-A)

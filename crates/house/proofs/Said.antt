@@ -1,0 +1,22 @@
+-- What the reader hands out says what was read.
+use mathlib.Core.Path.{_≡_, sym, ap, _∙_}
+use mathlib.Core.List.{List}
+use Prim.Native.Nat.{ℕ}
+use Rattle.lines.specs.declared.Refusal.{Refusal}
+use Rattle.lines.specs.Slots.{gives, refuses}
+use Rattle.card.specs.declared.CardAnswer.the-variants.{Read, Refused}
+use Rattle.card.specs.declared.ReadCard.{ReadCard}
+use Rattle.card.specs.Card.{carrying}
+use Rattle.card.specs.Reading.{readOf}
+use Rattle.card.specs.Answers.{handed, saidRead, saidWith}
+use Rattle.card.proofs.Answers.{said-handed}
+
+module _ (card : List ℕ) {c : ReadCard} (e : c ≡ handed (readOf card)) where
+  said : readOf card ≡ saidRead c
+  said = sym (said-handed (readOf card)) ∙ ap saidRead (sym e)
+
+  pub was-read : c .answer ≡ Read → readOf card ≡ gives (carrying (c .table) (c .request))
+  was-read h = said ∙ ap (saidWith (c .table) (c .request)) h
+
+  pub was-refused : (x : Refusal) → c .answer ≡ Refused x → readOf card ≡ refuses x
+  was-refused x h = said ∙ ap (saidWith (c .table) (c .request)) h

@@ -1,0 +1,76 @@
+-- Each tick moves from what is left to what was counted; the measure is the ticks that are left.
+use Prim.Native.Nat.{_-_, _≤_}
+use mathlib.Core.Path.{_≡_, _∙_}
+use Rattle.house.specs.House.{more, ranIn}
+use Rattle.house.proofs.Run.{run-start, run-on, run-stop, run-end}
+use borrow.Author.Needs.{needs}
+use Rattle.house.proofs.run_table.Statement.{statement}
+use Rattle.house.proofs.run_table.Tie as tie
+
+abbrev Inv-loop : tie.InvT-loop
+Inv-loop ticks t₀ ran₀ i₀ t ran i = (i ≤ ticks) × (ran ≤ i) × (more ran (ranIn (ticks - i) t) ≡ ranIn ticks t₀)
+
+abbrev μ-loop : tie.MeasureT-loop
+μ-loop ticks t₀ ran₀ i₀ t ran i = ticks - i
+
+loop-holds : tie.Need-loop-holds Inv-loop μ-loop
+loop-holds c = (search needs, search needs, run-start (c .args .ticks) (c .args .start))
+
+driven-requires : tie.Need-driven-requires Inv-loop μ-loop
+driven-requires c κs = search needs
+
+enum-known-o : tie.Need-enum-known-o Inv-loop μ-loop
+enum-known-o c = search needs
+
+count-of-requires : tie.Need-count-of-requires Inv-loop μ-loop
+count-of-requires c κs = search needs
+
+add-ran : tie.Need-add-ran Inv-loop μ-loop
+add-ran c = search needs
+
+enum-known-o-2 : tie.Need-enum-known-o-2 Inv-loop μ-loop
+enum-known-o-2 c = search needs
+
+returns : tie.Need-returns Inv-loop μ-loop
+returns c =
+    let l = c .before .before .before .before .before in
+    run-stop (c .before .before .before .before .before .before .args .ticks) (l .loop .i) (l .loop .ran) (l .loop .t) (c .before .before .before .before .loop-test .taken) (c .before .before .before .driven .ensures) _ (c .before .o2 .given .1)
+    ∙ l .loop .inv .2
+
+add-i : tie.Need-add-i Inv-loop μ-loop
+add-i c = search needs
+
+loop-less : tie.Need-loop-less Inv-loop μ-loop
+loop-less c = search needs
+
+loop-again : tie.Need-loop-again Inv-loop μ-loop
+loop-again c =
+    let l = c .before .before .before .before .before .before .before in (
+      search needs,
+      search needs,
+      run-on (c .before .before .before .before .before .before .before .before .args .ticks) (l .loop .i) (l .loop .ran) (l .loop .t) (c .before .before .before .before .before .before .loop-test .taken) (c .before .before .before .before .before .driven .ensures) _ (c .before .before .before .o .given .1) (c .before .count-of .result) (c .before .count-of .ensures .0)
+          ∙ l .loop .inv .2,
+    )
+
+returns-2 : tie.Need-returns-2 Inv-loop μ-loop
+returns-2 c =
+    run-end (c .before .before .args .ticks) (c .before .loop .i) (c .before .loop .ran) (c .before .loop .t) (c .loop-test .left)
+    ∙ c .before .loop .inv .2
+
+pub run-table-spec : {M : Type 1} → statement M
+run-table-spec =
+    tie.close
+    (tie.spec
+    Inv-loop
+    μ-loop
+    loop-holds
+    driven-requires
+    enum-known-o
+    count-of-requires
+    add-ran
+    enum-known-o-2
+    returns
+    add-i
+    loop-less
+    loop-again
+    returns-2)

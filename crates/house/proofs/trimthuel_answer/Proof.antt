@@ -1,0 +1,36 @@
+-- The line is that of the card's answer.
+use mathlib.Core.Path.{ap, _∙_}
+use mir.Syntax.{w64}
+use mir.Facts.{toZ-ofZ}
+use Rattle.lines.specs.declared.Answer.{Answer}
+use Rattle.lines.specs.Ask.{says}
+use Rattle.reply.specs.Line.{lineOf, heldAfter}
+use Rattle.house.specs.House.{numberOf, putOf}
+use borrow.Author.Needs.{needs}
+use Rattle.house.proofs.trimthuel_answer.Statement.{statement}
+use Rattle.house.proofs.trimthuel_answer.Tie as tie
+
+answer-requires : tie.Need-answer-requires
+answer-requires c κs = search needs
+
+put-line-requires : tie.Need-put-line-requires
+put-line-requires c κs = search needs
+
+number-requires : tie.Need-number-requires
+number-requires c κs = search needs
+
+same-length : tie.Need-same-length
+same-length c = search needs
+
+returns : tie.Need-returns
+returns c =
+    let out = c .before .before .before .before .before .before .before .before .args .out .now in
+    let a = c .before .before .before .before .before .answer .ensures in
+    let p = c .before .before .before .put-line .ensures in (
+      toZ-ofZ {w = w64} (record { sfits = c .number .ok }) ∙ c .number .ensures ∙ ap numberOf (p .0) ∙ ap (λ (a : Answer). numberOf (putOf (lineOf (says a)) out)) a,
+      p .1 ∙ ap (λ (a : Answer). heldAfter (lineOf (says a)) out) a,
+    )
+
+pub trimthuel-answer-spec : {M : Type 1} → statement M
+trimthuel-answer-spec =
+    tie.close (tie.spec answer-requires put-line-requires number-requires same-length returns)

@@ -1,0 +1,66 @@
+-- What was read is written anew; a card that is refused leaves the buffer.
+use mathlib.Core.Path.{sym, ap, _∙_}
+use lib.ListN.{length}
+use mir.Syntax.{w64}
+use mir.Facts.{toZ-ofZ}
+use Rattle.lines.specs.Slots.{Said}
+use Rattle.card.specs.Card.{Card}
+use Rattle.house.specs.House.{numberOf, rewriteFor, rewrittenFor}
+use Rattle.house.proofs.Said.{was-read, was-refused}
+use borrow.Author.Needs.{needs}
+use Rattle.house.proofs.trimthuel_rewrite.Statement.{statement}
+use Rattle.house.proofs.trimthuel_rewrite.Tie as tie
+
+read-requires : tie.Need-read-requires
+read-requires c κs = search needs
+
+enum-told : tie.Need-enum-told
+enum-told c = search needs
+
+put-card-requires : tie.Need-put-card-requires
+put-card-requires c κs = search needs
+
+number-requires : tie.Need-number-requires
+number-requires c κs = search needs
+
+enum-known-said : tie.Need-enum-known-said
+enum-known-said c = search needs
+
+number-requires-2 : tie.Need-number-requires-2
+number-requires-2 c κs = search needs
+
+same-length : tie.Need-same-length
+same-length c = search needs
+
+returns : tie.Need-returns
+returns c =
+    let x = c .before .before .before .before .before .before .before .before .before .before .args in
+    let out = x .out .now in
+    let p = c .before .before .before .put-card .ensures in
+    let h = sym (was-read (x .card .now) (c .before .before .before .before .before .before .before .read .ensures) (c .before .before .before .before .before .enum-told .given .1)) in (
+      toZ-ofZ {w = w64} (record { sfits = c .number .ok }) ∙ c .number .ensures ∙ ap numberOf (p .0) ∙ ap (λ (s : Said Card). numberOf (rewriteFor s (length out))) h,
+      p .1 ∙ ap (λ (s : Said Card). rewrittenFor s out) h,
+    )
+
+returns-2 : tie.Need-returns-2
+returns-2 c =
+    let x = c .before .before .before .before .before .before .before .args in
+    let out = x .out .now in
+    let h = sym (was-refused (x .card .now) (c .before .before .before .before .read .ensures) _ (c .before .before .said .given .1)) in (
+      toZ-ofZ {w = w64} (record { sfits = c .number2 .ok }) ∙ c .number2 .ensures ∙ ap (λ (s : Said Card). numberOf (rewriteFor s (length out))) h,
+      ap (λ (s : Said Card). rewrittenFor s out) h,
+    )
+
+pub trimthuel-rewrite-spec : {M : Type 1} → statement M
+trimthuel-rewrite-spec =
+    tie.close
+    (tie.spec
+    read-requires
+    enum-told
+    put-card-requires
+    number-requires
+    enum-known-said
+    number-requires-2
+    same-length
+    returns
+    returns-2)

@@ -1,0 +1,55 @@
+-- What was read is admitted and run; a card that is refused is not.
+use mathlib.Core.Path.{sym, ap, _∙_}
+use mir.Syntax.{w64}
+use mir.Facts.{toZ-ofZ}
+use Rattle.lines.specs.Slots.{Said}
+use Rattle.card.specs.Card.{Card}
+use Rattle.house.specs.House.{numberOf, runFor}
+use Rattle.house.proofs.Said.{was-read, was-refused}
+use borrow.Author.Needs.{needs}
+use Rattle.house.proofs.trimthuel_run.Statement.{statement}
+use Rattle.house.proofs.trimthuel_run.Tie as tie
+
+read-requires : tie.Need-read-requires
+read-requires c κs = search needs
+
+enum-told : tie.Need-enum-told
+enum-told c = search needs
+
+run-admitted-requires : tie.Need-run-admitted-requires
+run-admitted-requires c κs = search needs
+
+number-requires : tie.Need-number-requires
+number-requires c κs = search needs
+
+enum-known-said : tie.Need-enum-known-said
+enum-known-said c = search needs
+
+number-requires-2 : tie.Need-number-requires-2
+number-requires-2 c κs = search needs
+
+returns : tie.Need-returns
+returns c =
+    let x = c .before .before .before .before .before .before .args in
+    let h = sym (was-read (x .card .now) (c .before .before .before .before .read .ensures) (c .before .before .enum-told .given .1)) in
+    toZ-ofZ {w = w64} (record { sfits = c .number .ok }) ∙ c .number .ensures ∙ ap numberOf (c .before .run-admitted .ensures)
+    ∙ ap (λ (s : Said Card). numberOf (runFor (x .ticks) s)) h
+
+returns-2 : tie.Need-returns-2
+returns-2 c =
+    let x = c .before .before .before .before .before .before .args in
+    let h = sym (was-refused (x .card .now) (c .before .before .before .before .read .ensures) _ (c .before .before .said .given .1)) in
+    toZ-ofZ {w = w64} (record { sfits = c .number2 .ok }) ∙ c .number2 .ensures ∙ ap (λ (s : Said Card). numberOf (runFor (x .ticks) s)) h
+
+pub trimthuel-run-spec : {M : Type 1} → statement M
+trimthuel-run-spec =
+    tie.close
+    (tie.spec
+    read-requires
+    enum-told
+    run-admitted-requires
+    number-requires
+    enum-known-said
+    number-requires-2
+    returns
+    returns-2)

@@ -1,0 +1,52 @@
+-- `entries` is safe: it reads the sixteen entries and no more.
+use Prim.Native.Nat.{_≤_, _-_}
+use mathlib.Core.Path.{_≡_}
+use borrow.Author.Needs.{needs}
+use lib.ListN.{length}
+use Rattle.walks.proofs.digest.entries.Statement.{statement}
+use Rattle.walks.proofs.digest.entries.Tie as tie
+
+abbrev Inv-loop : tie.InvT-loop
+Inv-loop h all sum₀ i₀ sum i = (length all ≡ 16) × (i ≤ 16)
+
+abbrev μ-loop : tie.MeasureT-loop
+μ-loop h all sum₀ i₀ sum i = 16 - i
+
+loop-holds : tie.Need-loop-holds Inv-loop μ-loop
+loop-holds c = search needs
+
+mul-p : tie.Need-mul-p Inv-loop μ-loop
+mul-p c = search needs
+
+array-read-p : tie.Need-array-read-p Inv-loop μ-loop
+array-read-p c = search needs
+
+entry-requires : tie.Need-entry-requires Inv-loop μ-loop
+entry-requires c κs = search needs
+
+add-i : tie.Need-add-i Inv-loop μ-loop
+add-i c = search needs
+
+loop-less : tie.Need-loop-less Inv-loop μ-loop
+loop-less c = search needs
+
+loop-again : tie.Need-loop-again Inv-loop μ-loop
+loop-again c = search needs
+
+returns : tie.Need-returns Inv-loop μ-loop
+returns c = search needs
+
+pub entries-spec : {M : Type 1} → statement M
+entries-spec =
+    tie.close
+    (tie.spec
+    Inv-loop
+    μ-loop
+    loop-holds
+    mul-p
+    array-read-p
+    entry-requires
+    add-i
+    loop-less
+    loop-again
+    returns)
