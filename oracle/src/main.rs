@@ -1,5 +1,6 @@
 //! The independent reference program. README.md says what it is and why it stands alone.
 
+#[cfg(feature = "house")]
 mod bench;
 mod card;
 mod cases;
@@ -26,7 +27,8 @@ const USAGE: &str = "oracle answer < CARD
 oracle vectors OUT_DIR
 oracle walks
 oracle sweep [FROM TO]
-oracle bench
+oracle bench          (feature house)
+oracle count WAY [T0] TIMES      (feature house)
 oracle compare N      (feature house)";
 
 /// One card from standard input, its line to standard output; 209 bytes decide every card.
@@ -38,15 +40,24 @@ fn answer() -> io::Result<bool> {
     Ok(true)
 }
 
+/// What needs the project's library.
 #[cfg(feature = "house")]
-fn compare(count: u64) -> bool {
-    compare::run(count)
+fn beside_the_house(words: &[&str]) -> io::Result<bool> {
+    match words {
+        ["bench"] => Ok(bench::run()),
+        ["count", way, times] => times.parse().map_or_else(|_| usage(), |n| Ok(bench::count(way, None, n))),
+        ["count", way, set, times] => match (set.parse(), times.parse()) {
+            (Ok(set), Ok(n)) => Ok(bench::count(way, Some(set), n)),
+            _ => usage(),
+        },
+        ["compare", count] => count.parse().map_or_else(|_| usage(), |n| Ok(compare::run(n))),
+        _ => usage(),
+    }
 }
 
 #[cfg(not(feature = "house"))]
-fn compare(_count: u64) -> bool {
-    eprintln!("compare: built without the feature house");
-    false
+fn beside_the_house(_words: &[&str]) -> io::Result<bool> {
+    usage()
 }
 
 /// Runs a command; false when it failed or is not known.
@@ -66,12 +77,7 @@ fn command(words: &[&str]) -> io::Result<bool> {
             }
             _ => usage(),
         },
-        ["bench"] => Ok(bench::run()),
-        ["compare", count] => match count.parse() {
-            Ok(count) => Ok(compare(count)),
-            Err(_) => usage(),
-        },
-        _ => usage(),
+        _ => beside_the_house(words),
     }
 }
 

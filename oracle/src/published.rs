@@ -74,6 +74,7 @@ struct Sweep {
     later: u64,
     refused: u64,
     esit_differing: u64,
+    house_differing: u64,
 }
 
 impl Sweep {
@@ -103,8 +104,22 @@ impl Sweep {
         self.later += u64::from(start > table.clock);
         let esit = esit::earliest(table, request).start;
         self.esit_differing += u64::from(esit != start);
+        self.house_differing += u64::from(!house_says(table, request, start));
         start
     }
+}
+
+/// Whether the project's answer to the card is this start; true without the feature `house`.
+#[cfg(feature = "house")]
+fn house_says(table: &Table, request: &Request, start: u64) -> bool {
+    let mut out = [0; trimthuel::LINE_MAX];
+    let length = trimthuel::answer(&crate::card::bytes(table, request), &mut out).unwrap_or(0);
+    &out[..length] == format!("release {start}\n").as_bytes()
+}
+
+#[cfg(not(feature = "house"))]
+fn house_says(_table: &Table, _request: &Request, _start: u64) -> bool {
+    true
 }
 
 /// Every request tick of the sets with T0 in `from` ..= `to`, asked. Prints a line for each set,
@@ -118,6 +133,9 @@ pub fn sweep(from: u64, to: u64) {
     println!("sets {} asks {}", sweep.sets, sweep.asks);
     println!("later {} refused {}", sweep.later, sweep.refused);
     println!("ESITforSNT differing {}", sweep.esit_differing);
+    if cfg!(feature = "house") {
+        println!("the project differing {}", sweep.house_differing);
+    }
     println!("seconds {:.1}", begun.elapsed().as_secs_f64());
 }
 

@@ -1,0 +1,155 @@
+//! Ask: the tests in their order, and the greatest bound that the ends put on the start.
+
+use crate::card::read;
+use crate::pump::{Held, Pump, Request, SLOTS};
+
+/// A running line at its stretched period, counted from the clock.
+#[derive(Clone, Copy, Default)]
+struct Line {
+    end: u32,
+    remaining: u32,
+    need: u32,
+    period: u32,
+}
+
+#[inline]
+fn demand(lines: &[Line], d: u32) -> u32 {
+    lines.iter().map(|l| if d < l.end { 0 } else { l.remaining + l.need * ((d - l.end) / l.period) }).sum()
+}
+
+/// Ticks from the clock to the least smooth start, or `None` for refusal 10.
+#[inline]
+fn start(lines: &[Line], need: u32, period: u32) -> Option<u32> {
+    let last = lines.iter().map(|l| l.end).max().unwrap_or(0);
+    let mut best = 0;
+    for line in lines {
+        let mut d = line.end;
+        while d < last {
+            let slack = d.checked_sub(demand(lines, d))?;
+            let until = (d + need - slack % need).min(last);
+            best = best.max(until.saturating_sub((slack / need + 1) * period));
+            d += line.period;
+        }
+    }
+    Some(best)
+}
+
+/// The least common multiple of the periods, or `None` above 1,000,000.
+#[inline]
+fn frame(lines: &[Line], period: u32) -> Option<u64> {
+    let mut m = u64::from(period);
+    for line in lines {
+        let p = u64::from(line.period);
+        let (mut a, mut b) = (m, p);
+        while b != 0 {
+            (a, b) = (b, a % b);
+        }
+        m = m / a * p;
+        if m > 1_000_000 {
+            return None;
+        }
+    }
+    Some(m)
+}
+
+/// Grounds 7 to 9.
+#[inline]
+fn load(lines: &[Line], need: u32, period: u32) -> Result<(), u16> {
+    let frame = frame(lines, period).ok_or(7u16)?;
+    let share = |n: u32, p: u32| u64::from(n) * (frame / u64::from(p));
+    if lines.iter().map(|l| share(l.need, l.period)).sum::<u64>() + share(need, period) > frame {
+        return Err(8);
+    }
+    let owed: u64 = lines.iter().map(|l| frame * u64::from(l.remaining) + share(l.need, l.period) * u64::from(l.period - l.end)).sum();
+    if owed > lines.iter().map(|l| frame * u64::from(l.need)).sum() {
+        return Err(9);
+    }
+    Ok(())
+}
+
+#[inline]
+fn lowest(pump: &Pump, test: impl Fn(usize, Held) -> bool) -> Option<u64> {
+    pump.slots.iter().enumerate().find(|(i, h)| test(*i, **h)).map(|(i, _)| i as u64)
+}
+
+/// The running lines at their stretched periods, and how many there are.
+type Lines = ([Line; SLOTS], usize);
+
+/// Grounds 1 to 9, and the lines gathered.
+#[inline]
+fn tested(pump: &Pump, request: &Request) -> Result<Lines, (u16, u64)> {
+    if pump.clock > (1 << 48) - 65_536 {
+        return Err((1, 0));
+    }
+    if !pump.slots.contains(&Held::Nothing) {
+        return Err((2, 0));
+    }
+    let shrunk = |i: usize, h: Held| matches!(h, Held::Running { period, .. } if request.stretched[i] < period);
+    let found = [
+        (3, lowest(pump, |_, h| matches!(h, Held::Waiting { .. }))),
+        (4, lowest(pump, |_, h| !h.sound())),
+        (5, lowest(pump, shrunk)),
+    ];
+    if let Some((number, Some(place))) = found.into_iter().find(|(_, k)| k.is_some()) {
+        return Err((number, place));
+    }
+    if request.need < 1 || request.period < request.need {
+        return Err((6, 0));
+    }
+    let mut lines = [Line::default(); SLOTS];
+    let mut count = 0;
+    for (held, stretched) in pump.slots.iter().zip(request.stretched) {
+        if let Held::Running { need, age, remaining, .. } = *held {
+            let period = u32::from(stretched);
+            lines[count] = Line { end: period - u32::from(age), remaining: u32::from(remaining), need: u32::from(need), period };
+            count += 1;
+        }
+    }
+    load(&lines[..count], u32::from(request.need), u32::from(request.period)).map_err(|number| (number, 0))?;
+    Ok((lines, count))
+}
+
+/// Whether a card reads and passes the tests 1 to 9.
+#[must_use]
+#[inline]
+pub fn passes(card: &[u8]) -> bool {
+    read(card).is_ok_and(|(pump, request)| tested(&pump, &request).is_ok())
+}
+
+/// The start, or the refusal's number and place.
+///
+/// # Errors
+/// 1 to 10 of document 01.
+#[inline]
+pub fn ask(pump: &Pump, request: &Request) -> Result<u64, (u16, u64)> {
+    let (lines, count) = tested(pump, request)?;
+    let ticks = start(&lines[..count], u32::from(request.need), u32::from(request.period)).ok_or((10, 0))?;
+    Ok(pump.clock + u64::from(ticks))
+}
+
+/// The answer to a card: the reader's refusal, or ask's.
+///
+/// # Errors
+/// The refusal's number and place.
+#[inline]
+pub fn answer(card: &[u8]) -> Result<u64, (u16, u64)> {
+    let (pump, request) = read(card)?;
+    ask(&pump, &request)
+}
+
+#[cfg(test)]
+mod tests {
+    use crate::{answer, read, write};
+
+    /// The card of case A, as document 01 prints it.
+    const CASE_A: &[u8] = b"CK\x08\0\0\0\0\0\0\0TB\x08\0\x10\0\x20\0\x08\0\0\0TB\x08\0\x10\0\x10\0\x08\0\x08\0RQ\x01\0\x04\0";
+
+    #[test]
+    fn case_a() {
+        assert_eq!(answer(CASE_A), Ok(13));
+        let (pump, request) = read(CASE_A).unwrap_or_else(|_| unreachable!());
+        let mut out = [0; 208];
+        assert_eq!(write(&pump, &request, &mut out), Ok(40));
+        assert_eq!(&out[..40], CASE_A);
+    }
+}

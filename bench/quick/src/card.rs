@@ -1,0 +1,89 @@
+//! The card: read and written as document 01 says.
+
+use crate::pump::{Held, Pump, Request, SLOTS};
+
+#[inline]
+fn two(card: &[u8], at: usize) -> u16 {
+    u16::from_le_bytes([card[at], card[at + 1]])
+}
+
+/// The table and request of a card.
+///
+/// # Errors
+/// 11 and 12 with the byte offset.
+#[inline]
+pub fn read(card: &[u8]) -> Result<(Pump, Request), (u16, u64)> {
+    let Some(Ok(clock)) = card.get(2..10).map(<[u8; 8]>::try_from) else {
+        return Err((11, 0));
+    };
+    if !card.starts_with(b"CK") {
+        return Err((11, 0));
+    }
+    let mut pump = Pump { clock: u64::from_le_bytes(clock), slots: [Held::Nothing; SLOTS] };
+    let mut request = Request { stretched: [0; SLOTS], need: 0, period: 0 };
+    let (mut at, mut slot, mut gap) = (10, 0, false);
+    loop {
+        let rest = &card[at..];
+        if rest.starts_with(b"RQ") {
+            if rest.len() < 6 || gap {
+                return Err((11, at as u64));
+            }
+            if rest.len() > 6 {
+                return Err((11, at as u64 + 6));
+            }
+            (request.need, request.period) = (two(rest, 2), two(rest, 4));
+            return Ok((pump, request));
+        }
+        if slot < SLOTS && rest.starts_with(b"TB") && rest.len() >= 12 {
+            pump.slots[slot] = Held::Running { need: two(rest, 2), period: two(rest, 4), age: two(rest, 8), remaining: two(rest, 10) };
+            request.stretched[slot] = two(rest, 6);
+            (at, slot, gap) = (at + 12, slot + 1, false);
+        } else if slot < SLOTS && rest.starts_with(b"TF") {
+            (at, slot, gap) = (at + 2, slot + 1, true);
+        } else {
+            let number = if slot < SLOTS && rest.starts_with(b"TA") { 12 } else { 11 };
+            return Err((number, at as u64));
+        }
+    }
+}
+
+/// Writes the card and gives its length.
+///
+/// # Errors
+/// 3 and 13; then no byte is written.
+#[inline]
+pub fn write(pump: &Pump, request: &Request, out: &mut [u8]) -> Result<usize, (u16, u64)> {
+    let (mut used, mut length) = (0, 16);
+    for (i, held) in pump.slots.iter().enumerate() {
+        match held {
+            Held::Nothing => {}
+            Held::Running { .. } => {
+                length += 12 + 2 * (i - used);
+                used = i + 1;
+            }
+            Held::Waiting { .. } => return Err((3, i as u64)),
+        }
+    }
+    if out.len() < length {
+        return Err((13, 0));
+    }
+    out[..2].copy_from_slice(b"CK");
+    out[2..10].copy_from_slice(&pump.clock.to_le_bytes());
+    let mut at = 10;
+    for (held, stretched) in pump.slots[..used].iter().zip(&request.stretched) {
+        if let Held::Running { need, period, age, remaining } = held {
+            out[at..at + 2].copy_from_slice(b"TB");
+            for (k, v) in [need, period, stretched, age, remaining].into_iter().enumerate() {
+                out[at + 2 + 2 * k..at + 4 + 2 * k].copy_from_slice(&v.to_le_bytes());
+            }
+            at += 12;
+        } else {
+            out[at..at + 2].copy_from_slice(b"TF");
+            at += 2;
+        }
+    }
+    out[at..at + 2].copy_from_slice(b"RQ");
+    out[at + 2..at + 4].copy_from_slice(&request.need.to_le_bytes());
+    out[at + 4..at + 6].copy_from_slice(&request.period.to_le_bytes());
+    Ok(length)
+}
