@@ -29,7 +29,7 @@ fn alike(b: Bench, n: usize, need: u16, period: u16, age: u16) -> Bench
     all
 }
 
-pub fn full() -> Bench {
+pub(crate) fn full() -> Bench {
     alike(Bench::new(0, 1, 64), 16, 1, 64, 0)
 }
 
@@ -53,7 +53,7 @@ fn waits() -> Bench {
 }
 
 // The unsound line stands lower, and the waiting one is named all the same.
-pub fn both() -> Bench {
+pub(crate) fn both() -> Bench {
     Bench::new(0, 1, 4)
         .line(1, 1, 4, 4, 4, 1)
         .waiting(6, 1, 4, 3)
@@ -72,7 +72,7 @@ fn unseen() -> Bench {
 }
 
 // The lowest empty slot lies between two lines.
-pub fn gap() -> Bench {
+pub(crate) fn gap() -> Bench {
     Bench::new(8, 1, 4)
         .line(0, 8, 16, 32, 8, 0)
         .line(2, 8, 16, 16, 8, 8)
@@ -105,7 +105,7 @@ fn others() {
     say(b"gap", gap());
 }
 
-pub fn say_all() {
+pub(crate) fn say_all() {
     limits();
     throughout();
     others();

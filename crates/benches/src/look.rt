@@ -113,7 +113,7 @@ fn say_same(before: Table, after: Table) {
     }
 }
 
-pub fn admitted(label: &[u8], b: Bench) {
+pub(crate) fn admitted(label: &[u8], b: Bench) {
     let t = b.table;
     let q = b.request;
     let x = ask::admit(t, q);
@@ -129,7 +129,7 @@ pub fn admitted(label: &[u8], b: Bench) {
 }
 
 // A comparison of two tables as they stand.
-pub fn compared(label: &[u8], a: Bench, b: Bench) {
+pub(crate) fn compared(label: &[u8], a: Bench, b: Bench) {
     let s = a.table;
     let t = b.table;
     io::write_all(libc::STDOUT_FILENO, label);

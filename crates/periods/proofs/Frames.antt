@@ -44,10 +44,6 @@ frame-pos-from m (p ∷ ps) h a = frame-pos-from (lcmOf m p) ps (lcm-pos m p h (
 pub frame-pos : (ps : List ℕ) → All (λ p. 1 ≤ p) ps → 1 ≤ frameOf ps
 frame-pos ps a = frame-pos-from 1 ps (omega arith) a
 
--- it only grows
-pub frame-grows : (m : ℕ) (ps : List ℕ) → 1 ≤ m → All (λ p. 1 ≤ p) ps → m ≤ frameFrom m ps
-frame-grows m ps h a = le-of-dvd (frame-pos-from m ps h a) (frame-divides-from m ps .0)
-
 -- with periods from 1 up it is the least by order too
 pub frame-least : (ps : List ℕ) → All (λ p. 1 ≤ p) ps → LeastCommon ps (frameOf ps)
 frame-least ps a = record {
@@ -63,11 +59,6 @@ pub frame-append : (m : ℕ) (ps qs : List ℕ) → frameFrom m (ps ++ qs) ≡ f
 unfolding frameFrom
 frame-append m [] qs = refl
 frame-append m (p ∷ ps) qs = frame-append (lcmOf m p) ps qs
-
--- one period more at the end
-pub frame-snoc : (m : ℕ) (ps : List ℕ) (p : ℕ) → frameFrom m (ps ++ (p ∷ [])) ≡ lcmOf (frameFrom m ps) p
-unfolding frameFrom
-frame-snoc m ps p = frame-append m ps (p ∷ [])
 
 -- a period of 1 changes nothing
 pub frame-ones : (m : ℕ) (ps : List ℕ) → frameFrom m (1 ∷ ps) ≡ frameFrom m ps
@@ -85,10 +76,6 @@ pub frame-zero-first : (m : ℕ) (ps : List ℕ) → frameFrom m (0 ∷ ps) ≡ 
 unfolding frameFrom
 frame-zero-first m ps = ap (λ (x : ℕ). frameFrom x ps) (lcm-zero-right m) ∙ frame-zero ps
 
--- and in any other
-pub frame-zero-among : (m : ℕ) (ps qs : List ℕ) → frameFrom m (ps ++ (0 ∷ qs)) ≡ 0
-frame-zero-among m ps qs = frame-append m ps (0 ∷ qs) ∙ frame-zero-first (frameFrom m ps) qs
-
 -- the period at i comes first in what is left from i on
 pub frame-step : (m : ℕ) (ps : List ℕ) (i : ℕ) → i < length ps → frameFrom m (drop i ps) ≡ frameFrom (lcmOf m (getD ps i 0)) (drop (i + 1) ps)
 unfolding frameFrom
@@ -101,12 +88,6 @@ frame-end m ps i h = rw (h, drop-length)
 
 pub capped-in : (m : ℕ) → m ≤ 1000000 → capped m ≡ m
 capped-in m h = omega arith
-
-pub capped-out : (m : ℕ) → 1000000 < m → capped m ≡ 1000001
-capped-out m h = omega arith
-
-pub capped-bound : (m : ℕ) → capped m ≤ 1000001
-capped-bound m = omega arith
 
 pub capped-above : (m : ℕ) → 1000000 < capped m → 1000000 < m
 capped-above m h = omega arith

@@ -1,24 +1,20 @@
 -- The computed step on a fine table: it is never refused before clock 2^48, and the table after it is fine again.
-use mathlib.Core.Path.{_≡_, refl, sym, ap, _∙_}
-use mathlib.Core.Bool.{Bool, true, false, not}
-use mathlib.Core.Option.{Option, none, some}
+use mathlib.Core.Path.{_≡_, refl, ap}
+use mathlib.Core.Bool.{true, false, not}
+use mathlib.Core.Option.{Option, none}
 use mathlib.Core.List.{List}
 use Prim.Native.Nat.{ℕ, _+_, _^_, _<_}
 use native.Mathlib.Numerals.{add-one}
 use native.Mathlib.Omega.{arith}
 use borrow.Author.Tests.{lt-ltb, le-ltb, lt-leb}
-use lib.Dec.{leb}
 use lib.ListN.{length}
 use Rattle.lines.specs.declared.Held.{Held}
 use Rattle.lines.specs.declared.Held.the-variants.{Nothing, Running, Waiting}
 use Rattle.lines.specs.declared.Slot.{Slot}
 use Rattle.lines.specs.declared.Table.{Table}
-use Rattle.lines.specs.declared.Which.{Which}
-use Rattle.lines.specs.declared.Outcome.the-variants.{Ran}
-use Rattle.lines.specs.declared.Stepped.{Stepped}
-use Rattle.lines.specs.Slots.{pick, at, Each, lowestOf}
+use Rattle.lines.specs.Slots.{at, Each, lowestOf}
 use Rattle.lines.specs.Sound.{Sound, sound}
-use Rattle.lines.specs.Step.{Earliest, choose, serve, short, refusedStep, stepUnless, advance, stepOf}
+use Rattle.lines.specs.Step.{Earliest, choose, serve, short, advance, stepOf}
 use Rattle.lines.proofs.Search.{true-false, none-found, lowest-none}
 use Rattle.lines.proofs.Sound.{says-sound}
 use Rattle.lines.proofs.Choice.{chosen-is, chosen-earliest}
@@ -60,35 +56,6 @@ choose-earliest l = chosen-earliest (choose l) l (chosen-is (length l) l)
 pub advanced : (o : Option ℕ) (t : Table) → Each Kept (serve o (t .slots)) → advance o t ≡ ticked o t
 unfolding advance
 advanced o t v = rw (none-short (serve o (t .slots)) v)
-
-ran-unless : (p : Option ℕ) (n : ℕ) (t : Table) (s : Stepped) (w : Which) → stepUnless p n t s .outcome ≡ Ran w → (p ≡ none) × (stepUnless p n t s ≡ s)
-ran-unless none n t s w e = (refl, refl)
-ran-unless (some k) n t s w e = let z : _≡_ {A = ℕ} 0 1 = cc in absurd (omega arith)
-
-ran-pick : (b : Bool) (t : Table) (s : Stepped) (w : Which) → pick b (refusedStep t 15 0) s .outcome ≡ Ran w → pick b (refusedStep t 15 0) s ≡ s
-ran-pick false t s w e = refl
-ran-pick true t s w e = let z : _≡_ {A = ℕ} 0 1 = cc in absurd (omega arith)
-
--- a tick that is not refused has no line short
-pub advance-kept : (o : Option ℕ) (t : Table) (w : Which) → advance o t .outcome ≡ Ran w → Each Kept (serve o (t .slots))
-unfolding advance
-advance-kept o t w e = short-none (serve o (t .slots)) (ran-unless (lowestOf short (serve o (t .slots))) 14 t _ w e .0)
-
--- a step that is not refused is the tick of its own choice
-pub ran-advance : (t : Table) (w : Which) → stepOf t .outcome ≡ Ran w → stepOf t ≡ advance (choose (t .slots)) t
-unfolding stepOf
-ran-advance t w e =
-    let s = stepUnless (lowestOf (λ h. not (sound h)) (t .slots)) 4 t (advance (choose (t .slots)) t) in
-    let p = ran-pick (leb (2 ^ 48) (t .clock)) t s w e in
-    let q : s .outcome ≡ Ran w = ap (λ (x : Stepped). x .outcome) (sym p) ∙ e in
-    p ∙ ran-unless (lowestOf (λ h. not (sound h)) (t .slots)) 4 t (advance (choose (t .slots)) t) w q .1
-
--- so it has no line short either
-pub step-kept : (t : Table) (w : Which) → stepOf t .outcome ≡ Ran w → Each Kept (serve (choose (t .slots)) (t .slots))
-step-kept t w e = advance-kept (choose (t .slots)) t w (ap (λ (x : Stepped). x .outcome) (sym (ran-advance t w e)) ∙ e)
-
-pub step-ticks : (t : Table) (w : Which) → stepOf t .outcome ≡ Ran w → stepOf t ≡ ticked (choose (t .slots)) t
-step-ticks t w e = ran-advance t w e ∙ advanced (choose (t .slots)) t (step-kept t w e)
 
 -- the step of a fine table
 pub fine-step : {M : ℕ} (t : Table) → Fine M (t .clock) (t .slots) → t .clock < 2 ^ 48 → stepOf t ≡ ticked (choose (t .slots)) t

@@ -79,7 +79,7 @@ fn length_of(s: Said) -> u64 {
     s.value
 }
 
-pub fn write(w: Walk) -> Walk {
+pub(crate) fn write(w: Walk) -> Walk {
     let s = for_card(w);
     let d = below(s.x, 256);
     let fill = byte(d.value);
@@ -136,7 +136,7 @@ fn read_card(w: Walk, c: marks::Card) -> Walk {
     w.done(c.x, digest::request(digest::table(h, t), q), said)
 }
 
-pub fn read(w: Walk) -> Walk {
+pub(crate) fn read(w: Walk) -> Walk {
     let s = for_card(w);
     let t = s.table;
     let q = s.request;

@@ -204,7 +204,7 @@ fn at(s: Scene, x: u64) -> Scene {
 }
 
 // The history's table with a request for it, and one change.
-pub fn damaged(w: Walk) -> Scene {
+pub(crate) fn damaged(w: Walk) -> Scene {
     let s = drawing::request(w);
     let t = s.table;
     let slots = t.slots;

@@ -14,7 +14,7 @@ fn multiplied(v: u64) -> u64 {
     std::num::wrapping_add_u64(low * 435, moved)
 }
 
-pub fn fold(h: u64, w: u64) -> u64 {
+pub(crate) fn fold(h: u64, w: u64) -> u64 {
     multiplied(h ^ w)
 }
 
@@ -46,7 +46,7 @@ fn slots(h: u64, all: [Slot; 16]) -> u64 {
 }
 
 // Fold a table.
-pub fn table(h: u64, t: Table) -> u64 {
+pub(crate) fn table(h: u64, t: Table) -> u64 {
     let all = t.slots;
     slots(fold(h, t.clock), all)
 }
@@ -67,7 +67,7 @@ fn entries(h: u64, all: [u16; 16]) -> u64 {
 }
 
 // Fold a request.
-pub fn request(h: u64, q: Request) -> u64 {
+pub(crate) fn request(h: u64, q: Request) -> u64 {
     let all = q.stretched;
     fold(fold(entries(h, all), q.need as u64), q.period as u64)
 }
@@ -77,7 +77,7 @@ fn byte(h: u64, b: u8) -> u64 {
 }
 
 // Each byte of a buffer, a word for each.
-pub fn bytes(h: u64, all: [u8; 240]) -> u64 {
+pub(crate) fn bytes(h: u64, all: [u8; 240]) -> u64 {
     let mut sum = h;
     let mut i: usize = 0;
     while i < 240 {
@@ -89,7 +89,7 @@ pub fn bytes(h: u64, all: [u8; 240]) -> u64 {
 }
 
 // Fold an answer.
-pub fn answer(h: u64, s: Said) -> u64 {
+pub(crate) fn answer(h: u64, s: Said) -> u64 {
     if s.refused {
         return fold(fold(fold(h, 1), s.value), s.place);
     }

@@ -242,7 +242,7 @@ fn scene(t: Table, periods: [u16; 16], new: Line) -> Scene {
 }
 
 // "A request", for the history's table.
-pub fn request(w: Walk) -> Scene {
+pub(crate) fn request(w: Walk) -> Scene {
     let t = w.table;
     let slots = t.slots;
     let a = below(w.x, 5);
@@ -256,7 +256,7 @@ pub fn request(w: Walk) -> Scene {
 }
 
 // "An operation", while a history opens: the last line is exact.
-pub fn opening(w: Walk) -> Scene {
+pub(crate) fn opening(w: Walk) -> Scene {
     let t = w.table;
     let slots = t.slots;
     let all = stretched(slots, w.x, w.base, 1);

@@ -174,7 +174,7 @@ fn all(start: u64, sound: u64) -> FreeSlots {
 }
 
 // A free table and its request.
-pub fn table(x: u64) -> Scene {
+pub(crate) fn table(x: u64) -> Scene {
     let sound = below(x, 2);
     let time = clock(sound.x);
     let drawn = all(time.x, sound.value);

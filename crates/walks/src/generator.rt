@@ -19,7 +19,7 @@ fn next(x: u64) -> u64 {
 }
 
 // One draw: 31 bits.
-pub fn draw(x: u64) -> Drawn
+pub(crate) fn draw(x: u64) -> Drawn
     ensures { λ r. ⌜ r .value < 2147483648 ⌝ }
 {
     let y = next(x);
@@ -30,7 +30,7 @@ pub fn draw(x: u64) -> Drawn
 }
 
 // The n of every draw of the walks is above 0, so the test spares each caller a proof and decides nothing.
-pub fn below(x: u64, n: u64) -> Drawn
+pub(crate) fn below(x: u64, n: u64) -> Drawn
     ensures { λ r. ⌜ r .value < 2147483648 ⌝ }
 {
     let d = draw(x);

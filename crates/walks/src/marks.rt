@@ -101,7 +101,7 @@ fn marked_at_record(c: Card, x: u64) -> Card {
 }
 
 // The card after the change that is drawn.
-pub fn spoiled(c: Card) -> Card {
+pub(crate) fn spoiled(c: Card) -> Card {
     let e = below(c.x, 8);
     let k = e.value;
     match k {

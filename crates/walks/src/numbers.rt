@@ -2,51 +2,51 @@
 // owes a bound; on the numbers of the walks each is the plain operation.
 
 // low(v), a number as it goes into a table or a request.
-pub fn low(v: u64) -> u16 {
+pub(crate) fn low(v: u64) -> u16 {
     (v % 65536) as u16
 }
 
-pub fn byte(v: u64) -> u8 {
+pub(crate) fn byte(v: u64) -> u8 {
     (v % 256) as u8
 }
 
-pub fn plus(a: u64, b: u64) -> u64 {
+pub(crate) fn plus(a: u64, b: u64) -> u64 {
     std::num::wrapping_add_u64(a, b)
 }
 
-pub fn minus(a: u64, b: u64) -> u64 {
+pub(crate) fn minus(a: u64, b: u64) -> u64 {
     std::num::wrapping_sub_u64(a, b)
 }
 
 // Of two sixteen-bit numbers.
-pub fn times(a: u64, b: u64) -> u64 {
+pub(crate) fn times(a: u64, b: u64) -> u64 {
     let x = a % 65536;
     let y = b % 65536;
     x * y
 }
 
-pub fn quotient(a: u64, b: u64) -> u64 {
+pub(crate) fn quotient(a: u64, b: u64) -> u64 {
     if b == 0 {
         return 0;
     }
     a / b
 }
 
-pub fn rest(a: u64, b: u64) -> u64 {
+pub(crate) fn rest(a: u64, b: u64) -> u64 {
     if b == 0 {
         return 0;
     }
     a % b
 }
 
-pub fn smaller(a: u64, b: u64) -> u64 {
+pub(crate) fn smaller(a: u64, b: u64) -> u64 {
     if a < b {
         return a;
     }
     b
 }
 
-pub fn larger(a: u64, b: u64) -> u64 {
+pub(crate) fn larger(a: u64, b: u64) -> u64 {
     if a < b {
         return b;
     }
@@ -54,7 +54,7 @@ pub fn larger(a: u64, b: u64) -> u64 {
 }
 
 // divisor(n, most)
-pub fn divisor(n: u64, most: u64) -> u64 {
+pub(crate) fn divisor(n: u64, most: u64) -> u64 {
     let mut d = most;
     while 1 < d {
         if n % d == 0 {
@@ -66,7 +66,7 @@ pub fn divisor(n: u64, most: u64) -> u64 {
 }
 
 // common(a, b)
-pub fn common(a: u64, b: u64) -> u64 {
+pub(crate) fn common(a: u64, b: u64) -> u64 {
     let mut x = a;
     let mut y = b;
     while 0 < y {
@@ -78,7 +78,7 @@ pub fn common(a: u64, b: u64) -> u64 {
 }
 
 // longer(T, m)
-pub fn longer(base: u64, period: u64, m: u64) -> u64 {
+pub(crate) fn longer(base: u64, period: u64, m: u64) -> u64 {
     let long = times(period, m);
     if long == 0 {
         return period;
@@ -90,7 +90,7 @@ pub fn longer(base: u64, period: u64, m: u64) -> u64 {
 }
 
 // base − min(used, base)
-pub fn unused(base: u64, used: u64) -> u64 {
+pub(crate) fn unused(base: u64, used: u64) -> u64 {
     if base <= used {
         return 0;
     }

@@ -21,7 +21,7 @@ struct Ran {
     said: Said,
 }
 
-pub fn fine(op: u64, value: u64) -> Said {
+pub(crate) fn fine(op: u64, value: u64) -> Said {
     Said {
         op: op,
         refused: false,
@@ -30,7 +30,7 @@ pub fn fine(op: u64, value: u64) -> Said {
     }
 }
 
-pub fn refused(op: u64, x: Refusal) -> Said {
+pub(crate) fn refused(op: u64, x: Refusal) -> Said {
     Said {
         op: op,
         refused: true,
@@ -57,7 +57,7 @@ fn of_outcome(op: u64, o: Outcome) -> Said {
     }
 }
 
-pub fn ask(w: Walk, s: Scene) -> Walk {
+pub(crate) fn ask(w: Walk, s: Scene) -> Walk {
     let t = s.table;
     let q = s.request;
     let said = of_answer(1, ask::ask(t, q));
@@ -65,7 +65,7 @@ pub fn ask(w: Walk, s: Scene) -> Walk {
     w.done(s.x, h, said)
 }
 
-pub fn admit(w: Walk, s: Scene) -> Walk {
+pub(crate) fn admit(w: Walk, s: Scene) -> Walk {
     let t = s.table;
     let q = s.request;
     let admitted = ask::admit(t, q);
@@ -76,7 +76,7 @@ pub fn admit(w: Walk, s: Scene) -> Walk {
     w.holding(next).done(s.x, digest::table(h, next), said)
 }
 
-pub fn step(w: Walk) -> Walk {
+pub(crate) fn step(w: Walk) -> Walk {
     let t = w.table;
     let stepped = t.step();
     let next = stepped.table;
@@ -124,7 +124,7 @@ fn ticked(start: Table, first: u64, ticks: u64) -> Ran {
     }
 }
 
-pub fn run(w: Walk, x: u64, t: Table, ticks: u64) -> Walk {
+pub(crate) fn run(w: Walk, x: u64, t: Table, ticks: u64) -> Walk {
     let ran = ticked(t, digest::fold(w.h, 4), ticks);
     let next = ran.table;
     let said = ran.said;
@@ -132,32 +132,32 @@ pub fn run(w: Walk, x: u64, t: Table, ticks: u64) -> Walk {
 }
 
 // The run of the history's table.
-pub fn run_some(w: Walk) -> Walk {
+pub(crate) fn run_some(w: Walk) -> Walk {
     let d = below(w.x, 200);
     let t = w.table;
     run(w, d.x, t, 1 + d.value)
 }
 
 // An operation on a table that is not the history's, which stays.
-pub fn admit_aside(w: Walk, s: Scene) -> Walk {
+pub(crate) fn admit_aside(w: Walk, s: Scene) -> Walk {
     let t = w.table;
     admit(w, s).holding(t)
 }
 
-pub fn run_aside(w: Walk, s: Scene, ticks: u64) -> Walk {
+pub(crate) fn run_aside(w: Walk, s: Scene, ticks: u64) -> Walk {
     let t = w.table;
     let other = s.table;
     run(w, s.x, other, ticks).holding(t)
 }
 
-pub fn ready(w: Walk, x: u64, t: Table) -> Walk {
+pub(crate) fn ready(w: Walk, x: u64, t: Table) -> Walk {
     let word = t.ready_word() as u64;
     let h = digest::fold(digest::fold(w.h, 7), word);
     w.done(x, h, fine(7, word))
 }
 
 // Operation 25, on a free table.
-pub fn free(w: Walk) -> Walk {
+pub(crate) fn free(w: Walk) -> Walk {
     let drawn = free::table(w.x);
     let e = below(drawn.x, 4);
     let t = drawn.table;
@@ -183,7 +183,7 @@ fn lamp_range(few: u64) -> u64 {
     256
 }
 
-pub fn lamp(w: Walk) -> Walk {
+pub(crate) fn lamp(w: Walk) -> Walk {
     let few = below(w.x, 4);
     let number = below(few.x, lamp_range(few.value));
     let blinks = lines::lamp(low(number.value)) as u64;
@@ -202,7 +202,7 @@ fn at_clock(w: Walk, x: u64, clock: u64) -> Walk {
     w.holding(next).done(x, h, fine(9, clock))
 }
 
-pub fn jump(w: Walk) -> Walk {
+pub(crate) fn jump(w: Walk) -> Walk {
     let v = below(w.x, 1000);
     let e = below(v.x, 16);
     let k = e.value;

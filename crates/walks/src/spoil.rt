@@ -18,13 +18,13 @@ pub enum Way {
     Unwaiting,
 }
 
-pub fn running(r: Run) -> Slot {
+pub(crate) fn running(r: Run) -> Slot {
     Slot {
         held: Held::Running(r),
     }
 }
 
-pub fn waiting(r: Run, wait: u16) -> Slot {
+pub(crate) fn waiting(r: Run, wait: u16) -> Slot {
     Slot {
         held: Held::Waiting(Wait {
             need: r.need,
@@ -71,12 +71,12 @@ fn with_remaining(r: Run, remaining: u16) -> Run {
 }
 
 // T − 1
-pub fn period_less_one(r: Run) -> u16 {
+pub(crate) fn period_less_one(r: Run) -> u16 {
     low(minus(r.period as u64, 1))
 }
 
 // Changes 0 to 9.
-pub fn spoiled(r: Run, change: u64, v: u64) -> Run {
+pub(crate) fn spoiled(r: Run, change: u64, v: u64) -> Run {
     match change {
         0 => with_remaining(r, r.need),
         1 => with_remaining(r, low(r.remaining as u64 + 1 + v % 3)),
@@ -92,7 +92,7 @@ pub fn spoiled(r: Run, change: u64, v: u64) -> Run {
 }
 
 // Changes 12 and 13, for slot k: c ← C, age ← T − (1 + v % T).
-pub fn owed_all(r: Run, v: u64) -> Run {
+pub(crate) fn owed_all(r: Run, v: u64) -> Run {
     let t = r.period as u64;
     let age = low(minus(t, plus(1, rest(v, t))));
     with_age(with_remaining(r, r.need), age)
@@ -140,7 +140,7 @@ fn changed(s: Slot, way: Way) -> Slot {
     }
 }
 
-pub fn all_changed(slots: [Slot; 16], way: Way) -> [Slot; 16] {
+pub(crate) fn all_changed(slots: [Slot; 16], way: Way) -> [Slot; 16] {
     let mut next = slots;
     let mut i: usize = 0;
     while i < 16 {
@@ -153,7 +153,7 @@ pub fn all_changed(slots: [Slot; 16], way: Way) -> [Slot; 16] {
 }
 
 // A number that is no slot's changes nothing.
-pub fn with_slot(slots: [Slot; 16], k: usize, s: Slot) -> [Slot; 16] {
+pub(crate) fn with_slot(slots: [Slot; 16], k: usize, s: Slot) -> [Slot; 16] {
     if 15 < k {
         return slots;
     }
@@ -162,7 +162,7 @@ pub fn with_slot(slots: [Slot; 16], k: usize, s: Slot) -> [Slot; 16] {
     next
 }
 
-pub fn with_slots(t: Table, slots: [Slot; 16]) -> Table {
+pub(crate) fn with_slots(t: Table, slots: [Slot; 16]) -> Table {
     Table {
         clock: t.clock,
         slots: slots,
@@ -170,7 +170,7 @@ pub fn with_slots(t: Table, slots: [Slot; 16]) -> Table {
 }
 
 // A number that is no slot's changes nothing.
-pub fn with_entry(periods: [u16; 16], k: usize, period: u16) -> [u16; 16] {
+pub(crate) fn with_entry(periods: [u16; 16], k: usize, period: u16) -> [u16; 16] {
     if 15 < k {
         return periods;
     }
@@ -179,7 +179,7 @@ pub fn with_entry(periods: [u16; 16], k: usize, period: u16) -> [u16; 16] {
     next
 }
 
-pub fn with_line(q: Request, need: u16, period: u16) -> Request {
+pub(crate) fn with_line(q: Request, need: u16, period: u16) -> Request {
     let periods = q.stretched;
     Request {
         stretched: periods,

@@ -77,14 +77,14 @@ fn answer(s: Said) {
     }
 }
 
-pub fn line(n: u64, s: Said) {
+pub(crate) fn line(n: u64, s: Said) {
     number(n);
     name(s.op);
     answer(s);
     io::write_all(libc::STDOUT_FILENO, b"\n");
 }
 
-pub fn digest(n: u64, h: u64) {
+pub(crate) fn digest(n: u64, h: u64) {
     number(n);
     io::write_all(libc::STDOUT_FILENO, b" ");
     number(h);
