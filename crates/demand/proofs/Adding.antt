@@ -5,12 +5,10 @@ use mathlib.Core.List.{List, [], _∷_, _++_, append-assoc}
 use native.Mathlib.Nat.{le-trans, mul-le-mul}
 use native.Mathlib.Numerals.{add-one}
 use native.Mathlib.Omega.{arith}
-use lib.ListN.{length, getD, set, replicate, length-append}
-use lib.Seq.{set-at, getD-set-same, getD-set-other}
+use lib.ListN.{length, getD, set, take, replicate, length-append, length-replicate}
+use lib.Seq.{set-at, take-at, getD-set-same, getD-set-other}
 use borrow.Author.Count.{below-more}
-use Rattle.periods.specs.Multiples.{frameFrom, frameOf}
 use Rattle.periods.proofs.Whole.{share-le}
-use Rattle.periods.proofs.Frames.{frame-append, frame-ones}
 use Rattle.demand.specs.Lines.{sumTo, periodsTo}
 
 pub sum-none : (f : ℕ → ℕ) → sumTo f 0 ≡ 0
@@ -60,7 +58,7 @@ term-on f l i x h v e b =
     (λ k g. rw (getD-set-other l i k x 0 (λ z. omega arith)) (v k g))
     (rw (getD-set-same l i x 0 h) (e, b))
 
--- ---- the list of the periods, with 1 where there is no line
+-- ---- the list of the periods, with 0 behind it
 
 pub periods-length : (p : List ℕ) (k : ℕ) → length (periodsTo p k) ≡ k
 unfolding periodsTo
@@ -68,29 +66,28 @@ periods-length p zero = refl
 periods-length p (suc k) = rw (length-append, periods-length p k) (omega arith)
 
 abbrev pub filled : (new : ℕ) → List ℕ → ℕ → List ℕ
-filled new p i = new ∷ (periodsTo p i ++ replicate (16 - i) 1)
+filled new p i = new ∷ (periodsTo p i ++ replicate (16 - i) 0)
 
-pub fill-start : (new : ℕ) (p : List ℕ) → new ∷ replicate 16 1 ≡ filled new p 0
+pub fill-start : (new : ℕ) (p : List ℕ) → new ∷ replicate 16 0 ≡ filled new p 0
 unfolding periodsTo
 fill-start new p = refl
 
 fill-next : (p : List ℕ) (i : ℕ) → i < 16
-    → set (periodsTo p i ++ replicate (16 - i) 1) i (getD p i 0) ≡ periodsTo p (suc i) ++ replicate (16 - suc i) 1
+    → set (periodsTo p i ++ replicate (16 - i) 0) i (getD p i 0) ≡ periodsTo p (suc i) ++ replicate (16 - suc i) 0
 unfolding periodsTo
 fill-next p i h =
     let z : 16 - i ≡ suc (16 - suc i) = omega arith in
-    ap (λ (n : ℕ). set (periodsTo p i ++ replicate n 1) i (getD p i 0)) z
-    ∙ set-at (periodsTo p i) 1 (replicate (16 - suc i) 1) (getD p i 0) i (periods-length p i)
-    ∙ sym (append-assoc (periodsTo p i) (getD p i 0 ∷ []) (replicate (16 - suc i) 1))
+    ap (λ (n : ℕ). set (periodsTo p i ++ replicate n 0) i (getD p i 0)) z
+    ∙ set-at (periodsTo p i) 0 (replicate (16 - suc i) 0) (getD p i 0) i (periods-length p i)
+    ∙ sym (append-assoc (periodsTo p i) (getD p i 0 ∷ []) (replicate (16 - suc i) 0))
 
 pub fill-on : (new : ℕ) (p : List ℕ) (i : ℕ) → i < 16 → set (filled new p i) (i + 1) (getD p i 0) ≡ filled new p (i + 1)
 fill-on new p i h = rw add-one (ap {B = List ℕ} (λ l. new ∷ l) (fill-next p i h))
 
--- a 1 changes no common multiple
-frame-ones-all : (m n : ℕ) → frameFrom m (replicate n 1) ≡ m
-unfolding frameFrom
-frame-ones-all m zero = refl
-frame-ones-all m (suc n) = frame-ones m (replicate n 1) ∙ frame-ones-all m n
+-- when all of them have been filled in, the list and its front
+module _ (new : ℕ) (p all : List ℕ) (i k : ℕ) (e : all ≡ filled new p i) (z : i ≡ k) where
+  pub filled-long : k ≤ 16 → length all ≡ 17
+  filled-long h = rw (e, z) (omega (arith, length-append (periodsTo p k) (replicate (16 - k) 0), periods-length p k, length-replicate {A = ℕ} (16 - k) 0))
 
-pub frame-padded : (ps : List ℕ) (n : ℕ) → frameOf (ps ++ replicate n 1) ≡ frameOf ps
-frame-padded ps n = frame-append 1 ps (replicate n 1) ∙ frame-ones-all (frameFrom 1 ps) n
+  pub filled-front : take (k + 1) all ≡ new ∷ periodsTo p k
+  filled-front = rw (e, z, add-one k) (ap {B = List ℕ} (λ l. new ∷ l) (take-at (periodsTo p k) (replicate (16 - k) 0) k (periods-length p k)))

@@ -1,17 +1,17 @@
 -- From the slots to the arrays: what is gathered is the list of the running lines, and each of them is fit.
-use Prim.Native.Nat.{ℕ, zero, suc, _+_, _≤_, _<_}
-use mathlib.Core.Path.{_≡_, refl, ap, sym, _∙_}
+use Prim.Native.Nat.{ℕ, zero, suc, _+_, _-_, _≤_, _<_}
+use mathlib.Core.Path.{_≡_, refl, ap, sym, subst, _∙_}
 use mathlib.Core.List.{List, [], _∷_, _++_, append-assoc, append-nil}
 use native.Mathlib.Nat.{le-of-suc-le-suc}
 use native.Mathlib.Numerals.{add-one}
 use native.Mathlib.Omega.{arith}
-use lib.ListN.{length, getD, set, drop, drop-of-length-le}
+use lib.ListN.{length, getD, set, drop, length-set, drop-of-length-le}
 use lib.Seq.{getD-set-same, getD-set-other}
 use borrow.Author.Count.{below-more}
 use Rattle.periods.specs.Multiples.{All}
+use Rattle.lines.specs.declared.Run.{Run}
 use Rattle.lines.specs.declared.Held.{Held}
 use Rattle.lines.specs.declared.Held.the-variants.{Nothing, Running, Waiting}
-use Rattle.lines.specs.declared.Wait.{Wait}
 use Rattle.lines.specs.declared.Slot.{Slot}
 use Rattle.lines.specs.Slots.{at}
 use Rattle.lines.specs.Grounds.{stretch, stretched}
@@ -35,7 +35,7 @@ module _ (e c n p : List ℕ) (i x y z w : ℕ) where
         getD-set-other p i k w 0 (λ g. omega arith),
       )
 
-  pub lines-push : i < length e → i < length c → i < length n → i < length p
+  lines-push : i < length e → i < length c → i < length n → i < length p
       → linesTo (set e i x) (set c i y) (set n i z) (set p i w) (i + 1)
       ≡ linesTo e c n p i ++ (record { end = x; remaining = y; need = z; period = w } ∷ [])
   unfolding linesTo
@@ -43,6 +43,10 @@ module _ (e c n p : List ℕ) (i x y z w : ℕ) where
       rw (add-one i, lines-keep i (omega arith), getD-set-same e i x 0 g, getD-set-same c i y 0 h, getD-set-same n i z 0 j, getD-set-same p i w 0 k)
 
 -- ---- slot by slot
+
+-- what a slot that is read holds, whatever stands for a slot that is not there
+read : (l : List Slot) (i : ℕ) (d : Slot) → i < length l → getD l i d .held ≡ at l i
+read l i d h = ap (λ (s : Slot). s .held) (read-any l i d h)
 
 asked-step : (l : List Slot) (p : ℕ → ℕ) (i : ℕ) → i < length l
     → linesIn (drop i (stretched l p)) ≡ lineIn (stretch (p i) (at l i)) ++ linesIn (drop (suc i) (stretched l p))
@@ -56,35 +60,64 @@ unfolding stretched
 asked-length [] p = refl
 asked-length (s ∷ l) p = ap suc (asked-length l (λ k. p (suc k)))
 
+-- sixteen places in each array
+abbrev pub Room : Gathered → Type 0
+Room g = (length (g .end) ≡ 16) × (length (g .remaining) ≡ 16) × (length (g .need) ≡ 16) × (length (g .period) ≡ 16)
+
+-- a running line at p, behind those before it
+abbrev pushed : Gathered → ℕ → Run → Gathered
+pushed g p r = record {
+  count = g .count + 1;
+  end = set (g .end) (g .count) (p - r .age);
+  remaining = set (g .remaining) (g .count) (r .remaining);
+  need = set (g .need) (g .count) (r .need);
+  period = set (g .period) (g .count) p;
+}
+
 -- a gathering that has passed i slots: what is left gives the whole
 pub record Gathering (l : List Slot) (p : ℕ → ℕ) (i : ℕ) (g : Gathered) : Type 0 where
   pub long : length l ≡ 16
   pub upto : i ≤ 16
   pub few : g .count ≤ i
+  pub room : Room g
   pub left : linesOf g ++ linesIn (drop i (stretched l p)) ≡ linesIn (stretched l p)
-  pub wide : (k : ℕ) → k < i → p k ≤ 65535
+  pub wide : (k : ℕ) → p k ≤ 65535
 
-pub gather-start : (l : List Slot) (p : ℕ → ℕ) (g : Gathered) → length l ≡ 16 → g .count ≡ 0 → Gathering l p 0 g
+pub gather-start : (l : List Slot) (p : ℕ → ℕ) (g : Gathered) → length l ≡ 16 → g .count ≡ 0 → Room g → ((k : ℕ) → p k ≤ 65535) → Gathering l p 0 g
 unfolding linesTo
-gather-start l p g e z = record { long = e; upto = omega arith; few = omega arith; left = rw z; wide = λ k h. absurd (omega arith) }
+gather-start l p g e z r w = record { long = e; upto = omega arith; few = omega arith; room = r; left = rw z; wide = w }
 
 module _ {l : List Slot} {p : ℕ → ℕ} {i : ℕ} {g : Gathered} (v : Gathering l p i g) where
-  pub gather-on : (h : Gathered) → i < 16 → h .count ≤ g .count + 1 → linesOf h ≡ linesOf g ++ lineIn (stretch (p i) (at l i)) → p i ≤ 65535 → Gathering l p (i + 1) h
-  gather-on h k n e w =
-      let m : i < length l = omega (arith, v .long) in
+  -- slot i was read as k, and the lines of h are those before and the line that k holds
+  gather-on : (h : Gathered) (d : Slot) {k : Held} → i < 16 → getD l i d .held ≡ k
+      → h .count ≤ g .count + 1 → Room h → linesOf h ≡ linesOf g ++ lineIn (stretch (p i) k) → Gathering l p (i + 1) h
+  gather-on h d {k} m r n o e =
+      let a : i < length l = omega (arith, v .long) in
+      let z : k ≡ at l i = sym r ∙ read l i d a in
       record {
         long = v .long;
         upto = omega arith;
         few = omega (arith, v .few);
+        room = o;
         left =
             rw (add-one i)
-            (ap (λ (x : List Line). x ++ linesIn (drop (suc i) (stretched l p))) e
+            (ap (λ (x : List Line). x ++ linesIn (drop (suc i) (stretched l p))) (e ∙ ap (λ (x : Held). linesOf g ++ lineIn (stretch (p i) x)) z)
             ∙ append-assoc (linesOf g) (lineIn (stretch (p i) (at l i))) (linesIn (drop (suc i) (stretched l p)))
-            ∙ ap (λ (x : List Line). linesOf g ++ x) (sym (asked-step l p i m))
+            ∙ ap (λ (x : List Line). linesOf g ++ x) (sym (asked-step l p i a))
             ∙ v .left
             );
-        wide = below-more _ i (v .wide) w;
+        wide = v .wide;
       }
+
+  pub gather-skip : (d : Slot) {k : Held} → i < 16 → getD l i d .held ≡ k → lineIn (stretch (p i) k) ≡ [] → Gathering l p (i + 1) g
+  gather-skip d h e z = gather-on g d h e (omega arith) (v .room) (rw z (sym (append-nil (linesOf g))))
+
+  pub gather-push : (d : Slot) (r : Run) → i < 16 → getD l i d .held ≡ Running r → Gathering l p (i + 1) (pushed g (p i) r)
+  gather-push d r h e =
+      let o = v .room in
+      let at : (n : ℕ) → n ≡ 16 → g .count < n = λ n z. omega (arith, v .few) in
+      gather-on (pushed g (p i) r) d h e (omega arith) (simp length-set o)
+      (lines-push (g .end) (g .remaining) (g .need) (g .period) (g .count) _ _ _ _ (at _ (o .0)) (at _ (o .1)) (at _ (o .2)) (at _ (o .3)))
 
   pub gather-end : 16 ≤ i → linesOf g ≡ linesIn (stretched l p)
   unfolding linesIn
@@ -103,14 +136,14 @@ all-append : {A : Type 0} (P : A → Type 0) (a b : List A) → All P a → All 
 all-append P [] b x y = y
 all-append P (z ∷ a) b x y = (x .0, all-append P a b (x .1) y)
 
-asked-fit : (l : List Slot) (p : ℕ → ℕ) → ((i : ℕ) → i < length l → Fine (p i) (at l i)) → ((i : ℕ) → i < length l → p i ≤ 65535)
+asked-fit : (l : List Slot) (p : ℕ → ℕ) → ((i : ℕ) → i < length l → Fine (p i) (at l i)) → ((i : ℕ) → p i ≤ 65535)
     → All Fit (linesIn (stretched l p))
 unfolding stretched linesIn
 asked-fit [] p f w = tt
 asked-fit (s ∷ l) p f w =
     all-append Fit (lineIn (stretch (p 0) (s .held))) (linesIn (stretched l (λ k. p (suc k))))
-    (fine-fit (p 0) (s .held) (f 0 (omega arith)) (w 0 (omega arith)))
-    (asked-fit l (λ k. p (suc k)) (λ i h. f (suc i) (omega arith)) (λ i h. w (suc i) (omega arith)))
+    (fine-fit (p 0) (s .held) (f 0 (omega arith)) (w 0))
+    (asked-fit l (λ k. p (suc k)) (λ i h. f (suc i) (omega arith)) (λ i. w (suc i)))
 
 all-split : {A : Type 0} (P : A → Type 0) (a b : List A) → All P (a ++ b) → All P a × All P b
 all-split P [] b x = (tt, x)
@@ -128,17 +161,10 @@ packed {l} {p} {i} {g} v f h = record {
   few = omega (arith, v .few, v .upto);
   each =
       fit-each (g .end) (g .remaining) (g .need) (g .period) (g .count)
-      (rw (gather-end v h) (asked-fit l p f (λ k m. v .wide k (omega (arith, v .long)))));
+      (rw (gather-end v h) (asked-fit l p f (v .wide)));
 }
 
--- ---- the ways through `with`
+-- ---- a running line that was read
 
-module _ (g : Gathered) (p : ℕ) (h : Held) where
-  pub with-nothing : h ≡ Nothing → linesOf g ≡ linesOf g ++ lineIn (stretch p h)
-  with-nothing e = rw e (sym (append-nil (linesOf g)))
-
-  pub with-waiting : {w : Wait} → h ≡ Waiting w → linesOf g ≡ linesOf g ++ lineIn (stretch p h)
-  with-waiting e = rw e (sym (append-nil (linesOf g)))
-
-pub read-fine : (l : List Slot) (i : ℕ) (d : Slot) (p : ℕ) → i < length l → Fine p (at l i) → Fine p (getD l i d .held)
-read-fine l i d p h f = rw (read-any l i d h) f
+pub read-age : (l : List Slot) (i : ℕ) (d : Slot) (p : ℕ) (r : Run) → i < length l → getD l i d .held ≡ Running r → Fine p (at l i) → r .age ≤ p
+read-age l i d p r h e f = let g : Fine p (Running r) = subst (Fine p) (sym (read l i d h) ∙ e) f in omega (arith, g .2, g .3)

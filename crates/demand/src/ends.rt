@@ -6,8 +6,8 @@ ghost use lib.Dec.{leb};
 ghost use lib.ListN.{getD};
 ghost use Rattle.lines.specs.Demand.{due};
 ghost use Rattle.lines.specs.Ask.{endsBefore, bound};
-ghost use Rattle.demand.specs.Lines.{lineAt, sumTo, Packed, PackedIn};
-ghost use Rattle.demand.specs.Pass.{dueBy, demandTo, lastTo, passBy, passIn, FitNew};
+ghost use Rattle.demand.specs.Lines.{sumTo, Packed, PackedIn};
+ghost use Rattle.demand.specs.Pass.{demandTo, lastTo, passBy, passIn, FitNew};
 
 // Whether an end was short, and if none was, the start that the ends leave.
 pub struct Pass {
@@ -27,28 +27,6 @@ fn demand_one(end: u32, remaining: u32, need: u32, period: u32, d: u32) -> u32
     }
 }
 
-// Each line's demand at d.
-fn demand_terms<'a>(
-    end: &'a [u32; 16],
-    remaining: &'a [u32; 16],
-    need: &'a [u32; 16],
-    period: &'a [u32; 16],
-    count: usize,
-    d: u32,
-) -> [u32; 16]
-    requires { ⌜ Packed (now end) (now remaining) (now need) (now period) count × (d ≤ 65535) ⌝ }
-    ensures { λ r. ⌜ ((k : ℕ) → k < count → (getD r k 0 ≡ dueBy d (lineAt (now (end .entry)) (now (remaining .entry)) (now (need .entry)) (now (period .entry)) k)) × (getD r k 0 ≤ 131070)) ⌝ }
-{
-    let mut terms = [0; 16];
-    let mut i: usize = 0;
-    while i < count {
-        let x = demand_one(end[i], remaining[i], need[i], period[i], d);
-        terms[i] = x;
-        i = i + 1;
-    }
-    terms
-}
-
 fn add(terms: &[u32; 16], count: usize) -> u32
     requires { ⌜ (count ≤ 16) × ((k : ℕ) → k < count → getD (now terms) k 0 ≤ 131070) ⌝ }
     ensures { λ r. ⌜ r ≡ sumTo (λ k. getD (now (terms .entry)) k 0) count ⌝ }
@@ -62,7 +40,8 @@ fn add(terms: &[u32; 16], count: usize) -> u32
     sum
 }
 
-// The demand of the running lines at d.
+// The demand of the running lines at d: each line's in an array, and their sum. The array stays here, since it would be copied at every
+// end if it were handed on by value.
 fn demand_sum<'a>(
     end: &'a [u32; 16],
     remaining: &'a [u32; 16],
@@ -74,7 +53,13 @@ fn demand_sum<'a>(
     requires { ⌜ Packed (now end) (now remaining) (now need) (now period) count × (d ≤ 65535) ⌝ }
     ensures { λ r. ⌜ r ≡ demandTo (now (end .entry)) (now (remaining .entry)) (now (need .entry)) (now (period .entry)) count d ⌝ }
 {
-    let terms = demand_terms(end, remaining, need, period, count, d);
+    let mut terms = [0; 16];
+    let mut i: usize = 0;
+    while i < count {
+        let x = demand_one(end[i], remaining[i], need[i], period[i], d);
+        terms[i] = x;
+        i = i + 1;
+    }
     add(&terms, count)
 }
 

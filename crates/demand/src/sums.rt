@@ -1,34 +1,25 @@
 // The frame, and the sums of refusals 8 and 9 in whole numbers, every term taken times the frame.
 use crate::gather::Gathered;
 ghost use mathlib.Core.Path.{_≡_};
-ghost use mathlib.Core.List.{_++_, _∷_};
+ghost use mathlib.Core.List.{_∷_};
 ghost use Prim.Native.Nat.{_+_, _-_, _*_, _/_, _≤_};
-ghost use lib.ListN.{replicate};
 ghost use Rattle.periods.specs.Multiples.{frameOf, capped};
 ghost use Rattle.demand.specs.Lines.{lineOfAt, sumTo, periodsTo, PackedIn, shareOf, owedOf, fullOf};
-
-// The new line's period and the running lines', and 1 where there is no line.
-fn all_periods(g: Gathered, new: u16) -> [u16; 17]
-    requires { ⌜ PackedIn g ⌝ }
-    ensures { λ r. ⌜ r ≡ new ∷ (periodsTo (g .period) (g .count) ++ replicate (16 - g .count) 1) ⌝ }
-{
-    let mut all = [1; 17];
-    all[0] = new;
-    let mut i: usize = 0;
-    while i < g.count {
-        all[i + 1] = g.period[i] as u16;
-        i = i + 1;
-    }
-    all
-}
 
 // "The frame, the least common multiple of all T' and Tn", or 1,000,001 where it is above 1,000,000.
 pub(crate) fn frame(g: Gathered, new: u16) -> u64
     requires { ⌜ PackedIn g ⌝ }
     ensures { λ r. ⌜ (r ≡ capped (frameOf (new ∷ periodsTo (g .period) (g .count)))) × (r ≤ 1000001) ⌝ }
 {
-    let all = all_periods(g, new);
-    periods::frame(&all)
+    let mut all = [0; 17];
+    all[0] = new;
+    let mut i: usize = 0;
+    while i < g.count {
+        all[i + 1] = g.period[i] as u16;
+        i = i + 1;
+    }
+    let n = g.count + 1;
+    periods::frame(&all[..n])
 }
 
 // C/T', times the frame.

@@ -2,7 +2,7 @@
 -- stays above it for every period from 1 up, and a period of 0 makes it 0 from anywhere.
 use Prim.Native.Nat.{ℕ, zero, suc, _+_, _∣_, _≤_, _<_}
 use mathlib.Core.Path.{_≡_, refl, sym, ap, _∙_}
-use mathlib.Core.List.{List, [], _∷_, _++_}
+use mathlib.Core.List.{List, [], _∷_}
 use native.Mathlib.Nat.{dvd-refl, dvd-trans, one-dvd, dvd-antisymm, le-of-dvd, le-antisymm}
 use native.Mathlib.Numerals.{add-one}
 use native.Mathlib.Decide.{decLe}
@@ -10,7 +10,7 @@ use native.Mathlib.Omega.{arith}
 use lib.ListN.{length, drop, getD}
 use lib.Seq.{drop-cons, drop-length}
 use Rattle.periods.specs.Multiples.{All, lcmOf, frameFrom, frameOf, capped, IsFrame, LeastCommon, CappedFrame}
-use Rattle.periods.proofs.GcdLcm.{lcm-is, lcm-pos, lcm-grows, lcm-zero-left, lcm-zero-right, lcm-one}
+use Rattle.periods.proofs.GcdLcm.{lcm-is, lcm-pos, lcm-grows, lcm-zero-left, lcm-zero-right}
 
 -- what the frame starts from, and every period, divide it
 pub frame-divides-from : (m : ℕ) (ps : List ℕ) → (m ∣ frameFrom m ps) × All (λ p. p ∣ frameFrom m ps) ps
@@ -54,16 +54,6 @@ frame-least ps a = record {
 
 pub least-common-unique : (ps : List ℕ) (F G : ℕ) → LeastCommon ps F → LeastCommon ps G → F ≡ G
 least-common-unique ps F G p q = le-antisymm (p .least G (q .pos) (q .common)) (q .least F (p .pos) (p .common))
-
-pub frame-append : (m : ℕ) (ps qs : List ℕ) → frameFrom m (ps ++ qs) ≡ frameFrom (frameFrom m ps) qs
-unfolding frameFrom
-frame-append m [] qs = refl
-frame-append m (p ∷ ps) qs = frame-append (lcmOf m p) ps qs
-
--- a period of 1 changes nothing
-pub frame-ones : (m : ℕ) (ps : List ℕ) → frameFrom m (1 ∷ ps) ≡ frameFrom m ps
-unfolding frameFrom
-frame-ones m ps = ap (λ (x : ℕ). frameFrom x ps) (lcm-one m)
 
 -- from 0 it stays 0
 pub frame-zero : (ps : List ℕ) → frameFrom 0 ps ≡ 0

@@ -114,6 +114,3 @@ lcm-grows a b h k = le-of-dvd (lcm-pos a b h k) (lcm-is a b .left)
 
 pub lcm-grows-right : (a b : ℕ) → 0 < a → 0 < b → b ≤ lcmOf a b
 lcm-grows-right a b h k = le-of-dvd (lcm-pos a b h k) (lcm-is a b .right)
-
-pub lcm-one : (m : ℕ) → lcmOf m 1 ≡ m
-lcm-one m = lcm-unique m 1 (lcmOf m 1) m (lcm-is m 1) (record { left = dvd-refl m; right = one-dvd m; least = λ k p q. p })
