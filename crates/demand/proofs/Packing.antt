@@ -15,7 +15,7 @@ use Rattle.lines.specs.declared.Held.the-variants.{Nothing, Running, Waiting}
 use Rattle.lines.specs.declared.Slot.{Slot}
 use Rattle.lines.specs.Slots.{at}
 use Rattle.lines.specs.Grounds.{stretch, stretched}
-use Rattle.lines.proofs.Read.{read-any}
+use Rattle.lines.proofs.Read.{seen}
 use Rattle.demand.specs.declared.gather.Gathered.{Gathered}
 use Rattle.demand.specs.Lines.{Line, lineIn, linesIn, lineAt, linesTo, linesOf, Fit, PackedIn, Fine}
 
@@ -43,10 +43,6 @@ module _ (e c n p : List ℕ) (i x y z w : ℕ) where
       rw (add-one i, lines-keep i (omega arith), getD-set-same e i x 0 g, getD-set-same c i y 0 h, getD-set-same n i z 0 j, getD-set-same p i w 0 k)
 
 -- ---- slot by slot
-
--- what a slot that is read holds, whatever stands for a slot that is not there
-read : (l : List Slot) (i : ℕ) (d : Slot) → i < length l → getD l i d .held ≡ at l i
-read l i d h = ap (λ (s : Slot). s .held) (read-any l i d h)
 
 asked-step : (l : List Slot) (p : ℕ → ℕ) (i : ℕ) → i < length l
     → linesIn (drop i (stretched l p)) ≡ lineIn (stretch (p i) (at l i)) ++ linesIn (drop (suc i) (stretched l p))
@@ -93,7 +89,7 @@ module _ {l : List Slot} {p : ℕ → ℕ} {i : ℕ} {g : Gathered} (v : Gatheri
       → h .count ≤ g .count + 1 → Room h → linesOf h ≡ linesOf g ++ lineIn (stretch (p i) k) → Gathering l p (i + 1) h
   gather-on h d {k} m r n o e =
       let a : i < length l = omega (arith, v .long) in
-      let z : k ≡ at l i = sym r ∙ read l i d a in
+      let z : k ≡ at l i = sym (seen (λ x. x) l i d refl r a) in
       record {
         long = v .long;
         upto = omega arith;
@@ -167,4 +163,4 @@ packed {l} {p} {i} {g} v f h = record {
 -- ---- a running line that was read
 
 pub read-age : (l : List Slot) (i : ℕ) (d : Slot) (p : ℕ) (r : Run) → i < length l → getD l i d .held ≡ Running r → Fine p (at l i) → r .age ≤ p
-read-age l i d p r h e f = let g : Fine p (Running r) = subst (Fine p) (sym (read l i d h) ∙ e) f in omega (arith, g .2, g .3)
+read-age l i d p r h e f = let g : Fine p (Running r) = subst (Fine p) (seen (λ x. x) l i d refl e h) f in omega (arith, g .2, g .3)

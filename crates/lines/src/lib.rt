@@ -6,7 +6,8 @@ ghost use Rattle.lines.specs.Sound.{soundRun, soundWait, sound};
 ghost use Rattle.lines.specs.Step.{isOwed};
 ghost use Rattle.lines.specs.Board.{blinks, ReadyWord};
 
-mod pump;
+mod line; // what a tick does to a line
+mod pump; // the step
 
 // A running line: its need, its period, its age (ticks since the period began) and what remains of the need.
 pub struct Run {
