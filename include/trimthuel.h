@@ -1,22 +1,22 @@
 /*
- * The pump's boundary for C: numbers and byte buffers only.
+ * The pump's boundary for C: numbers and byte buffers only. The rules are those of docs/RULES.md.
  *
- * A card is the byte form of a table of lines and a request (document 01, "The card"). No function
- * here asks anything of its bytes: any bytes of any length may be handed in. Nothing is kept after
- * a call, nothing is allocated, and no byte but those of the lent buffer is written.
+ * A card is the byte form of a table of lines and a request (R52 to R55). No function here asks
+ * anything of its bytes: any bytes of any length may be handed in. Nothing is kept after a call,
+ * nothing is allocated, and no byte but those of the lent buffer is written.
  *
- * Every function answers one number. A number of 0 or above is what was asked for. A number below 0
- * is a refusal: minus the number that document 01 gives it. A refusal leaves every byte of the lent
- * buffer as it was.
+ * Every function answers one number (R63). A number of 0 or above is what was asked for. A number
+ * below 0 is a refusal, minus its number, and leaves every byte of the lent buffer as it was (R17).
+ * Refusal n is rule R(20 + n) of docs/RULES.md:
  *
- *    -1  clock above 2^48 - 65,536             -8  sum of C/T' and Cn/Tn above 1
- *    -2  no slot holds nothing                 -9  sum of (c - C + C * a / T') above 0
- *    -3  a slot holds a waiting line          -10  the running lines alone have an excess
- *    -4  an unsound line                      -11  broken card
- *    -5  T' < T for a running line            -12  old-order mark on a card
- *    -6  not 1 <= Cn <= Tn                    -13  buffer too short
- *    -7  frame above 1,000,000                -14  a period ended short
- *                                             -15  clock at or above 2^48
+ *    -1  the clock is too late to ask            -8  more than all of the pump is asked for
+ *    -2  no slot is empty                        -9  the lines are behind their shares
+ *    -3  a line still waits                     -10  the running lines alone come too late
+ *    -4  a line's numbers are unsound           -11  a broken card
+ *    -5  a period would be shortened            -12  an old-order mark on a card
+ *    -6  the new line does not fit its period   -13  the buffer is too short
+ *    -7  the frame is above 1,000,000           -14  a period ended short
+ *                                               -15  the clock's last tick
  *
  * The library is libhouse.a (`rt staticlib house`), for x86-64. What a caller owes: each pointer is
  * good for its length and not null, a length of 0 included, and the lent buffer does not overlap
@@ -32,16 +32,16 @@
 extern "C" {
 #endif
 
-/* No card that reads is longer, and no card that is written. */
+/* R55: no card that reads is longer, and no card that is written. */
 #define TRIMTHUEL_CARD_MAX 208
 
-/* No answer line is longer, its newline included. */
+/* R61: no answer line is longer, its newline included. */
 #define TRIMTHUEL_LINE_MAX 40
 
 /*
- * Writes the answer line of a card to the start of `out`: `release` and the start, or `refused`, the
- * refusal's number and its place, and a newline; no zero byte follows. A refused card is answered by
- * the reader's refusal, any other by ask. Bytes after the line stay as they were.
+ * R64: writes the answer line of a card to the start of `out`, ended by a newline; no zero byte
+ * follows. It is the reader's refusal or what ask answers (R60), in the form of R61: `release 13`, or
+ * `refused 4 2` with the number first and then the place. Bytes after the line stay as they were.
  *
  * Answers the line's length in bytes, or -13 if `out_len` is less than that. -13 is the only number
  * below 0: any other refusal is a line.
@@ -49,8 +49,8 @@ extern "C" {
 int64_t trimthuel_answer(const uint8_t *card, size_t card_len, uint8_t *out, size_t out_len);
 
 /*
- * Reads a card and writes it anew to the start of `out`. What is written is the card, byte for byte;
- * bytes after it stay as they were.
+ * R65: reads a card and writes it anew to the start of `out`. What is written is the card, byte for
+ * byte (R72); bytes after it stay as they were.
  *
  * Answers the card's length in bytes, or -11 or -12 if it is refused by the reader, or -13 if
  * `out_len` is less than its length.
@@ -58,7 +58,7 @@ int64_t trimthuel_answer(const uint8_t *card, size_t card_len, uint8_t *out, siz
 int64_t trimthuel_rewrite(const uint8_t *card, size_t card_len, uint8_t *out, size_t out_len);
 
 /*
- * Admits the card's request and lets the pump run for `ticks` ticks.
+ * R66: admits the card's request and lets the pump run for `ticks` ticks.
  *
  * Answers the number of ticks in which a line ran, or minus the first refusal's number: the
  * reader's, ask's, or that of the first refused step.

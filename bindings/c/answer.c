@@ -5,9 +5,10 @@
 
 #include "trimthuel.h"
 
-/* One byte more than the longest card, so that a longer file is seen to be too long. */
+/* R55: one byte more than the longest card, so that a longer file is seen to be too long. */
 #define ROOM (TRIMTHUEL_CARD_MAX + 1)
 
+/* R64: the line of the card. */
 static int show_line(const uint8_t *card, size_t len)
 {
     uint8_t line[TRIMTHUEL_LINE_MAX];
@@ -18,7 +19,7 @@ static int show_line(const uint8_t *card, size_t len)
     return fwrite(line, 1, (size_t)n, stdout) == (size_t)n;
 }
 
-/* A buffer that is one byte too short for the line: -13, and every byte stays. */
+/* R33: a buffer that is one byte too short for the line gets -13, and every byte stays (R17). */
 static int show_short(const uint8_t *card, size_t len)
 {
     uint8_t line[TRIMTHUEL_LINE_MAX], kept[TRIMTHUEL_LINE_MAX];
@@ -30,6 +31,7 @@ static int show_short(const uint8_t *card, size_t len)
     return memcmp(line, kept, sizeof line) == 0;
 }
 
+/* R65, R72: a card that reads comes back the same. */
 static void show_rewritten(const uint8_t *card, size_t len)
 {
     uint8_t anew[TRIMTHUEL_CARD_MAX];

@@ -1,7 +1,7 @@
 //! The benchmark: the project's code over its C boundary beside other ways to do the same, in one run, each the best of several rounds.
 //!
-//! (a) is ESITforSNT of source 000 with its two checks an end, (b) the project's own algorithm in plain Rust (`bench/quick`), (c) trial and
-//! error with the pump simulated. All start from a card's bytes and test grounds 1 to 9, but (c), which is handed the table; (a) takes its
+//! (a) is ESITforSNT, algorithm 1 of the published paper, with its two checks an end, (b) the project's own algorithm in plain Rust (`bench/quick`), (c) trial and
+//! error with the pump simulated. All start from a card's bytes and test R21 to R29, but (c), which is handed the table; (a) takes its
 //! reading and its tests from (b).
 
 use crate::card;

@@ -1,26 +1,26 @@
-//! The card of document 01: reader, writer, and the line of the answering program.
+//! The card: reader (R52 to R58), writer (R59), and the line of the answering program (R60, R61).
 
 use crate::rules;
 use crate::types::{Content, Refusal, Request, Run, Table, EMPTY, SLOTS, ZEROS};
 
-/// "CK, then the clock, 8 bytes. First, once."
+/// R53: opens the clock's record.
 const CLOCK: &[u8] = b"CK";
-/// "TB, then C, T, T', age, remaining, 2 bytes each."
+/// R53: opens a running line's record, five numbers.
 const LINE: &[u8] = b"TB";
-/// "TF alone for a slot that holds nothing."
+/// R53: the whole record of an empty slot.
 const FREE: &[u8] = b"TF";
-/// "The mark TA belongs to generation three."
+/// R58: what a line's record of the third generation opened with.
 const OLD: &[u8] = b"TA";
-/// "RQ, then Cn, Tn, 2 bytes each. Last, once."
+/// R53: opens the new line's record.
 const ASKED: &[u8] = b"RQ";
 
+/// R53: lengths of the records, mark included.
 const CLOCK_LENGTH: usize = 10;
 const LINE_LENGTH: usize = 12;
 const FREE_LENGTH: usize = 2;
 const ASKED_LENGTH: usize = 6;
 
-/// What the reader hands out: "With a refusal the reader hands out the empty table and a request
-/// of zeros."
+/// R56: what the reader hands out; beside a refusal nothing but zeros.
 #[derive(Clone, Copy, Debug, PartialEq, Eq)]
 pub struct Reading {
     pub refusal: Option<Refusal>,
@@ -28,7 +28,7 @@ pub struct Reading {
     pub request: Request,
 }
 
-/// Reads a card. "The reader judges form only and takes any numbers."
+/// R56: reads a card, whatever its numbers.
 pub fn read(card: &[u8]) -> Reading {
     match parse(card) {
         Ok((table, request)) => Reading {
@@ -44,29 +44,29 @@ pub fn read(card: &[u8]) -> Reading {
     }
 }
 
-/// "11: broken card", at the offset where the record or byte begins.
+/// R31: a broken card, with the offset of what breaks it.
 fn broken(offset: usize) -> Refusal {
     Refusal::at(11, offset)
 }
 
-/// The record of `length` bytes at `offset`, or "a cut record".
+/// The record of `length` bytes at `offset`; R57: one that is cut is broken where it begins.
 fn record(card: &[u8], offset: usize, length: usize) -> Result<&[u8], Refusal> {
     let bytes = card.get(offset..offset + length);
     bytes.ok_or(broken(offset))
 }
 
-/// The number at a byte of a record, little-endian; 0 outside, which does not happen.
+/// R52: the number at a byte of a record, little-endian; 0 outside, which does not happen.
 fn number(record: &[u8], at: usize) -> u16 {
     let byte = |index: usize| u16::from(record.get(index).copied().unwrap_or(0));
     byte(at) | byte(at + 1) << 8
 }
 
-/// The two bytes of a mark; a missing or cut mark is a broken card at its offset.
+/// The two bytes of a mark; R57: where they are missing or cut the card is broken.
 fn mark(card: &[u8], offset: usize) -> Result<&[u8], Refusal> {
     record(card, offset, 2)
 }
 
-/// Goes through the records in card order and stops at the first that is refused.
+/// R54, R57: goes through the records from the front and stops at the first that is refused.
 fn parse(card: &[u8]) -> Result<(Table, Request), Refusal> {
     let (mut table, mut request) = (EMPTY, ZEROS);
     table.clock = read_clock(card)?;
@@ -79,7 +79,7 @@ fn parse(card: &[u8]) -> Result<(Table, Request), Refusal> {
             read_asked(card, offset, free_before, &mut request)?;
             return Ok((table, request));
         }
-        // No slot record may stand here: a seventeenth one is broken, whatever its mark.
+        // R57: no slot record may stand here; a seventeenth one is broken, whatever its mark.
         if slot == SLOTS {
             return Err(broken(offset));
         }
@@ -90,7 +90,7 @@ fn parse(card: &[u8]) -> Result<(Table, Request), Refusal> {
         } else if next == FREE {
             offset += FREE_LENGTH;
         } else if next == OLD {
-            // "A TA mark where a slot record may stand is refusal 12, its record cut or whole."
+            // R58: the mark alone decides, so that the record's length is not looked at.
             return Err(Refusal::at(12, offset));
         } else {
             return Err(broken(offset));
@@ -100,7 +100,7 @@ fn parse(card: &[u8]) -> Result<(Table, Request), Refusal> {
     }
 }
 
-/// The clock record at offset 0.
+/// R53, R57: the clock record at offset 0.
 fn read_clock(card: &[u8]) -> Result<u64, Refusal> {
     if mark(card, 0)? != CLOCK {
         return Err(broken(0));
@@ -113,7 +113,7 @@ fn read_clock(card: &[u8]) -> Result<u64, Refusal> {
         .fold(0, |clock, byte| clock << 8 | u64::from(*byte)))
 }
 
-/// A line record into its slot and its entry of the request.
+/// R53: a line record into its slot and its entry of the request.
 fn read_line(bytes: &[u8], slot: usize, table: &mut Table, request: &mut Request) {
     table.slots[slot] = Content::Running(Run {
         need: number(bytes, 2),
@@ -124,7 +124,7 @@ fn read_line(bytes: &[u8], slot: usize, table: &mut Table, request: &mut Request
     request.stretched[slot] = number(bytes, 6);
 }
 
-/// The request record: "for TF before RQ, the offset of RQ"; then "a byte after RQ".
+/// R57: the request record. An empty slot before it is found first, then a cut, then a byte too many.
 fn read_asked(
     card: &[u8],
     offset: usize,
@@ -144,9 +144,9 @@ fn read_asked(
     Ok(())
 }
 
-/// The bytes of the card of a table. "Slots after the last record hold nothing, and TF never
-/// stands directly before RQ": empty slots are written up to the last running line. A waiting
-/// line has no record; the writer refuses it before, and random cards take it as an empty slot.
+/// R55: the bytes of the card of a table, with empty slots written up to the last running line
+/// only. A waiting line has no record; the writer refuses it before, and random cards take it as
+/// an empty slot.
 pub fn bytes(table: &Table, request: &Request) -> Vec<u8> {
     let mut card = CLOCK.to_vec();
     card.extend(table.clock.to_le_bytes());
@@ -174,8 +174,7 @@ fn push_numbers(card: &mut Vec<u8>, numbers: &[u16]) {
     }
 }
 
-/// "The writer refuses 3, then 13; otherwise it answers the card's length", "and bytes after the
-/// card stay"; with a refusal the buffer is untouched.
+/// R59: a waiting line is refused before a short buffer, and the rest of the buffer is untouched.
 pub fn write(table: &Table, request: &Request, buffer: &mut [u8]) -> Result<usize, Refusal> {
     if let Some(slot) = table.lowest(Content::is_waiting) {
         return Err(Refusal::at(3, slot));
@@ -186,14 +185,13 @@ pub fn write(table: &Table, request: &Request, buffer: &mut [u8]) -> Result<usiz
     Ok(card.len())
 }
 
-/// "A refused card is answered by the reader's refusal, any other by ask."
+/// R60: what the reader refuses is not asked.
 pub fn judge(card: &[u8]) -> Result<u64, Refusal> {
     let (table, request) = parse(card)?;
     rules::ask(&table, &request)
 }
 
-/// The line of an answer: "`release` and the start, or `refused`, the refusal's number and its
-/// place, one space between, numbers in decimal".
+/// R61: an answer as a line.
 pub fn line(answer: Result<u64, Refusal>) -> String {
     match answer {
         Ok(start) => format!("release {start}\n"),
@@ -201,7 +199,7 @@ pub fn line(answer: Result<u64, Refusal>) -> String {
     }
 }
 
-/// The answering program's one line for a card.
+/// R60: the answering program's one line for a card.
 pub fn answer(card: &[u8]) -> String {
     line(judge(card))
 }

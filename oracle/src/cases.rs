@@ -1,6 +1,9 @@
-//! "Benches by example" of document 01: cases A to M and the boundary cases named after them.
+//! R67: cases A to M, and a first few inputs on both sides of a limit; `edges.rs` has the others.
 
-use crate::types::{Content, Refusal, Request, Run, Table, EMPTY, LAST_ASK, ZEROS};
+use crate::types::{Content, Refusal, Request, Run, Table, EMPTY, ZEROS};
+
+/// R7: 2^48 − 65,536 in digits of its own, so that the rows hold the program's limit to it.
+pub const LAST_CLOCK: u64 = 281_474_976_645_120;
 
 /// One row: a table, a request and the answer of ask.
 pub struct Case {
@@ -10,10 +13,10 @@ pub struct Case {
     pub answer: Result<u64, Refusal>,
 }
 
-/// "Lines as (C, T, T', age, remaining)."
+/// R67: a line as (C, T, T', age, remaining).
 pub type Line = (u16, u16, u16, u16, u16);
 
-/// The table and the request of a row, lines from slot 0 up.
+/// R67: the table and the request of a row, lines from slot 0 up.
 pub fn row(clock: u64, lines: &[Line], new: (u16, u16)) -> (Table, Request) {
     let (mut table, mut request) = (EMPTY, ZEROS);
     table.clock = clock;
@@ -30,7 +33,8 @@ pub fn row(clock: u64, lines: &[Line], new: (u16, u16)) -> (Table, Request) {
     (table, request)
 }
 
-fn case(
+/// A row with its answer.
+pub fn case(
     name: &'static str,
     clock: u64,
     lines: &[Line],
@@ -46,13 +50,14 @@ fn case(
     }
 }
 
-fn refused(number: u8, place: usize) -> Result<u64, Refusal> {
+/// R17: the answer that is a refusal.
+pub fn refused(number: u8, place: usize) -> Result<u64, Refusal> {
     Err(Refusal::at(number, place))
 }
 
 const D_LINES: [Line; 2] = [(7, 28, 28, 20, 7), (8, 16, 32, 8, 0)];
 
-/// The table of the section, A to M.
+/// R67: the table of cases.
 fn letters() -> Vec<Case> {
     let (half, four) = ((8, 16, 16, 0, 8), (1, 4));
     let e = [(1, 4, 4, 0, 1), (16, 64, 64, 52, 8), (16, 32, 64, 12, 0)];
@@ -77,9 +82,9 @@ fn letters() -> Vec<Case> {
     ]
 }
 
-/// "Also: a clock of 2^48 − 65,536 against one more; T' = T against T − 1; age T − 1 against T."
+/// R21, R22, R24, R25, R26: the clock, the slots, an age, a T' and the new line at their limits.
 fn boundaries() -> Vec<Case> {
-    let (limit, over) = (LAST_ASK, LAST_ASK + 1);
+    let (limit, over) = (LAST_CLOCK, LAST_CLOCK + 1);
     let mut all = Vec::new();
     all.push(case("clock", limit, &D_LINES, (2, 4), Ok(limit + 5)));
     all.push(case("clock over", over, &D_LINES, (2, 4), refused(1, 0)));
@@ -112,7 +117,7 @@ pub fn all() -> Vec<Case> {
     letters().into_iter().chain(boundaries()).collect()
 }
 
-/// "The card of case A, in hex."
+/// R59: case A's card.
 pub const CARD_A: [u8; 40] = [
     0x43, 0x4B, 0x08, 0x00, 0x00, 0x00, 0x00, 0x00, 0x00, 0x00, 0x54, 0x42, 0x08, 0x00, 0x10, 0x00,
     0x20, 0x00, 0x08, 0x00, 0x00, 0x00, 0x54, 0x42, 0x08, 0x00, 0x10, 0x00, 0x10, 0x00, 0x08, 0x00,

@@ -1,4 +1,5 @@
-//! Random cards answered through the C boundary and by this program, with the feature `house`.
+//! Random cards answered through the C boundary (R63 to R66) and by this program, with the feature
+//! `house`.
 
 use crate::card;
 use crate::random::Random;
@@ -16,13 +17,13 @@ const BEHIND: usize = 16;
 const EVERY_LENGTH: u64 = 16;
 const SHOWN: u64 = 10;
 
-/// The refusal as the boundary gives it, without its place.
+/// R63: the refusal as the boundary gives it, without its place.
 fn refused<T>(refusal: Refusal) -> Told<T> {
     let number = u64::from(refusal.number);
     Err(Refused { number })
 }
 
-/// What a run has to answer: the ticks in which a line ran, or the first refusal.
+/// R66: what a run has to answer.
 pub fn run_of(bytes: &[u8], ticks: u32) -> Told<u64> {
     let reading = card::read(bytes);
     if let Some(refusal) = reading.refusal {
@@ -45,8 +46,8 @@ pub fn run_of(bytes: &[u8], ticks: u32) -> Told<u64> {
     Ok(ran)
 }
 
-/// Lends a buffer of `lent` bytes to `put`: what is wanted and the bytes after it untouched, or
-/// the refusal and nothing touched.
+/// R17, R62: lends a buffer of `lent` bytes to `put`: what is wanted and the bytes after it untouched,
+/// or the refusal and nothing touched.
 fn lent_as_wanted(
     put: fn(&[u8], &mut [u8]) -> Told<usize>,
     bytes: &[u8],
@@ -66,7 +67,7 @@ fn lent_as_wanted(
         && buffer[written.len()..].iter().all(|byte| *byte == fill)
 }
 
-/// All lengths 0 to 64 for some cards; the full length, and one drawn length, for the others.
+/// R64: all lengths 0 to 64 for some cards; the full length, and one drawn length, for the others.
 fn answers_agree(random: &mut Random, bytes: &[u8], line: &[u8]) -> bool {
     let fill = random.below(256) as u8;
     let agrees = |lent| lent_as_wanted(trimthuel::answer, bytes, Ok(line), lent, fill);
@@ -77,8 +78,8 @@ fn answers_agree(random: &mut Random, bytes: &[u8], line: &[u8]) -> bool {
     agrees(LONGEST_LENT) && agrees(drawn)
 }
 
-/// A card that reads is written back byte for byte, into buffers that are long enough, exactly so,
-/// and one byte too short; a broken one is refused.
+/// R65, R72: a card that reads comes back the same, into buffers that are long enough, exactly so, and
+/// one byte too short; a broken one is refused.
 fn rewrites_agree(random: &mut Random, bytes: &[u8]) -> bool {
     let fill = random.below(256) as u8;
     let wanted = match card::read(bytes).refusal {

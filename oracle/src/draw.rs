@@ -102,8 +102,8 @@ fn stretch(random: &mut Random, base: u64, table: &Table, request: &mut Request)
     }
 }
 
-/// Ages and remainings that no run has led to, then less remaining until refusal 9's sum, taken
-/// times `base`, is not above 0; now and then it is left as drawn.
+/// Ages and remainings that no run has led to, then less remaining until the sum of R29, taken times
+/// `base`, is not above 0; now and then it is left as drawn.
 fn invent(random: &mut Random, base: u64, table: &mut Table, request: &Request) {
     let mut sum = 0;
     for slot in 0..SLOTS {
@@ -126,14 +126,14 @@ fn invent(random: &mut Random, base: u64, table: &mut Table, request: &Request) 
     }
 }
 
-/// One line's term of refusal 9's sum, taken times `base`, a multiple of T'.
+/// One line's term of the sum of R29, taken times `base`, a multiple of T'.
 fn lag(base: u64, run: &Run, stretched: u16) -> i64 {
     let owed = i64::from(run.remaining) - i64::from(run.need);
     let share = u64::from(run.need) * u64::from(run.age) * (base / u64::from(stretched));
     owed * base as i64 + share as i64
 }
 
-/// The load left for a new line, times `base`.
+/// What R28 leaves for a new line, times `base`.
 fn room(base: u64, table: &Table, request: &Request) -> u64 {
     let share = |(slot, run): (usize, &Run)| {
         u64::from(run.need) * (base / u64::from(request.stretched[slot]).max(1))
@@ -327,7 +327,7 @@ fn content(random: &mut Random) -> Content {
     }
 }
 
-/// A clock at the limits, or any.
+/// R7: a clock at the limits, or any.
 pub fn any_clock(random: &mut Random) -> u64 {
     match random.below(8) {
         0 => LAST_ASK,

@@ -1,4 +1,5 @@
-//! Source document 000, algorithm 1, ESITforSNT, for `bench` only: nothing else uses it.
+//! Algorithm 1 of the published paper (its title stands in published.rs), ESITforSNT, for `bench` and
+//! `sweep` only: nothing else uses it.
 //!
 //! Written straight from the printed algorithm: segments, the flags against overlapped points, up
 //! to two Δ checks for each end. Three readings had to be chosen:

@@ -8,6 +8,8 @@ mod cases;
 mod compare;
 mod digest;
 mod draw;
+mod edge_cards;
+mod edges;
 mod esit;
 mod published;
 mod random;
@@ -31,7 +33,7 @@ oracle bench          (feature house)
 oracle count WAY [T0] TIMES      (feature house)
 oracle compare N      (feature house)";
 
-/// One card from standard input, its line to standard output; 209 bytes decide every card.
+/// R60: one card from standard input, its line to standard output; R55: 209 bytes decide every card.
 fn answer() -> io::Result<bool> {
     let mut bytes = Vec::new();
     let most = types::LONGEST_CARD as u64 + 1;

@@ -1,10 +1,13 @@
-//! The published task sets of source document 000 (tables 1 and 2) and its nine answers.
+//! The task sets of the published paper (its tables 1 and 2) and its nine answers.
+//!
+//! The paper is Guangming Qian, "The Earliest Smooth Release Time for a New Task Based on EDF
+//! Algorithm", IEEE Access 2020, DOI 10.1109/ACCESS.2020.3043260.
 //!
 //! τ0 has a period of 50 to 250 and C0 = ⌊0.195 × T0⌋; τ1 is (48, 120), stretched to 480; τ2 is
 //! (72, 180), stretched to 720; T3 is the least common multiple of T0, 120 and 180, and
 //! C3 = (1 − (C0/T0 + C1/T1 + C2/T2)) × T3; the new line is (3, 5). All start at time 0. Sets
 //! with T3 above 65,535 do not fit sixteen bits: of the 201 sets 184 can be rebuilt. Equal ends
-//! go to the lowest slot, and the order τ3, τ2, τ1, τ0 in the slots gives the published answers.
+//! go to the lowest slot (R44), and the order τ3, τ2, τ1, τ0 in the slots gives the published answers.
 
 use crate::cases;
 use crate::digest::Digest;
@@ -54,7 +57,7 @@ pub fn set(first_period: u64) -> Option<(Table, Request)> {
     Some(cases::row(0, &lines, (3, 5)))
 }
 
-/// "Schedule M tasks from t = 0 to t_r": the table at the request tick.
+/// The table at the request tick: stepped on from time 0, with no request before.
 pub fn at(start: &Table, tick: u64) -> Table {
     let mut now = *start;
     while now.clock < tick {
@@ -94,7 +97,7 @@ impl Sweep {
         println!("T0 {first_period} T3 {round} digest {digest}");
     }
 
-    /// One ask, with algorithm 1 of source 000 beside it; the start, or 0 for a refusal.
+    /// One ask, with the paper's algorithm 1 beside it; the start, or 0 for a refusal.
     fn ask(&mut self, table: &Table, request: &Request) -> u64 {
         self.asks += 1;
         let Ok(start) = rules::ask_before_last_end(table, request) else {

@@ -1,4 +1,5 @@
-//! The rules of document 01: refusals 1 to 10 in their order, ask, admit, step, lamp, ready word.
+//! The rules of docs/RULES.md: refusals 1 to 10 in their order (R18), ask, admit, step, lamp, ready
+//! word.
 //!
 //! Nothing here computes a start by a formula. The excess is summed from its definition for one
 //! tick after the other, and the starts are tried one after the other. Times are counted from
@@ -6,32 +7,32 @@
 //!
 //! # Why finitely many ticks are enough
 //!
-//! "A start r ≥ t0 is *smooth* when the excess is at most 0 at every t ≥ t0, without end." Let F
-//! be the frame, L the last end, r a start, M = max(L, r), and t ≥ M. Every running line is past
-//! its first end and the new line has started, so from t to t + F the whole periods of a running
-//! line rise by exactly F / T' (F is a multiple of T', and ⌊(x + F) / T'⌋ = ⌊x / T'⌋ + F / T'), and
-//! those of the new line by exactly F / Tn. The demand therefore rises by F × load, and the excess
-//! by F × (load − 1), which is not above 0 once refusal 8 is passed. So
+//! R13 looks at every tick, however late. Let F be the frame, L the last end, r a start,
+//! M = max(L, r), and t ≥ M. Every running line is past its first end and the new line has started,
+//! so from t to t + F the whole periods of a running line rise by exactly F / T' (F is a multiple of
+//! T', and ⌊(x + F) / T'⌋ = ⌊x / T'⌋ + F / T'), and those of the new line by exactly F / Tn. The
+//! demand therefore rises by F × load, and the excess by F × (load − 1), which is not above 0 once
+//! R28 is passed. So
 //! excess(t + F) ≤ excess(t) for every t ≥ M: an excess above 0 anywhere from M + F on would stand
 //! already one frame earlier, and step by step in M .. M + F − 1. Looking at every tick of
-//! 0 .. M + F − 1 settles all t. For the running lines alone (refusal 10) the same holds with
+//! 0 .. M + F − 1 settles all t. For the running lines alone (R30) the same holds with
 //! M = L, their own load being no greater.
 //!
 //! # Why the search for a start ends
 //!
-//! Once 8, 9 and 10 are passed, the start r = L is smooth, so at most L + 1 starts are tried.
-//! Before L the new line demands nothing and the running lines alone have no excess above 0 (10).
+//! Once R28, R29 and R30 are passed, the start r = L is smooth, so at most L + 1 starts are tried.
+//! Before L the new line demands nothing and the running lines alone have no excess above 0 (R30).
 //! For t ≥ L, dropping the floor only adds: a running line demands at most
 //! c + C × (t − (T' − a)) / T' = (c − C + C × a / T') + t × C / T', and the new line at most
-//! (t − r) × Cn / Tn ≤ t × Cn / Tn. The brackets sum to at most 0 (9), the rest to at most
-//! t × load ≤ t (8). The search does not use this; it only ends because of it, and the answer
+//! (t − r) × Cn / Tn ≤ t × Cn / Tn. The brackets sum to at most 0 (R29), the rest to at most
+//! t × load ≤ t (R28). The search does not use this; it only ends because of it, and the answer
 //! fits sixteen bits as T' − a does.
 
 use crate::types::{
     Content, Refusal, Request, Run, Table, Wait, FRAME_LIMIT, LAST_ASK, LAST_TICK, SLOTS,
 };
 
-/// A running line under a request: the need and remaining of the line, with its T' and first end.
+/// A running line under a request: the line with its T'.
 #[derive(Clone, Copy, Debug)]
 struct Stretched {
     slot: usize,
@@ -40,15 +41,13 @@ struct Stretched {
 }
 
 impl Stretched {
-    /// "A running line's first end is t0 − a + T' (read as a whole number, always later than
-    /// t0)", counted from t0. Refusals 4 and 5 are passed, so a < T ≤ T'.
+    /// R9, counted from t0. Refusals 4 and 5 are passed, so a < T ≤ T'.
     fn first_end(&self) -> usize {
         usize::from(self.stretched).saturating_sub(usize::from(self.run.age))
     }
 }
 
-/// The running lines with their T'; "entries of slots that hold no running line are not looked
-/// at".
+/// R6: the running lines with their T'; the other slots' entries are passed over.
 fn stretched_lines(table: &Table, request: &Request) -> Vec<Stretched> {
     table
         .running()
@@ -67,7 +66,7 @@ fn greatest_common_divisor(mut a: u64, mut b: u64) -> u64 {
     a
 }
 
-/// "The *frame*, the least common multiple of all T' and Tn", or none when it is above 1,000,000.
+/// R8: the frame, or none when it is above the limit.
 /// A common multiple only grows with further numbers, so the sum stops at the first above.
 pub fn frame(table: &Table, request: &Request) -> Option<u64> {
     let lines = stretched_lines(table, request);
@@ -86,14 +85,14 @@ pub fn frame(table: &Table, request: &Request) -> Option<u64> {
     Some(multiple)
 }
 
-/// "8: sum of C/T' and Cn/Tn above 1", "every term and the limit taken times the frame".
+/// R28, exact by R16: every share and the 1 are taken times the frame.
 fn load_above_one(lines: &[Stretched], request: &Request, frame: u64) -> bool {
     let share = |need: u16, period: u16| u128::from(need) * u128::from(frame / u64::from(period));
     let running: u128 = lines.iter().map(|l| share(l.run.need, l.stretched)).sum();
     running + share(request.need, request.period) > u128::from(frame)
 }
 
-/// "9: sum over running lines of (c − C + C × a / T') above 0", every term taken times the frame.
+/// R29, exact by R16: every term is taken times the frame.
 fn lag_above_zero(lines: &[Stretched], frame: u64) -> bool {
     let term = |line: &Stretched| {
         let need = i128::from(line.run.need);
@@ -104,7 +103,7 @@ fn lag_above_zero(lines: &[Stretched], frame: u64) -> bool {
     lines.iter().map(term).sum::<i128>() > 0
 }
 
-/// The excess of the running lines alone, one entry for each tick from t0 on.
+/// R12 without a new line, one entry for each tick from t0 on.
 struct Outlook<'a> {
     lines: &'a [Stretched],
     excess: Vec<i64>,
@@ -123,13 +122,13 @@ impl<'a> Outlook<'a> {
         }
     }
 
-    /// Refusal 10: "the running lines alone, at their T', have excess above 0 at some t".
+    /// R30: some tick at which the lines that run want more than there was time for.
     fn above_zero(&self) -> bool {
         self.excess.iter().any(|excess| *excess > 0)
     }
 
-    /// True when with the new line started at `start` the excess is at most 0 at every tick of
-    /// `start` .. `ticks` − 1: "Cn × (whole periods Tn between r and t), and 0 for t before r".
+    /// R13: true when with the new line started at `start`, its demand by R11, the excess is at most
+    /// 0 at every tick of `start` .. `ticks` − 1.
     /// Before `start` it is the excess of the running lines alone, at which refusal 10 has looked.
     fn smooth(&self, request: &Request, start: usize, ticks: usize) -> bool {
         let mut demand = 0i64;
@@ -144,9 +143,8 @@ impl<'a> Outlook<'a> {
     }
 }
 
-/// "Its demand at t is 0 before its first end, and from then on c + C × (whole periods T' since
-/// the first end)": the demand rises by c at the first end and by C each T' later. "*Excess* at t
-/// is all demand less (t − t0)."
+/// R10, R12: a line's demand rises by c at its first end and by C at each end after that; the excess
+/// is what all demands come to, less the ticks since t0.
 fn running_excess(lines: &[Stretched], ticks: usize) -> Vec<i64> {
     let mut rise = vec![0i64; ticks];
     for line in lines {
@@ -165,18 +163,18 @@ fn running_excess(lines: &[Stretched], ticks: usize) -> Vec<i64> {
     rise.into_iter().enumerate().map(sum).collect()
 }
 
-/// "The *last end* is the greatest first end, or t0 where no line runs", counted from t0.
+/// R15, counted from t0.
 fn last_end(lines: &[Stretched]) -> usize {
     lines.iter().map(Stretched::first_end).max().unwrap_or(0)
 }
 
-/// The last end of a table under a request as a tick of the clock, for the second algorithm.
+/// R15 as a tick of the clock, for the second algorithm.
 pub fn last_end_of(table: &Table, request: &Request) -> u64 {
     let end = last_end(&stretched_lines(table, request)) as u64;
     table.clock.saturating_add(end)
 }
 
-/// Refusals 1 to 6, which look at one number or one slot at a time.
+/// R21 to R26, which look at one number or one slot at a time; R19: the lowest slot is the place.
 fn refuse_plain(table: &Table, request: &Request, lines: &[Stretched]) -> Result<(), Refusal> {
     let refuse = |number, place| Err(Refusal::at(number, place));
     if table.clock > LAST_ASK {
@@ -200,7 +198,7 @@ fn refuse_plain(table: &Table, request: &Request, lines: &[Stretched]) -> Result
     Ok(())
 }
 
-/// Refusals 7 to 9, which need the frame; gives the frame.
+/// R27 to R29, which need the frame; gives the frame.
 fn refuse_sums(table: &Table, request: &Request, lines: &[Stretched]) -> Result<u64, Refusal> {
     let frame = frame(table, request).ok_or(Refusal::at(7, 0))?;
     if load_above_one(lines, request, frame) {
@@ -222,8 +220,7 @@ enum Beyond {
     Nothing,
 }
 
-/// "Ask and admit test 1 to 10 in that order, and the first that holds is given. Otherwise a
-/// smooth start exists and is given": the start, counted from the clock.
+/// R14, R18: the first ground that holds, or the least smooth start, counted from the clock.
 fn delay(table: &Table, request: &Request, beyond: Beyond) -> Result<usize, Refusal> {
     let lines = stretched_lines(table, request);
     refuse_plain(table, request, &lines)?;
@@ -248,7 +245,7 @@ fn delay(table: &Table, request: &Request, beyond: Beyond) -> Result<usize, Refu
     }
 }
 
-/// "Ask answers the start, and changes nothing." "The answer is the least smooth start."
+/// R41: the refusal or the start.
 pub fn ask(table: &Table, request: &Request) -> Result<u64, Refusal> {
     delay(table, request, Beyond::Frame).map(|delay| table.clock + delay as u64)
 }
@@ -258,14 +255,14 @@ pub fn ask_before_last_end(table: &Table, request: &Request) -> Result<u64, Refu
     delay(table, request, Beyond::Nothing).map(|delay| table.clock + delay as u64)
 }
 
-/// "Admit answers as ask does": the start and the new table.
+/// R42: ask's answer, and with a start the new table.
 pub fn admit(table: &Table, request: &Request) -> Result<(u64, Table), Refusal> {
     let start = ask(table, request)?;
     Ok((start, admitted(table, request, start)))
 }
 
-/// "In the new table every running line has its T' for its period, with age and remaining kept;
-/// the new line stands in the lowest empty slot." Also used for starts that are only tried.
+/// R42, R43: periods stretched, ages and remainings kept, the new line in the lowest empty slot. Also
+/// used for starts that are only tried.
 pub fn admitted(table: &Table, request: &Request, start: u64) -> Table {
     let mut next = *table;
     for slot in 0..SLOTS {
@@ -279,7 +276,7 @@ pub fn admitted(table: &Table, request: &Request, start: u64) -> Table {
     next
 }
 
-/// "It runs with age 0 and remaining Cn if the start is t0; else it waits start − t0 ticks."
+/// R43: the new line runs at once or waits.
 fn new_line(request: &Request, wait: u64) -> Content {
     let (need, period) = (request.need, request.period);
     if wait == 0 {
@@ -290,7 +287,7 @@ fn new_line(request: &Request, wait: u64) -> Content {
     Content::Waiting(Wait { need, period, wait })
 }
 
-/// A line at the beginning of a period: age 0, remaining C.
+/// R43, R46, R47: a line at the beginning of a period.
 fn begin(need: u16, period: u16) -> Content {
     Content::Running(Run {
         need,
@@ -300,8 +297,8 @@ fn begin(need: u16, period: u16) -> Content {
     })
 }
 
-/// "Step carries the table from one tick to the next." "Step tests 15, 4, then 14." The next
-/// table and the slot that ran, or none.
+/// R48: the clock is tested first, then the lines, then the ends of periods. The next table and the
+/// slot that ran, or none.
 pub fn step(table: &Table) -> Result<(Table, Option<usize>), Refusal> {
     if table.clock >= LAST_TICK {
         return Err(Refusal::at(15, 0));
@@ -321,8 +318,7 @@ pub fn step(table: &Table) -> Result<(Table, Option<usize>), Refusal> {
     Ok((next, ran))
 }
 
-/// "Among running lines with c above 0, the one with the least T − a gets the tick; equal values
-/// go to the lowest slot."
+/// R44: of the lines that are owed ticks the one whose period ends first, the lower slot among equals.
 fn chosen(table: &Table) -> Option<usize> {
     let owing = table.running().filter(|(_, run)| run.remaining > 0);
     // min_by_key gives the first of equal values, and slots come from 0 up.
@@ -330,9 +326,8 @@ fn chosen(table: &Table) -> Option<usize> {
     least.map(|(slot, _)| slot)
 }
 
-/// "Then every age rises by one, every wait falls by one"; "a line whose age is now T has ended
-/// its period: with c above 0 this is refusal 14 [here none]; else age becomes 0 and c becomes C.
-/// A line whose wait is now 0 runs with age 0, c = C." Only sound lines come here.
+/// R45 to R47: a tick goes by for a slot, its line being served before where it got the tick. None
+/// where a period ends with ticks still owed, R34. Only sound lines come here.
 fn older(content: Content) -> Option<Content> {
     match content {
         Content::Nothing => Some(Content::Nothing),
@@ -350,8 +345,7 @@ fn older(content: Content) -> Option<Content> {
     }
 }
 
-/// "The front lamp shows the refusal by its range: 1 to 3 one blink, 4 to 6 two, 7 to 10 three,
-/// 11 to 13 four, 14 and 15 five, any other number none."
+/// R50: how often the front lamp blinks.
 pub fn lamp(number: u64) -> u64 {
     match number {
         1..=3 => 1,
@@ -363,8 +357,7 @@ pub fn lamp(number: u64) -> u64 {
     }
 }
 
-/// "Bit k of a sixteen-bit word is set exactly when slot k runs a line with remaining above 0,
-/// slot 0 lowest."
+/// R49: a bit for each slot whose line is owed ticks.
 pub fn ready(table: &Table) -> u16 {
     let owing = table.running().filter(|(_, run)| run.remaining > 0);
     owing.fold(0, |word, (slot, _)| word | 1 << slot)
@@ -375,10 +368,11 @@ mod tests {
     use super::*;
     use crate::cases;
     use crate::draw;
+    use crate::edges;
     use crate::random::Random;
     use crate::types::EMPTY;
 
-    /// The demand of one running line at t, word by word from document 01.
+    /// R10 word by word, counted from t0.
     fn demand(line: &Stretched, t: i64) -> i64 {
         let first_end = i64::from(line.stretched) - i64::from(line.run.age);
         if t < first_end {
@@ -388,7 +382,7 @@ mod tests {
         i64::from(line.run.remaining) + i64::from(line.run.need) * whole
     }
 
-    /// The excess at t with the new line at r, word by word from document 01.
+    /// R11, R12 word by word, counted from t0, the new line started at r.
     fn excess(lines: &[Stretched], request: &Request, r: i64, t: i64) -> i64 {
         let new = if t < r {
             0
@@ -399,8 +393,8 @@ mod tests {
     }
 
     #[test]
-    fn cases_of_document_01() {
-        for case in cases::all() {
+    fn every_stated_answer() {
+        for case in cases::all().into_iter().chain(edges::rows()) {
             assert_eq!(
                 ask(&case.table, &case.request),
                 case.answer,
@@ -477,8 +471,8 @@ mod tests {
     }
 
     #[test]
-    fn the_third_fault_of_document_01() {
-        // Case M: 103 "but the bench's own first end would then be 109, with an excess of 1".
+    fn the_new_lines_own_end_counts() {
+        // R68, third way: case M started at 103, seen at 109.
         let m = cases::all().into_iter().find(|case| case.name == "M");
         let m = m.expect("case M");
         let lines = stretched_lines(&m.table, &m.request);
@@ -507,7 +501,7 @@ mod tests {
 
     #[test]
     fn admitted_cases_run_without_a_short_period() {
-        for case in cases::all() {
+        for case in cases::all().into_iter().chain(edges::rows()) {
             let Ok((_, mut table)) = admit(&case.table, &case.request) else {
                 continue;
             };

@@ -1,17 +1,16 @@
-//! Source document 000, algorithm 2, "Offline or Standard Algorithm": trial and error.
+//! Algorithm 2 of the published paper (its title stands in published.rs): trial and error.
 //!
-//! "First r_j = t_r is assumed. All the tasks are scheduled and the system simply runs from t_r to
-//! d'max. If deadline missing occurs after t_r, then r_j = r_j + 1 is done and the system runs
-//! from t_r to d'max again. If no deadline is missed till d'max, then the algorithm ends."
+//! The starts are tried one after the other from the clock on: the pump runs to the last end, and the
+//! first start after which nothing ends short is the answer.
 //!
-//! Nothing of the demand or the excess is used here: only admission at a tried start and the step
-//! of the pump, whose refusal 14 is a missed end.
+//! Nothing of the demand or the excess is used here: only admission at a tried start (R42, R43) and
+//! the step of the pump (R48), whose refusal 14 is a missed end (R34).
 
 use crate::rules;
 use crate::types::{Request, Table};
 
-/// The least start from the clock on after which no period ends short up to the last end, for a
-/// table that ask does not refuse.
+/// R14 in another way: the least start from the clock on after which no period ends short up to the
+/// last end, for a table that ask does not refuse.
 ///
 /// None when no start up to the last end will do; for a table that passes refusals 1 to 10 this
 /// does not happen, as the new line then begins only where the run ends.
@@ -37,11 +36,12 @@ mod tests {
     use super::*;
     use crate::cases;
     use crate::draw;
+    use crate::edges;
     use crate::random::Random;
 
     #[test]
     fn equal_to_ask_on_the_cases() {
-        for case in cases::all() {
+        for case in cases::all().into_iter().chain(edges::rows()) {
             if let Ok(start) = case.answer {
                 let tried = least_start(&case.table, &case.request);
                 assert_eq!(tried, Some(start), "{}", case.name);

@@ -1,4 +1,4 @@
-//! Broken cards: every kind that document 01 names, and random ones.
+//! Broken cards: every kind that R57 and R58 name, and random ones.
 
 use crate::card;
 use crate::cases;
@@ -6,7 +6,7 @@ use crate::draw;
 use crate::random::Random;
 use crate::types::{EMPTY, SLOTS, ZEROS};
 
-/// The marks that are put in each other's places, and some that are none.
+/// R53: the marks that are put in each other's places, and some that are none.
 const MARKS: [&[u8]; 12] = [
     b"CK", b"TB", b"TF", b"TA", b"RQ", b"XX", b"tb", b"ck", b"BT", b"T\0", b"TG", b"\0\0",
 ];
@@ -35,7 +35,7 @@ fn with_mark(card: &[u8], offset: usize, mark: &[u8]) -> Vec<u8> {
     changed
 }
 
-/// Every prefix of the longest card, and the longest card with bytes after it.
+/// R57: every prefix of the longest card, and the longest card with bytes after it.
 fn prefixes() -> Vec<Vec<u8>> {
     let full = equal_lines(SLOTS);
     let mut cards: Vec<Vec<u8>> = (0..=full.len()).map(|cut| full[..cut].to_vec()).collect();
@@ -45,7 +45,7 @@ fn prefixes() -> Vec<Vec<u8>> {
     cards
 }
 
-/// Each mark of the longest card and of card A replaced by each other mark.
+/// R57: each mark of the longest card and of card A replaced by each other mark.
 fn replaced_marks() -> Vec<Vec<u8>> {
     let full = equal_lines(SLOTS);
     let mut cards = Vec::new();
@@ -56,7 +56,7 @@ fn replaced_marks() -> Vec<Vec<u8>> {
     cards
 }
 
-/// TA in every place, cut to every length and whole, with and without more records after it.
+/// R58: TA in every place, cut to every length and whole, with and without more records after it.
 fn old_marks() -> Vec<Vec<u8>> {
     let mut cards = vec![OLD.to_vec(), b"TA".to_vec(), b"T".to_vec(), b"C".to_vec()];
     for lines in 0..=SLOTS {
@@ -73,7 +73,7 @@ fn old_marks() -> Vec<Vec<u8>> {
     cards
 }
 
-/// Empty slots in all places, and directly before RQ.
+/// R55, R57: empty slots in all places, and directly before RQ.
 fn free_slots() -> Vec<Vec<u8>> {
     let mut cards = Vec::new();
     for frees in 0..=17 {
@@ -98,7 +98,7 @@ fn free_slots() -> Vec<Vec<u8>> {
     cards
 }
 
-/// A seventeenth record of each kind after sixteen of each kind, whole and cut.
+/// R57: a seventeenth record of each kind after sixteen of each kind, whole and cut.
 fn seventeenth() -> Vec<Vec<u8>> {
     let mut cards = Vec::new();
     for sixteen in [
@@ -116,7 +116,7 @@ fn seventeenth() -> Vec<Vec<u8>> {
     cards
 }
 
-/// Records in each other's places, twice, or missing.
+/// R54: records in each other's places, twice, or missing.
 fn swapped() -> Vec<Vec<u8>> {
     let parts: [&[u8]; 5] = [CLOCK, LINE, b"TF", LINE, ASKED];
     let mut cards = Vec::new();

@@ -1,22 +1,21 @@
-//! The words of document 01, "The pump and its words", as types of this program's own.
+//! Tables, lines, requests and refusals (R2 to R8, R17) as types of this program's own.
 
-/// "A table is a clock and 16 slots, numbered 0 to 15."
+/// R2: slots of a table.
 pub const SLOTS: usize = 16;
 
-/// "The last tick is 2^48."
+/// R7: where the clock stops.
 pub const LAST_TICK: u64 = 1 << 48;
 
-/// "Asking is possible while the clock is at most 2^48 − 65,536."
+/// R7: the latest clock at which ask and admit still work.
 pub const LAST_ASK: u64 = LAST_TICK - 65_536;
 
-/// "The *frame* ... at most 1,000,000."
+/// R8: the greatest frame that is not refused.
 pub const FRAME_LIMIT: u64 = 1_000_000;
 
-/// "The longest card is 208 bytes."
+/// R55: bytes of a card with all sixteen slots in use.
 pub const LONGEST_CARD: usize = 208;
 
-/// "Running: need C, period T, age a (ticks since its current period began), remaining c
-/// (ticks still owed in this period)."
+/// R3: C, T, a and c of a line that runs.
 #[derive(Clone, Copy, Debug, PartialEq, Eq)]
 pub struct Run {
     pub need: u16,
@@ -25,7 +24,7 @@ pub struct Run {
     pub remaining: u16,
 }
 
-/// "Waiting: need, period, wait w (ticks until it starts)."
+/// R3: C, T and w of a line that has not started yet.
 #[derive(Clone, Copy, Debug, PartialEq, Eq)]
 pub struct Wait {
     pub need: u16,
@@ -33,7 +32,7 @@ pub struct Wait {
     pub wait: u16,
 }
 
-/// "What a slot holds is one of three things: nothing; a running line; a waiting line."
+/// R2: what stands in a slot.
 #[derive(Clone, Copy, Debug, PartialEq, Eq)]
 pub enum Content {
     Nothing,
@@ -41,20 +40,20 @@ pub enum Content {
     Waiting(Wait),
 }
 
-/// A clock and 16 slots.
+/// R2: a clock and 16 slots.
 #[derive(Clone, Copy, Debug, PartialEq, Eq)]
 pub struct Table {
     pub clock: u64,
     pub slots: [Content; SLOTS],
 }
 
-/// "The empty table ... has clock 0 and sixteen slots that hold nothing."
+/// R4: where every run begins.
 pub const EMPTY: Table = Table {
     clock: 0,
     slots: [Content::Nothing; SLOTS],
 };
 
-/// "A request is a stretched period T' for each slot ... and a new line's need Cn and period Tn."
+/// R6: T' slot by slot, then Cn and Tn.
 #[derive(Clone, Copy, Debug, PartialEq, Eq)]
 pub struct Request {
     pub stretched: [u16; SLOTS],
@@ -62,14 +61,14 @@ pub struct Request {
     pub period: u16,
 }
 
-/// The request of zeros that the reader hands out with a refusal.
+/// R56: the request that the reader hands out with a refusal.
 pub const ZEROS: Request = Request {
     stretched: [0; SLOTS],
     need: 0,
     period: 0,
 };
 
-/// "A refusal is its number and place."
+/// R17: which ground, and where.
 #[derive(Clone, Copy, Debug, PartialEq, Eq)]
 pub struct Refusal {
     pub number: u8,
@@ -77,7 +76,7 @@ pub struct Refusal {
 }
 
 impl Refusal {
-    /// A refusal with a slot or a byte offset for its place.
+    /// R19, R31: the place is a slot or a byte offset.
     pub fn at(number: u8, place: usize) -> Refusal {
         Refusal {
             number,
@@ -87,7 +86,7 @@ impl Refusal {
 }
 
 impl Run {
-    /// "A running line is sound when 1 ≤ C ≤ T, c ≤ C and a < T."
+    /// R5: a need within the period, no more owed than that, the period not over.
     pub fn is_sound(&self) -> bool {
         1 <= self.need
             && self.need <= self.period
@@ -97,14 +96,14 @@ impl Run {
 }
 
 impl Wait {
-    /// "A waiting one is sound when 1 ≤ C ≤ T and w ≥ 1."
+    /// R5: a need within the period, and some tick still to wait.
     pub fn is_sound(&self) -> bool {
         1 <= self.need && self.need <= self.period && self.wait >= 1
     }
 }
 
 impl Content {
-    /// A slot that holds nothing has no line that could be unsound.
+    /// R5: an empty slot has no line that could be unsound.
     pub fn is_sound(&self) -> bool {
         match self {
             Content::Nothing => true,

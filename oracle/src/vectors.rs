@@ -3,6 +3,8 @@
 use crate::card;
 use crate::cases;
 use crate::draw;
+use crate::edge_cards;
+use crate::edges;
 use crate::published;
 use crate::random::Random;
 use crate::spoil;
@@ -27,23 +29,36 @@ fn of(drawn: (Table, Request)) -> Vec<u8> {
     card::bytes(&drawn.0, &drawn.1)
 }
 
-/// Cases A to M and the boundary cases of document 01.
-fn document_cases() -> Vec<Vec<u8>> {
-    let bytes = |case: &cases::Case| card::bytes(&case.table, &case.request);
-    cases::all().iter().map(bytes).collect()
+fn of_rows(rows: &[cases::Case]) -> Vec<Vec<u8>> {
+    rows.iter()
+        .map(|row| of((row.table, row.request)))
+        .collect()
 }
 
-/// Nothing is stored unless the cases of document 01 have the answers printed there.
-fn check_cases() -> io::Result<()> {
-    for case in cases::all() {
-        if card::judge(&card::bytes(&case.table, &case.request)) != case.answer {
-            return Err(io::Error::other(format!("case {} differs", case.name)));
+fn of_edge_cards() -> Vec<Vec<u8>> {
+    edge_cards::all()
+        .into_iter()
+        .map(|edge| edge.bytes)
+        .collect()
+}
+
+/// R67 and the edges: nothing is stored unless each has the answer that is written out beside it.
+fn check_stated() -> io::Result<()> {
+    let differs = |name: &str| Err(io::Error::other(format!("{name}: another answer")));
+    for row in cases::all().into_iter().chain(edges::rows()) {
+        if card::judge(&of((row.table, row.request))) != row.answer {
+            return differs(row.name);
+        }
+    }
+    for edge in edge_cards::all() {
+        if card::answer(&edge.bytes) != edge.line {
+            return differs(edge.name);
         }
     }
     Ok(())
 }
 
-/// Case D and the empty table at clocks around every limit.
+/// R7, R21: case D and the empty table at clocks around every limit.
 fn clocks() -> Vec<Vec<u8>> {
     let lines = [(7, 28, 28, 20, 7), (8, 16, 32, 8, 0)];
     let mut all = vec![
@@ -63,7 +78,7 @@ fn clocks() -> Vec<Vec<u8>> {
         .collect()
 }
 
-/// Tables of 15 lines and of all 16 slots, sound and then with one number changed.
+/// R22, R24: tables of 15 lines and of all 16 slots, sound and then with one number changed.
 fn many_lines(random: &mut Random) -> Vec<Vec<u8>> {
     let mut cards = Vec::new();
     for index in 0..MANY_LINES {
@@ -140,12 +155,12 @@ fn repeat(count: usize, mut card: impl FnMut() -> Vec<u8>) -> Vec<Vec<u8>> {
     (0..count).map(|_| card()).collect()
 }
 
-/// All cards in their order.
+/// All cards in their order; what is not drawn may be added at the end.
 fn cards() -> Vec<Vec<u8>> {
     let mut random = Random::new(SEED);
     let random = &mut random;
     [
-        document_cases(),
+        of_rows(&cases::all()),
         clocks(),
         spoil::named(),
         small_grid(),
@@ -157,6 +172,8 @@ fn cards() -> Vec<Vec<u8>> {
         repeat(BROKEN, || spoil::random_card(random)),
         repeat(WIDE, || of(draw::wide(random))),
         published_cards(random),
+        of_rows(&edges::rows()),
+        of_edge_cards(),
     ]
     .concat()
 }
@@ -196,7 +213,7 @@ impl Counts {
 
 /// Writes `stdin` and `stdout` into a folder; the counts go to standard error.
 pub fn write(folder: &Path) -> io::Result<()> {
-    check_cases()?;
+    check_stated()?;
     let cards = cards();
     let (mut input, mut output) = (Vec::new(), String::new());
     let mut counts = Counts::default();
@@ -219,6 +236,11 @@ pub fn write(folder: &Path) -> io::Result<()> {
 #[cfg(test)]
 mod tests {
     use super::*;
+
+    #[test]
+    fn every_stated_answer() {
+        assert!(check_stated().is_ok());
+    }
 
     #[test]
     fn the_set_keeps_its_limits() {

@@ -1,9 +1,9 @@
-//! Ask: the tests in their order, and the greatest bound that the ends put on the start.
+//! Ask (R41): the tests in their order (R18), and the greatest bound that the ends put on the start (R14).
 
 use crate::card::read;
 use crate::pump::{Held, Pump, Request, SLOTS};
 
-/// A running line at its stretched period, counted from the clock.
+/// R9: a running line at its stretched period, its first end counted from the clock.
 #[derive(Clone, Copy, Default)]
 struct Line {
     end: u32,
@@ -12,12 +12,13 @@ struct Line {
     period: u32,
 }
 
+/// R10, summed over the lines.
 #[inline]
 fn demand(lines: &[Line], d: u32) -> u32 {
     lines.iter().map(|l| if d < l.end { 0 } else { l.remaining + l.need * ((d - l.end) / l.period) }).sum()
 }
 
-/// Ticks from the clock to the least smooth start, or `None` for refusal 10.
+/// R14: ticks from the clock to the least smooth start, or `None` for R30.
 #[inline]
 fn start(lines: &[Line], need: u32, period: u32) -> Option<u32> {
     let last = lines.iter().map(|l| l.end).max().unwrap_or(0);
@@ -34,7 +35,7 @@ fn start(lines: &[Line], need: u32, period: u32) -> Option<u32> {
     Some(best)
 }
 
-/// The least common multiple of the periods, or `None` above 1,000,000.
+/// R8: the frame, or `None` above its limit.
 #[inline]
 fn frame(lines: &[Line], period: u32) -> Option<u64> {
     let mut m = u64::from(period);
@@ -52,7 +53,7 @@ fn frame(lines: &[Line], period: u32) -> Option<u64> {
     Some(m)
 }
 
-/// Grounds 7 to 9.
+/// R27 to R29, exact as in R16.
 #[inline]
 fn load(lines: &[Line], need: u32, period: u32) -> Result<(), u16> {
     let frame = frame(lines, period).ok_or(7u16)?;
@@ -67,6 +68,7 @@ fn load(lines: &[Line], need: u32, period: u32) -> Result<(), u16> {
     Ok(())
 }
 
+/// R19: the lowest slot of which the test holds.
 #[inline]
 fn lowest(pump: &Pump, test: impl Fn(usize, Held) -> bool) -> Option<u64> {
     pump.slots.iter().enumerate().find(|(i, h)| test(*i, **h)).map(|(i, _)| i as u64)
@@ -75,7 +77,7 @@ fn lowest(pump: &Pump, test: impl Fn(usize, Held) -> bool) -> Option<u64> {
 /// The running lines at their stretched periods, and how many there are.
 type Lines = ([Line; SLOTS], usize);
 
-/// Grounds 1 to 9, and the lines gathered.
+/// R21 to R29 in that order, and the lines gathered.
 #[inline]
 fn tested(pump: &Pump, request: &Request) -> Result<Lines, (u16, u64)> {
     if pump.clock > (1 << 48) - 65_536 {
@@ -109,17 +111,17 @@ fn tested(pump: &Pump, request: &Request) -> Result<Lines, (u16, u64)> {
     Ok((lines, count))
 }
 
-/// Whether a card reads and passes the tests 1 to 9.
+/// Whether a card reads and R21 to R29 do not hold.
 #[must_use]
 #[inline]
 pub fn passes(card: &[u8]) -> bool {
     read(card).is_ok_and(|(pump, request)| tested(&pump, &request).is_ok())
 }
 
-/// The start, or the refusal's number and place.
+/// R41: the start, or the refusal's number and place.
 ///
 /// # Errors
-/// 1 to 10 of document 01.
+/// R21 to R30.
 #[inline]
 pub fn ask(pump: &Pump, request: &Request) -> Result<u64, (u16, u64)> {
     let (lines, count) = tested(pump, request)?;
@@ -127,7 +129,7 @@ pub fn ask(pump: &Pump, request: &Request) -> Result<u64, (u16, u64)> {
     Ok(pump.clock + u64::from(ticks))
 }
 
-/// The answer to a card: the reader's refusal, or ask's.
+/// R60: the answer to a card, the reader's refusal or ask's.
 ///
 /// # Errors
 /// The refusal's number and place.
@@ -141,7 +143,7 @@ pub fn answer(card: &[u8]) -> Result<u64, (u16, u64)> {
 mod tests {
     use crate::{answer, read, write};
 
-    /// The card of case A, as document 01 prints it.
+    /// R59: the card of case A.
     const CASE_A: &[u8] = b"CK\x08\0\0\0\0\0\0\0TB\x08\0\x10\0\x20\0\x08\0\0\0TB\x08\0\x10\0\x10\0\x08\0\x08\0RQ\x01\0\x04\0";
 
     #[test]

@@ -1,16 +1,17 @@
-//! The card: read and written as document 01 says.
+//! The card, read (R52 to R58) and written (R59).
 
 use crate::pump::{Held, Pump, Request, SLOTS};
 
+/// R52: a number of two bytes.
 #[inline]
 fn two(card: &[u8], at: usize) -> u16 {
     u16::from_le_bytes([card[at], card[at + 1]])
 }
 
-/// The table and request of a card.
+/// R56: the table and request of a card.
 ///
 /// # Errors
-/// 11 and 12 with the byte offset.
+/// R31 and R32, 11 and 12 with the byte offset.
 #[inline]
 pub fn read(card: &[u8]) -> Result<(Pump, Request), (u16, u64)> {
     let Some(Ok(clock)) = card.get(2..10).map(<[u8; 8]>::try_from) else {
@@ -47,10 +48,10 @@ pub fn read(card: &[u8]) -> Result<(Pump, Request), (u16, u64)> {
     }
 }
 
-/// Writes the card and gives its length.
+/// R59: writes the card and gives its length.
 ///
 /// # Errors
-/// 3 and 13; then no byte is written.
+/// R23 and R33, 3 and 13; then no byte is written.
 #[inline]
 pub fn write(pump: &Pump, request: &Request, out: &mut [u8]) -> Result<usize, (u16, u64)> {
     let (mut used, mut length) = (0, 16);

@@ -1,7 +1,9 @@
-//! The table and its step, in place.
+//! The table (R2 to R6) and its step (R44 to R48), in place.
 
+/// R2: slots of a table.
 pub const SLOTS: usize = 16;
 
+/// R2, R3: what a slot holds.
 #[derive(Clone, Copy, Debug, PartialEq, Eq)]
 pub enum Held {
     Nothing,
@@ -9,12 +11,14 @@ pub enum Held {
     Waiting { need: u16, period: u16, wait: u16 },
 }
 
+/// R2: the table.
 #[derive(Clone, Copy, Debug, PartialEq, Eq)]
 pub struct Pump {
     pub clock: u64,
     pub slots: [Held; SLOTS],
 }
 
+/// R6: the request.
 #[derive(Clone, Copy, Debug, PartialEq, Eq)]
 pub struct Request {
     pub stretched: [u16; SLOTS],
@@ -23,6 +27,7 @@ pub struct Request {
 }
 
 impl Held {
+    /// R5: whether the line's numbers fit together.
     #[inline]
     pub(crate) fn sound(self) -> bool {
         match self {
@@ -32,7 +37,7 @@ impl Held {
         }
     }
 
-    /// Ticks to the end of the period of a line that is owed a tick.
+    /// R44: ticks to the end of the period of a line that is owed a tick.
     #[inline]
     fn key(self) -> u32 {
         match self {
@@ -41,6 +46,7 @@ impl Held {
         }
     }
 
+    /// R45 to R47, after the tick was given.
     #[inline]
     fn passed(self) -> Held {
         match self {
@@ -53,10 +59,10 @@ impl Held {
 }
 
 impl Pump {
-    /// One tick; the slot that ran or none, or the refusal's number and place, with the table as it was.
+    /// R48: one tick; the slot that ran or none, or the refusal's number and place, with the table as it was.
     ///
     /// # Errors
-    /// 15, 4 and 14 of document 01.
+    /// R35, R24 and R34, in that order.
     #[inline]
     pub fn step(&mut self) -> Result<Option<usize>, (u16, u64)> {
         if self.clock >= 1 << 48 {

@@ -5,7 +5,7 @@ use std::io::{self, Read, Write};
 use std::process::ExitCode;
 use trimthuel::{Told, CARD_MAX, LINE_MAX};
 
-/// One byte more than the longest card, so that a longer file is seen to be too long.
+/// R55: one byte more than the longest card, so that a longer file is seen to be too long.
 fn card_of(path: &str) -> io::Result<Vec<u8>> {
     let mut card = Vec::new();
     let most = CARD_MAX as u64 + 1;
@@ -13,7 +13,7 @@ fn card_of(path: &str) -> io::Result<Vec<u8>> {
     Ok(card)
 }
 
-/// A number as C gets it: a refusal is below 0.
+/// R63: a number as C gets it, a refusal below 0.
 fn number(told: Told<usize>) -> String {
     match told {
         Ok(given) => given.to_string(),

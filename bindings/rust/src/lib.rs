@@ -1,5 +1,5 @@
-//! Safe functions over the pump's C boundary, `include/trimthuel.h`: any bytes may be handed in, nothing is kept after a call,
-//! and a refusal leaves every byte of the lent buffer as it was.
+//! Safe functions over the pump's C boundary, `include/trimthuel.h` (R63 to R66 of docs/RULES.md): any bytes may be
+//! handed in, nothing is kept after a call, and a refusal leaves every byte of the lent buffer as it was (R17).
 //!
 //! ```
 //! let mut out = [0; trimthuel::LINE_MAX];
@@ -7,19 +7,19 @@
 //! assert_eq!(&out[..n], b"refused 11 0\n");
 //! ```
 
-/// No card that reads is longer, and no card that is written.
+/// R55: no card that reads is longer, and no card that is written.
 pub const CARD_MAX: usize = 208;
 
-/// No answer line is longer, its newline included.
+/// R61: no answer line is longer, its newline included.
 pub const LINE_MAX: usize = 40;
 
-/// A refusal by its number in document 01. Its place stands in the answer line only.
+/// R63: a refusal by its number; refusal n is rule R(20 + n). Its place stands in the answer line only.
 #[derive(Clone, Copy, Debug, PartialEq, Eq)]
 pub struct Refused {
     pub number: u64,
 }
 
-/// What was asked for, or a refusal.
+/// R63: what was asked for, or a refusal.
 pub type Told<T> = Result<T, Refused>;
 
 extern "C" {
@@ -28,7 +28,7 @@ extern "C" {
     fn trimthuel_run(card: *const u8, card_len: usize, ticks: u32) -> i64;
 }
 
-/// A number below 0 is minus a refusal's.
+/// R63: a number below 0 is minus a refusal's.
 fn told(number: i64) -> Told<u64> {
     let size = number.unsigned_abs();
     if number < 0 {
@@ -37,11 +37,11 @@ fn told(number: i64) -> Told<u64> {
     Ok(size)
 }
 
-/// Writes the answer line of a card, with its newline, to the start of `out`, and answers its
+/// R64: writes the answer line of a card, with its newline, to the start of `out`, and answers its
 /// length. Bytes after it stay.
 ///
 /// # Errors
-/// Refusal 13 if `out` is too short. Any other refusal is a line.
+/// Refusal 13 (R33) if `out` is too short. Any other refusal is a line.
 pub fn answer(card: &[u8], out: &mut [u8]) -> Told<usize> {
     // SAFETY: both pointers come from slices, which do not overlap, and are given with their lengths.
     let length =
@@ -49,11 +49,11 @@ pub fn answer(card: &[u8], out: &mut [u8]) -> Told<usize> {
     told(length).map(|length| length as usize)
 }
 
-/// Reads a card, writes it anew to the start of `out`, byte for byte, and answers its length.
+/// R65: reads a card, writes it anew to the start of `out`, byte for byte (R72), and answers its length.
 /// Bytes after it stay.
 ///
 /// # Errors
-/// Refusal 11 or 12 of the reader, or 13 if `out` is too short.
+/// Refusal 11 or 12 of the reader (R31, R32), or 13 (R33) if `out` is too short.
 pub fn rewrite(card: &[u8], out: &mut [u8]) -> Told<usize> {
     // SAFETY: as in `answer`.
     let length =
@@ -61,7 +61,7 @@ pub fn rewrite(card: &[u8], out: &mut [u8]) -> Told<usize> {
     told(length).map(|length| length as usize)
 }
 
-/// Admits the card's request, lets the pump run for `ticks` ticks, and answers in how many of them
+/// R66: admits the card's request, lets the pump run for `ticks` ticks, and answers in how many of them
 /// a line ran.
 ///
 /// # Errors
@@ -75,7 +75,7 @@ pub fn run(card: &[u8], ticks: u32) -> Told<u64> {
 mod tests {
     use super::*;
 
-    /// The card of case A, as document 01 prints it.
+    /// R59: the card of case A.
     const CASE_A: &[u8] = b"CK\x08\0\0\0\0\0\0\0\
         TB\x08\0\x10\0\x20\0\x08\0\0\0\
         TB\x08\0\x10\0\x10\0\x08\0\x08\0\

@@ -1,0 +1,150 @@
+//! Cards on both sides of a limit of their form, byte by byte, with the line of each worked out by
+//! hand from docs/RULES.md.
+
+/// A card, its bytes and its line.
+pub struct EdgeCard {
+    pub name: &'static str,
+    pub bytes: Vec<u8>,
+    pub line: &'static str,
+}
+
+fn edge(name: &'static str, parts: &[&[u8]], line: &'static str) -> EdgeCard {
+    EdgeCard {
+        name,
+        bytes: parts.concat(),
+        line,
+    }
+}
+
+/// R53: a clock of 116,940,353,646,111 and numbers of which no two bytes are equal; only the clock's
+/// upper two bytes, which are 0 wherever asking is possible, are.
+const CLOCK: &[u8] = b"CK\x1F\x2E\x3D\x4C\x5B\x6A\x00\x00";
+/// (3254, 3442, 5720, 2521, 3021), and the same with age and remaining exchanged.
+const FIRST: &[u8] = b"TB\xB6\x0C\x72\x0D\x58\x16\xD9\x09\xCD\x0B";
+const FIRST_BACK: &[u8] = b"TB\xB6\x0C\x72\x0D\x58\x16\xCD\x0B\xD9\x09";
+/// (2127, 9927, 13860, 898, 757); age and remaining exchanged; T and T' exchanged.
+const SECOND: &[u8] = b"TB\x4F\x08\xC7\x26\x24\x36\x82\x03\xF5\x02";
+const SECOND_BACK: &[u8] = b"TB\x4F\x08\xC7\x26\x24\x36\xF5\x02\x82\x03";
+const SECOND_SHRUNK: &[u8] = b"TB\x4F\x08\x24\x36\xC7\x26\x82\x03\xF5\x02";
+/// (491, 1848), and exchanged.
+const ASKED: &[u8] = b"RQ\xEB\x01\x38\x07";
+const ASKED_BACK: &[u8] = b"RQ\x38\x07\xEB\x01";
+const FREE: &[u8] = b"TF";
+/// R58: the first line as the third generation wrote it.
+const OLD: &[u8] = b"TA\xB6\x0C\x72\x0D\x58\x16\xCD\x0B\xD9\x09";
+
+/// R52, R53: every number in its place, its lower byte first.
+///
+/// With t0 for the clock, the first line ends at t0 + 5720 − 2521 = t0 + 3199 and has 178 ticks to spare
+/// there, fewer than the new line's need. So the new line's own first end comes later, and by then
+/// 3021 + 491 ticks are wanted: the start is t0 + 3512 − 1848. Exchanged, 2521 is owed in place of 3021
+/// and the spare is the same: 500 ticks earlier.
+fn numbers() -> Vec<EdgeCard> {
+    let between = [CLOCK, FREE, FIRST, FREE, SECOND, ASKED];
+    let (mut back, mut shrunk, mut asked) = (between, between, between);
+    (back[2], back[4]) = (FIRST_BACK, SECOND_BACK);
+    shrunk[4] = SECOND_SHRUNK;
+    asked[5] = ASKED_BACK;
+    let (mut late, mut later) = (between, between);
+    late[0] = b"CK\x1F\x2E\x3D\x4C\x5B\x6A\x01\x00";
+    later[0] = b"CK\x1F\x2E\x3D\x4C\x5B\x6A\x00\x01";
+    vec![
+        edge("all different", &between, "release 116940353647775\n"),
+        edge("age and remaining", &back, "release 116940353647275\n"),
+        edge("T and T'", &shrunk, "refused 5 3\n"),
+        edge("Cn and Tn", &asked, "refused 6 0\n"),
+        edge("seventh byte of the clock", &late, "refused 1 0\n"),
+        edge("eighth byte of the clock", &later, "refused 1 0\n"),
+    ]
+}
+
+/// R58, and R57 where no slot's record may stand.
+fn old_marks() -> Vec<EdgeCard> {
+    let fifteen = FIRST.repeat(15);
+    let sixteen = FIRST.repeat(16);
+    let no_clock = [b"TA", &CLOCK[2..], FIRST, ASKED];
+    vec![
+        edge("TA, whole", &[CLOCK, OLD, ASKED], "refused 12 10\n"),
+        edge("TA, its mark only", &[CLOCK, b"TA"], "refused 12 10\n"),
+        edge("TA, half its mark", &[CLOCK, b"T"], "refused 11 10\n"),
+        edge(
+            "TA after TB, cut",
+            &[CLOCK, FIRST, &OLD[..11]],
+            "refused 12 22\n",
+        ),
+        edge("TA for CK", &no_clock, "refused 11 0\n"),
+        edge("TA alone", &[OLD], "refused 11 0\n"),
+        edge(
+            "sixteenth TA",
+            &[CLOCK, &fifteen, OLD, ASKED],
+            "refused 12 190\n",
+        ),
+        edge(
+            "seventeenth TA",
+            &[CLOCK, &sixteen, OLD, ASKED],
+            "refused 11 202\n",
+        ),
+    ]
+}
+
+/// R54, R55, R57: the longest card, a byte more, and the ends of each kind of record.
+fn lengths() -> Vec<EdgeCard> {
+    // (1, 64, 64, 0, 1) fifteen times and (1, 4): no start is later than the clock.
+    let light = b"TB\x01\x00\x40\x00\x40\x00\x00\x00\x01\x00";
+    let quarter = b"RQ\x01\x00\x04\x00";
+    let (fifteen, sixteen) = (light.repeat(15), light.repeat(16));
+    let eight = b"CK\x08\x00\x00\x00\x00\x00\x00\x00";
+    vec![
+        edge("196 bytes", &[eight, &fifteen, quarter], "release 8\n"),
+        edge("208 bytes", &[eight, &sixteen, quarter], "refused 2 0\n"),
+        edge(
+            "209 bytes",
+            &[eight, &sixteen, quarter, b"\x00"],
+            "refused 11 208\n",
+        ),
+        edge("nothing", &[], "refused 11 0\n"),
+        edge("nine bytes", &[&eight[..9]], "refused 11 0\n"),
+        edge("ten bytes", &[eight], "refused 11 10\n"),
+        edge("TB cut", &[eight, light, &light[..11]], "refused 11 22\n"),
+        edge("RQ cut", &[eight, light, &quarter[..5]], "refused 11 22\n"),
+        edge("RQ whole", &[eight, light, quarter], "release 8\n"),
+        edge(
+            "byte after RQ",
+            &[eight, light, quarter, b"R"],
+            "refused 11 28\n",
+        ),
+        edge(
+            "TF before RQ",
+            &[eight, light, FREE, quarter],
+            "refused 11 24\n",
+        ),
+        edge(
+            "TF before TB",
+            &[eight, FREE, light, quarter],
+            "release 8\n",
+        ),
+    ]
+}
+
+/// Every card with its line.
+pub fn all() -> Vec<EdgeCard> {
+    [numbers(), old_marks(), lengths()]
+        .into_iter()
+        .flatten()
+        .collect()
+}
+
+#[cfg(test)]
+mod tests {
+    use super::*;
+    use std::collections::HashSet;
+
+    #[test]
+    fn no_two_bytes_of_the_numbers_are_equal() {
+        let numbers = [&CLOCK[..8], FIRST, SECOND, ASKED].map(|record| &record[2..]);
+        let bytes = numbers.concat();
+        let different: HashSet<&u8> = bytes.iter().collect();
+        assert_eq!((bytes.len(), different.len()), (30, 30));
+        assert!(!different.contains(&0));
+    }
+}
