@@ -27,12 +27,14 @@ unfolding frameFrom
 frame-least-from m [] k h a = h
 frame-least-from m (p ∷ ps) k h a = frame-least-from (lcmOf m p) ps k (lcm-is m p .least k h (a .0)) (a .1)
 
+-- R8: the frame is a common multiple, and every other is a multiple of it
 pub frame-is : (ps : List ℕ) → IsFrame ps (frameOf ps)
 frame-is ps = record {
   common = frame-divides-from 1 ps .1;
   least = λ k a. frame-least-from 1 ps k (one-dvd k) a;
 }
 
+-- R8: two frames of the same periods are equal
 pub frame-unique : (ps : List ℕ) (F G : ℕ) → IsFrame ps F → IsFrame ps G → F ≡ G
 frame-unique ps F G p q = dvd-antisymm (p .least G (q .common)) (q .least F (p .common))
 
@@ -44,7 +46,7 @@ frame-pos-from m (p ∷ ps) h a = frame-pos-from (lcmOf m p) ps (lcm-pos m p h (
 pub frame-pos : (ps : List ℕ) → All (λ p. 1 ≤ p) ps → 1 ≤ frameOf ps
 frame-pos ps a = frame-pos-from 1 ps (omega arith) a
 
--- with periods from 1 up it is the least by order too
+-- R8: with periods from 1 up the frame is the least by order too
 pub frame-least : (ps : List ℕ) → All (λ p. 1 ≤ p) ps → LeastCommon ps (frameOf ps)
 frame-least ps a = record {
   pos = frame-pos ps a;
@@ -52,6 +54,7 @@ frame-least ps a = record {
   least = λ G h c. le-of-dvd h (frame-is ps .least G c);
 }
 
+-- R8: two least common multiples of the same periods are equal
 pub least-common-unique : (ps : List ℕ) (F G : ℕ) → LeastCommon ps F → LeastCommon ps G → F ≡ G
 least-common-unique ps F G p q = le-antisymm (p .least G (q .pos) (q .common)) (q .least F (p .pos) (p .common))
 
@@ -79,9 +82,11 @@ frame-end m ps i h = rw (h, drop-length)
 pub capped-in : (m : ℕ) → m ≤ 1000000 → capped m ≡ m
 capped-in m h = omega arith
 
+-- R27: what is capped above the limit is above it
 pub capped-above : (m : ℕ) → 1000000 < capped m → 1000000 < m
 capped-above m h = omega arith
 
+-- R27: what is above the limit stays above it when capped
 pub above-capped : (m : ℕ) → 1000000 < m → 1000000 < capped m
 above-capped m h = omega arith
 
@@ -97,7 +102,7 @@ capped-lcm m p h = go (decLe m 1000000)
     go (yes l) = ap (λ (x : ℕ). capped (lcmOf x p)) (capped-in m l)
     go (no l) = lcm-above (capped m) p h (omega arith) ∙ sym (lcm-above m p h (omega arith))
 
--- the same of a whole list, a period of 0 among them too
+-- R27: capping first changes nothing of a whole list, a period of 0 among them too
 pub capped-frame : (m : ℕ) (ps : List ℕ) → capped (frameFrom (capped m) ps) ≡ capped (frameFrom m ps)
 unfolding frameFrom
 capped-frame m [] = omega arith

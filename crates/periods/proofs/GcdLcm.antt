@@ -98,10 +98,12 @@ lcm-is-from-one a b h =
           (rw e (dvd-mul-gcd k (a * b) a b (rw (mul-comm k a) (mul-dvd-mul-left b a q)) (mul-dvd-mul-right a p b)));
     }
 
+-- R8: the computed multiple is the least common one
 pub lcm-is : (a b : ℕ) → IsLcm a b (lcmOf a b)
 lcm-is zero b = rw (lcm-zero-left b) (record { left = dvd-refl 0; right = dvd-zero b; least = λ k p q. p })
 lcm-is (suc a) b = lcm-is-from-one (suc a) b (zero-lt-suc a)
 
+-- R8: two least common multiples of the same numbers are equal
 pub lcm-unique : (a b m n : ℕ) → IsLcm a b m → IsLcm a b n → m ≡ n
 lcm-unique a b m n p q = dvd-antisymm (p .least n (q .left) (q .right)) (q .least m (p .left) (p .right))
 

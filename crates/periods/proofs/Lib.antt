@@ -1,3 +1,4 @@
 pub mod GcdLcm
 pub mod Frames
 pub mod Whole
+pub mod Edges

@@ -1,11 +1,11 @@
-// Whole periods and common multiples, for any period: the greatest common divisor, the least common multiple, and the frame.
+// Whole periods and common multiples, for any period: the greatest common divisor, the least common multiple, and the frame (R8).
 ghost use mathlib.Core.Path.{_≡_};
 ghost use Rattle.periods.specs.Multiples.{gcdOf, IsGcd, CappedLcm, CappedFrame};
 
-// The frame is at most this; one more says that it is above.
+// R8, R27: the frame is at most this; one more says that it is above.
 const LIMIT: u64 = 1_000_000;
 
-// The greatest common divisor. Every number divides 0, so gcd(a, 0) is a, and gcd(0, 0) is 0.
+// R8: the greatest common divisor, which common multiples are made by. Every number divides 0, so gcd(a, 0) is a, and gcd(0, 0) is 0.
 pub fn gcd(a: u64, b: u64) -> u64
     ensures { λ r. ⌜ IsGcd a b r × (r ≡ gcdOf a b) ⌝ }
 {
@@ -19,7 +19,7 @@ pub fn gcd(a: u64, b: u64) -> u64
     x
 }
 
-// The least common multiple, or 1,000,001 where it is above 1,000,000. With a 0 it is 0, the only multiple of 0.
+// R8: the common multiple of two, or 1,000,001 where it is above 1,000,000. With a 0 it is 0, the only multiple of 0.
 // A factor above the limit is refused before the product is made, so nothing wraps.
 pub fn lcm(a: u64, b: u64) -> u64
     ensures { λ r. ⌜ CappedLcm a b r ⌝ }
@@ -44,7 +44,7 @@ pub fn lcm(a: u64, b: u64) -> u64
     m
 }
 
-// The frame: the least common multiple of all periods, or 1,000,001 where it is above 1,000,000. Of no period it is 1, and with a period of 0 it is 0.
+// R8, R27: the frame of the periods, or 1,000,001 where it is above the limit. Of no period it is 1, and with a period of 0 it is 0.
 // Above the limit only a 0 can change the answer, so the loop looks for no more than that.
 pub fn frame(periods: &[u16]) -> u64
     ensures { λ r. ⌜ CappedFrame (now (periods .entry)) r ⌝ }
