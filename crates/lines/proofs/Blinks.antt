@@ -1,4 +1,4 @@
--- The lamp's blinks, a law for each range by its two ends.
+-- The lamp's blinks, R50, a law for each range by its two ends.
 use Prim.Native.Nat.{ℕ, _≤_, _<_}
 use mathlib.Core.Path.{_≡_, refl}
 use mathlib.Core.Bool.{Bool, true, false}

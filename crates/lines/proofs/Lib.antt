@@ -9,6 +9,7 @@ pub mod Tick
 pub mod Choice
 pub mod Step
 pub mod Order
+pub mod Edges
 pub mod Cases
 pub mod Faults
 pub mod StepCases

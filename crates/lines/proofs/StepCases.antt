@@ -1,29 +1,20 @@
--- The step rule, by computation: what so many steps of a table say, and the table that they leave.
+-- The step, R44 to R48, by computation: what so many steps of a table say, and the table that they leave.
 use Prim.Native.Nat.{ℕ, zero, suc, _-_, _^_}
 use mathlib.Core.Path.{_≡_, refl}
 use mathlib.Core.List.{List, [], _∷_, _++_, map}
 use mathlib.Core.Option.{Option, none, some}
 use lib.ListN.{length, replicate}
-use Rattle.lines.specs.declared.Held.the-variants.{Running, Waiting}
 use Rattle.lines.specs.declared.Slot.{Slot}
 use Rattle.lines.specs.declared.Table.{Table}
 use Rattle.lines.specs.Slots.{empty, lowest, refusal, Said, gives, refuses}
 use Rattle.lines.specs.Step.{saysRan, chosen, advance, stepOf}
+use Rattle.lines.specs.Cases.{running, waiting, tableOf}
 
 -- a table, what each step from it says, and the table that they leave
 pub record StepCase : Type 0 where
   pub before : Table
   pub says : List (Said (Option ℕ))
   pub after : Table
-
-abbrev running : (C T age remaining : ℕ) → Slot
-running C T a c = record { held = Running (record { need = C; period = T; age = a; remaining = c }) }
-
-abbrev waiting : (C T wait : ℕ) → Slot
-waiting C T w = record { held = Waiting (record { need = C; period = T; wait = w }) }
-
-abbrev tableOf : (clock : ℕ) → List Slot → Table
-tableOf n l = record { clock = n; slots = l ++ replicate (16 - length l) empty }
 
 abbrev ran : ℕ → Said (Option ℕ)
 ran k = gives (some k)
@@ -48,49 +39,83 @@ caseA =
     (replicate 8 (ran 1) ++ (ran 2 ∷ ran 2 ∷ ran 1 ∷ ran 1 ∷ ran 1 ∷ ran 2 ∷ ran 1 ∷ ran 1 ∷ ran 1 ∷ ran 2 ∷ ran 1 ∷ ran 1 ∷ nobody ∷ ran 2 ∷ nobody ∷ nobody ∷ ran 1 ∷ ran 2 ∷ []))
     (tableOf 34 (running 8 32 2 8 ∷ running 8 16 2 7 ∷ running 1 4 1 0 ∷ []))
 
--- "equal values go to the lowest slot"
+-- R44: the lowest of equal ends
 abbrev equalEnds : StepCase
 equalEnds =
     steps (tableOf 0 (empty ∷ running 2 4 0 2 ∷ running 2 4 0 2 ∷ [])) (ran 1 ∷ ran 1 ∷ ran 2 ∷ ran 2 ∷ [])
     (tableOf 4 (empty ∷ running 2 4 0 2 ∷ running 2 4 0 2 ∷ []))
 
--- "the one with the least T − a gets the tick"; nobody once nobody is owed
+-- R44: the least end; nobody once nobody is owed
 abbrev leastEnd : StepCase
 leastEnd =
     steps (tableOf 0 (running 1 9 2 1 ∷ running 1 8 2 1 ∷ [])) (ran 1 ∷ ran 0 ∷ nobody ∷ [])
     (tableOf 3 (running 1 9 5 0 ∷ running 1 8 5 0 ∷ []))
 
--- "A line whose age is now T has ended its period … age becomes 0 and c becomes C"
+-- R46: a period ends and begins anew
 abbrev renewal : StepCase
 renewal = steps (tableOf 0 (running 3 4 3 1 ∷ running 2 4 3 0 ∷ [])) (ran 0 ∷ []) (tableOf 1 (running 3 4 0 3 ∷ running 2 4 0 2 ∷ []))
 
--- "A line whose wait is now 0 runs with age 0, c = C"; the other waits on
+-- R47: one line starts; the other waits on
 abbrev starts : StepCase
 starts = steps (tableOf 0 (waiting 2 5 1 ∷ waiting 2 5 2 ∷ [])) (nobody ∷ []) (tableOf 1 (running 2 5 0 2 ∷ waiting 2 5 1 ∷ []))
 
--- "with c above 0 this is refusal 14": the tick is slot 0's, and slot 1 ends short
+-- R34: the tick is slot 0's, and slot 1 ends short
 abbrev endsShort : StepCase
 endsShort = keeps (tableOf 0 (running 1 4 3 1 ∷ running 1 4 3 1 ∷ [])) (refused 14 1)
 
--- "Step tests 15, 4, then 14."
-abbrev unsoundFirst : StepCase
-unsoundFirst = keeps (tableOf 0 (running 1 4 3 1 ∷ running 1 4 3 1 ∷ running 0 4 0 0 ∷ [])) (refused 4 2)
+-- R34, R19: the lowest of two that end short
+abbrev lowestShort : StepCase
+lowestShort = keeps (tableOf 0 (running 2 4 0 2 ∷ running 1 4 3 1 ∷ running 1 4 3 1 ∷ running 1 4 3 1 ∷ [])) (refused 14 2)
 
-abbrev lateFirst : StepCase
-lateFirst = keeps (tableOf (2 ^ 48) (running 0 4 0 0 ∷ [])) (refused 15 0)
+-- R48: 4 before 14, and 15 before 4; beside each the first fault is mended
+abbrev orders : List StepCase
+orders =
+    keeps (tableOf 0 (running 1 4 3 1 ∷ running 1 4 3 1 ∷ running 0 4 0 0 ∷ [])) (refused 4 2)
+    ∷ keeps (tableOf 0 (running 1 4 3 1 ∷ running 1 4 3 1 ∷ running 1 4 0 0 ∷ [])) (refused 14 1)
+    ∷ keeps (tableOf (2 ^ 48) (empty ∷ running 0 4 0 0 ∷ [])) (refused 15 0)
+    ∷ keeps (tableOf (2 ^ 48 - 1) (empty ∷ running 0 4 0 0 ∷ [])) (refused 4 1)
+    ∷ []
 
--- "The last tick is 2^48": it is reached, and not left
+-- a step of a line alone in slot 3, which nobody else's numbers touch
+abbrev third : Slot → Said (Option ℕ) → Slot → StepCase
+third s a u = steps (tableOf 0 (empty ∷ empty ∷ empty ∷ s ∷ [])) (a ∷ []) (tableOf 1 (empty ∷ empty ∷ empty ∷ u ∷ []))
+
+abbrev unsound : Slot → StepCase
+unsound s = keeps (tableOf 0 (empty ∷ empty ∷ empty ∷ s ∷ [])) (refused 4 3)
+
+-- R5, R24: each number of a running and of a waiting line at its edge, and beyond it alone
+abbrev soundness : List StepCase
+soundness =
+    third (running 1 4 0 0) nobody (running 1 4 1 0)
+    ∷ unsound (running 0 4 0 0)
+    ∷ third (running 4 4 0 0) nobody (running 4 4 1 0)
+    ∷ unsound (running 5 4 0 0)
+    ∷ third (running 2 4 0 2) (ran 3) (running 2 4 1 1)
+    ∷ unsound (running 2 4 0 3)
+    ∷ third (running 2 4 3 0) nobody (running 2 4 0 2)
+    ∷ unsound (running 2 4 4 0)
+    ∷ third (running 2 65535 65533 1) (ran 3) (running 2 65535 65534 0)
+    ∷ third (waiting 1 4 2) nobody (waiting 1 4 1)
+    ∷ unsound (waiting 0 4 2)
+    ∷ third (waiting 4 4 2) nobody (waiting 4 4 1)
+    ∷ unsound (waiting 5 4 2)
+    ∷ third (waiting 4 4 1) nobody (running 4 4 0 4)
+    ∷ unsound (waiting 4 4 0)
+    ∷ []
+
+-- R7, R35: the last tick is reached, and not left
 abbrev lastTick : StepCase
 lastTick = steps (tableOf (2 ^ 48 - 1) (running 1 4 0 1 ∷ [])) (ran 0 ∷ refused 15 0 ∷ []) (tableOf (2 ^ 48) (running 1 4 1 0 ∷ []))
 
 unfoldable pub stepCases : List StepCase
-stepCases = caseA ∷ equalEnds ∷ leastEnd ∷ renewal ∷ starts ∷ endsShort ∷ unsoundFirst ∷ lateFirst ∷ lastTick ∷ []
+stepCases = caseA ∷ equalEnds ∷ leastEnd ∷ renewal ∷ starts ∷ endsShort ∷ lowestShort ∷ lastTick ∷ (orders ++ soundness)
 
 -- what n steps of t say, and the table that they leave
 abbrev pub stepped : ℕ → Table → List (Said (Option ℕ)) × Table
 stepped zero t = ([], t)
 stepped (suc n) t = let r = stepped n (stepOf t .table) in (saysRan (stepOf t .outcome) ∷ r .0, r .1)
 
+-- R44 to R48: each table with its steps
 pub all-step-cases : map (λ (c : StepCase). stepped (length (c .says)) (c .before)) stepCases ≡ map (λ (c : StepCase). (c .says, c .after)) stepCases
 unfolding lowest chosen advance stepOf stepCases
 all-step-cases = refl

@@ -37,6 +37,7 @@ same-bits (suc n) v w h g e =
     same-bits n (v / 2) (w / 2) (omega (arith, pow-succ' 2 n)) (omega (arith, pow-succ' 2 n)) (λ k l. rw (half v k, half w k) (e (suc k) (omega arith))) in
     omega arith
 
+-- R49: there is only one ready word
 pub word-unique : (l : List Slot) (v w : ℕ) → ReadyWord l v → ReadyWord l w → v ≡ w
 word-unique l v w p q = same-bits (length l) v w (p .small) (q .small) (λ k h. p .bits k h ∙ sym (q .bits k h))
 

@@ -1,4 +1,4 @@
--- Admitting: the table admitted at any start, and what admit hands back.
+-- Admitting, R42 and R43: the table admitted at any start, and what admit hands back.
 use Prim.Native.Nat.{ℕ, _-_}
 use mathlib.Core.List.{List}
 use mathlib.Core.Option.{Option, none, some}
@@ -20,7 +20,7 @@ use Rattle.lines.specs.Ask.{askOf}
 abbrev pub fresh : (C T : ℕ) → Held
 fresh C T = Running (record { need = C; period = T; age = 0; remaining = C })
 
--- "It runs with age 0 and remaining Cn if the start is t0; else it waits start − t0 ticks."
+-- R43: the new line runs at once where there is nothing to wait for, else it waits
 abbrev pub newLine : (Cn Tn wait : ℕ) → Held
 newLine Cn Tn w = pick (ltb 0 w) (Waiting (record { need = Cn; period = Tn; wait = w })) (fresh Cn Tn)
 
@@ -29,7 +29,7 @@ abbrev pub putAt : Option ℕ → Held → List Slot → List Slot
 putAt none h l = l
 putAt (some k) h l = set l k (record { held = h })
 
--- "every running line has its T' for its period, with age and remaining kept; the new line stands in the lowest empty slot", started at r
+-- R42, R43: each running line at its T', and the new line, started at r, in the lowest empty slot
 abbrev pub admittedAt : Table → Request → (r : ℕ) → Table
 admittedAt t q r =
     record {
@@ -37,10 +37,11 @@ admittedAt t q r =
       slots = putAt (lowestOf isNothing (t .slots)) (newLine (q .need) (q .period) (r - t .clock)) (asked t q);
     }
 
--- "Admit answers as ask does"; a refusal leaves the table untouched
+-- R42, R17: the same answer as ask's, with the new table or after a refusal the old one
 abbrev pub admitWith : Table → Request → Answer → Admitted
 admitWith t q (Start r) = record { table = admittedAt t q r; answer = Start r }
 admitWith t q (Refused x) = record { table = t; answer = Refused x }
 
+-- R42: what admit hands back
 abbrev pub admitOf : Table → Request → Admitted
 admitOf t q = admitWith t q (askOf t q)

@@ -1,4 +1,4 @@
--- The answer to a request, computed: the tests in their order, and the least smooth start as the greatest of the bounds that the ends put on it.
+-- The answer to a request, R41, computed: the tests in their order, and the least smooth start as the greatest of the bounds that the ends put on it.
 use Prim.Native.Nat.{ℕ, zero, suc, _+_, _-_, _*_, _/_, _%_, _^_, min, max}
 use mathlib.Core.Bool.{Bool, true, false, not}
 use mathlib.Core.List.{List, [], _∷_, _++_}
@@ -17,7 +17,7 @@ use Rattle.lines.specs.Sound.{sound}
 use Rattle.lines.specs.Demand.{firstEnd, demands, excess, lastEnd}
 use Rattle.lines.specs.Grounds.{entry, asked, frame, share, owed, full}
 
--- what the document says for each case of ask's answer
+-- R41: what each case of ask's answer says
 abbrev pub says : Answer → Said ℕ
 says (Start r) = gives r
 says (Refused x) = refuses x
@@ -68,10 +68,11 @@ anyOf test (d ∷ ds) = pick (test d) true (anyOf test ds)
 unfoldable pub start : (t0 : ℕ) → List Slot → (Cn Tn : ℕ) → ℕ
 start t0 l Cn Tn = greatest (λ d. bound Cn Tn (lastEnd t0 l) d (slack t0 l d)) t0 (endsOf t0 (lastEnd t0 l) l)
 
--- the running lines alone have excess at d
+-- R30: the running lines alone have excess at d
 abbrev pub shortAt : (t0 : ℕ) → List Slot → (d : ℕ) → Bool
 shortAt t0 l d = ltb 0 (excess (demands t0 l d) t0 d)
 
+-- R25: the period would be shortened to p
 abbrev pub shrunk : ℕ → Held → Bool
 shrunk p Nothing = false
 shrunk p (Running r) = ltb p (r .period)
@@ -91,7 +92,7 @@ abbrev pub refusedIf : Bool → ℕ → Answer → Answer
 refusedIf true n a = Refused (refusal n 0)
 refusedIf false n a = a
 
--- grounds 7 to 10 with the frame F over the lines l at their T', or the start
+-- R27 to R30 with the frame F over the lines l at their T', or R14: the start
 unfoldable pub loadOf : (t0 F : ℕ) → List Slot → (Cn Tn : ℕ) → Answer
 loadOf t0 F l Cn Tn =
     refusedIf (ltb 1000000 F) 7
@@ -100,7 +101,7 @@ loadOf t0 F l Cn Tn =
     (refusedIf (anyOf (shortAt t0 l) (endsOf t0 (lastEnd t0 l) l)) 10
     (Start (start t0 l Cn Tn)))))
 
--- grounds 1 to 6, then the others
+-- R41, R18: the grounds R21 to R26, then the others
 unfoldable pub askOf : Table → Request → Answer
 askOf t q =
     refusedIf (ltb (2 ^ 48 - 65536) (t .clock)) 1

@@ -1,4 +1,4 @@
--- What the board shows: the front lamp and the ready word.
+-- What the board shows: the front lamp, R50, and the ready word, R49.
 use Prim.Native.Nat.{ℕ, _/_, _%_, _^_, _<_}
 use mathlib.Core.Path.{_≡_}
 use mathlib.Core.Bool.{Bool, true, false}
@@ -12,7 +12,7 @@ use Rattle.lines.specs.Step.{isOwed}
 abbrev pub within : (low high n : ℕ) → Bool
 within a b n = both (leb a n) (leb n b)
 
--- "1 to 3 one blink, 4 to 6 two, 7 to 10 three, 11 to 13 four, 14 and 15 five, any other number none"
+-- R50: the blinks by the range in which the number is
 unfoldable pub blinks : ℕ → ℕ
 blinks n = pick (within 1 3 n) 1 (pick (within 4 6 n) 2 (pick (within 7 10 n) 3 (pick (within 11 13 n) 4 (pick (within 14 15 n) 5 0))))
 
@@ -20,7 +20,7 @@ abbrev pub bit : Bool → ℕ
 bit true = 1
 bit false = 0
 
--- "bit k of a sixteen-bit word is set exactly when slot k runs a line with remaining above 0, slot 0 lowest"
+-- R49: w has a bit for each slot, set where the slot is owed, and no other
 pub record ReadyWord (l : List Slot) (w : ℕ) : Type 0 where
   pub bits : (k : ℕ) → k < length l → w / 2 ^ k % 2 ≡ bit (isOwed (at l k))
   pub small : w < 2 ^ length l

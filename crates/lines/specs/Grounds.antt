@@ -1,4 +1,4 @@
--- The grounds on which ask and admit refuse, 1 to 10 in their order with their places, and what a right answer is.
+-- The grounds on which ask and admit refuse, R21 to R30 in their order with their places, and what a right answer is.
 use Prim.Native.Nat.{ℕ, suc, _+_, _-_, _*_, _/_, _^_, _≤_, _<_}
 use mathlib.Core.Path.{_≡_}
 use mathlib.Core.Logic.{_⊎_}
@@ -15,11 +15,11 @@ use Rattle.lines.specs.Slots.{at, total, Waits, Lowest, refusal, Said, g
 use Rattle.lines.specs.Sound.{Sound}
 use Rattle.lines.specs.Demand.{demands, newDemand, excess, Least}
 
--- the T' that the request has for slot i
+-- R6: the T' that the request has for slot i
 abbrev pub entry : Request → ℕ → ℕ
 entry q i = getD (q .stretched) i 0
 
--- a running line with p for its period, its age and what remains kept
+-- R42: a running line with p for its period, its age and what remains kept
 abbrev pub stretch : ℕ → Held → Held
 stretch p Nothing = Nothing
 stretch p (Running r) = Running (record { need = r .need; period = p; age = r .age; remaining = r .remaining })
@@ -29,11 +29,11 @@ unfoldable pub stretched : List Slot → (ℕ → ℕ) → List Slot
 stretched [] p = []
 stretched (s ∷ l) p = record { held = stretch (p 0) (s .held) } ∷ stretched l (λ i. p (suc i))
 
--- the lines as the request would have them: each running line at its T'
+-- R42: the lines as the request would have them: each running line at its T'
 abbrev pub asked : Table → Request → List Slot
 asked t q = stretched (t .slots) (entry q)
 
--- "T' < T for a running line"
+-- R25: a running line would have a shorter period
 abbrev pub Shrunk : ℕ → Held → Type 0
 Shrunk p Nothing = ⊥
 Shrunk p (Running r) = p < r .period
@@ -49,71 +49,71 @@ unfoldable pub periodsIn : List Slot → List ℕ
 periodsIn [] = []
 periodsIn (s ∷ l) = periodIn (s .held) ++ periodsIn l
 
--- "The frame, the least common multiple of all T' and Tn."
+-- R8: the least common multiple of Tn and the T' of the running lines
 abbrev pub frame : List Slot → ℕ → ℕ
 frame l Tn = frameOf (Tn ∷ periodsIn l)
 
--- C/T' times F
+-- R16, R28: C/T' times F
 abbrev pub share : ℕ → Held → ℕ
 share F Nothing = 0
 share F (Running r) = r .need * (F / r .period)
 share F (Waiting w) = 0
 
--- c + C × a / T', times F
+-- R16, R29: c + C × a / T', times F
 abbrev pub owed : ℕ → Held → ℕ
 owed F Nothing = 0
 owed F (Running r) = F * r .remaining + r .need * (F / r .period) * r .age
 owed F (Waiting w) = 0
 
--- C, times F
+-- R16, R29: C, times F
 abbrev pub full : ℕ → Held → ℕ
 full F Nothing = 0
 full F (Running r) = F * r .need
 full F (Waiting w) = 0
 
--- Each ground, with its place k. Grounds 8 and 9 are "tested in whole numbers, every term and the limit taken times the frame".
+-- Each ground, with its place k.
 
--- 1: "clock above 2^48 − 65,536"
+-- R21, R7: too late to ask
 abbrev pub Late : Table → Request → ℕ → Type 0
 Late t q k = (2 ^ 48 - 65536 < t .clock) × (k ≡ 0)
 
--- 2: "no slot holds nothing"
+-- R22: every slot holds a line
 abbrev pub Full : Table → Request → ℕ → Type 0
 Full t q k = ((i : ℕ) → i < length (t .slots) → at (t .slots) i ≡ Nothing → ⊥) × (k ≡ 0)
 
--- 3: "a slot holds a waiting line", at the lowest such slot
+-- R23: a line waits
 abbrev pub Waiters : Table → Request → ℕ → Type 0
 Waiters t q = Lowest (λ i. Waits (at (t .slots) i)) (length (t .slots))
 
--- 4: "an unsound line", at the lowest such slot
+-- R24: a line is not sound
 abbrev pub Unsound : Table → Request → ℕ → Type 0
 Unsound t q = Lowest (λ i. Sound (at (t .slots) i) → ⊥) (length (t .slots))
 
--- 5: "T' < T for a running line", at the lowest such slot
+-- R25: a period would be shortened
 abbrev pub Shorter : Table → Request → ℕ → Type 0
 Shorter t q = Lowest (λ i. Shrunk (entry q i) (at (t .slots) i)) (length (t .slots))
 
--- 6: "not 1 ≤ Cn ≤ Tn"
+-- R26: the new line does not fit its period
 abbrev pub Misfit : Table → Request → ℕ → Type 0
 Misfit t q k = ((1 ≤ q .need) × (q .need ≤ q .period) → ⊥) × (k ≡ 0)
 
--- 7: "frame above 1,000,000"
+-- R27, R8: the frame is above its limit
 abbrev pub Wide : Table → Request → ℕ → Type 0
 Wide t q k = (1000000 < frame (asked t q) (q .period)) × (k ≡ 0)
 
--- 8: "sum of C/T' and Cn/Tn above 1"
+-- R28: the shares, taken times the frame, add up to more than the frame
 abbrev pub Overload : Table → Request → ℕ → Type 0
 Overload t q k =
     let F = frame (asked t q) (q .period) in
     (F < total (share F) (asked t q) + q .need * (F / q .period)) × (k ≡ 0)
 
--- 9: "sum over running lines of (c − C + C × a / T') above 0"
+-- R29: the lines, taken times the frame, are behind their shares
 abbrev pub Behind : Table → Request → ℕ → Type 0
 Behind t q k =
     let F = frame (asked t q) (q .period) in
     (total (full F) (asked t q) < total (owed F) (asked t q)) × (k ≡ 0)
 
--- 10: "the running lines alone, at their T', have excess above 0 at some t"
+-- R30: some tick has an excess without the new line
 abbrev pub Short : Table → Request → ℕ → Type 0
 Short t q k =
     ((x : ℕ) × (t .clock ≤ x) × (0 < excess (demands (t .clock) (asked t q) x) (t .clock) x)) × (k ≡ 0)
@@ -126,7 +126,7 @@ pub record Row : Type 1 where
 abbrev pub row : ℕ → (Table → Request → ℕ → Type 0) → Row
 row n H = record { number = n; Holds = H }
 
--- "Ask and admit test 1 to 10 in that order"
+-- R18: the grounds in their order
 abbrev pub grounds : List Row
 grounds =
     row 1 Late
@@ -141,21 +141,22 @@ grounds =
     ∷ row 10 Short
     ∷ []
 
--- "and the first that holds is given"
+-- R18: x is the refusal of the first ground that holds
 abbrev pub FirstOf : List Row → Table → Request → Refusal → Type 0
 FirstOf [] t q x = ⊥
 FirstOf (r ∷ rs) t q x =
     ((k : ℕ) × r .Holds t q k × (x ≡ refusal (r .number) k)) ⊎ (((k : ℕ) → r .Holds t q k → ⊥) × FirstOf rs t q x)
 
--- none holds
+-- R18: no ground holds
 abbrev pub NoneOf : List Row → Table → Request → Type 0
 NoneOf [] t q = Unit {0}
 NoneOf (r ∷ rs) t q = ((k : ℕ) → r .Holds t q k → ⊥) × NoneOf rs t q
 
--- what ask and admit are to answer: "the first that holds is given. Otherwise a smooth start exists and is given", the least one
+-- what ask and admit are to answer: the first ground's refusal, or where none holds the least smooth start
 abbrev pub AnswersBy : List Row → Table → Request → Said ℕ → Type 0
 AnswersBy rs t q (gives r) = NoneOf rs t q × Least (t .clock) (asked t q) (newDemand (q .need) (q .period)) r
 AnswersBy rs t q (refuses x) = FirstOf rs t q x
 
+-- R41, R18, R14: a is a right answer
 abbrev pub Answers : Table → Request → Said ℕ → Type 0
 Answers t q a = AnswersBy grounds t q a

@@ -1,4 +1,4 @@
--- The words of document 01, in its order.
+-- The rules of docs/RULES.md on table, ask, admit, step and board, as definitions, in its order.
 pub mod Slots
 pub mod Sound
 pub mod Demand

@@ -1,4 +1,4 @@
--- Runs: asks, admissions and steps in any order, and the list of slots that ran.
+-- Runs, R73: asks, admissions and steps in any order, and the list of slots that ran.
 use Prim.Native.Nat.{ℕ, _+_}
 use mathlib.Core.List.{List, [], _∷_, _++_}
 use mathlib.Core.Option.{Option, none, some}
@@ -11,13 +11,13 @@ use Rattle.lines.specs.Slots.{pick, slotOf}
 use Rattle.lines.specs.Admit.{admitOf}
 use Rattle.lines.specs.Step.{stepOf}
 
--- what can be done to a table
+-- R73: what can be done to a table
 pub data Act : Type 0 where
   asking : Request → Act
   admitting : Request → Act
   stepping : Act
 
--- the table after it; ask changes nothing
+-- R41, R42, R48: the table after it; ask changes nothing
 abbrev pub after : Act → Table → Table
 after (asking q) t = t
 after (admitting q) t = admitOf t q .table
@@ -33,7 +33,7 @@ ranBy (asking q) t = []
 ranBy (admitting q) t = []
 ranBy stepping t = ranIn (stepOf t .outcome)
 
--- the table at the end of a run, refusals on the way included
+-- R73: the table at the end of a run, refusals on the way included
 abbrev pub run : List Act → Table → Table
 run [] t = t
 run (a ∷ rest) t = run rest (after a t)

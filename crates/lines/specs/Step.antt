@@ -1,4 +1,4 @@
--- The step of the pump: who gets the tick, what a tick does to a line, and the refusals 15, 4, 14.
+-- The step of the pump, R44 to R48: who gets the tick, what a tick does to a line, and the refusals 15, 4, 14.
 use Prim.Native.Nat.{ℕ, zero, suc, _+_, _-_, _^_, _≤_, _<_}
 use mathlib.Core.Bool.{Bool, false, not}
 use mathlib.Core.List.{List, map}
@@ -18,7 +18,7 @@ use Rattle.lines.specs.Slots.{pick, at, lowestOf, slotOf, refusal, Said,
 use Rattle.lines.specs.Sound.{sound}
 use Rattle.lines.specs.Admit.{fresh, putAt}
 
--- what the document says for each case of a step's answer: the slot that ran or none, or the refusal
+-- R48: what each case of a step's answer says: the slot that ran or none, or the refusal
 abbrev pub saysRan : Outcome → Said (Option ℕ)
 saysRan (Ran w) = gives (slotOf w)
 saysRan (Refused x) = refuses x
@@ -27,7 +27,7 @@ abbrev pub whichOf : Option ℕ → Which
 whichOf none = None
 whichOf (some k) = At k
 
--- "running lines with c above 0", said and computed
+-- R44: a running line that is still owed ticks, said and computed
 abbrev pub Owed : Held → Type 0
 Owed Nothing = ⊥
 Owed (Running r) = 0 < r .remaining
@@ -38,7 +38,7 @@ isOwed Nothing = false
 isOwed (Running r) = ltb 0 (r .remaining)
 isOwed (Waiting w) = false
 
--- T − a
+-- R44: T − a, the ticks to the end of the period
 abbrev pub toEnd : Held → ℕ
 toEnd Nothing = 0
 toEnd (Running r) = r .period - r .age
@@ -49,14 +49,14 @@ abbrev pub Earliest : Option ℕ → List Slot → Type 0
 Earliest none l = (i : ℕ) → i < length l → Owed (at l i) → ⊥
 Earliest (some j) l = (j < length l) × Owed (at l j) × ((i : ℕ) → i < length l → Owed (at l i) → toEnd (at l j) ≤ toEnd (at l i))
 
--- "the one with the least T − a gets the tick; equal values go to the lowest slot": among the first n slots
+-- R44: among the first n slots the tick goes to the least end, and the lowest of equals
 abbrev pub Chosen : ℕ → Option ℕ → List Slot → Type 0
 Chosen n none l = (i : ℕ) → i < n → Owed (at l i) → ⊥
 Chosen n (some j) l =
     (j < n) × Owed (at l j) × ((i : ℕ) → i < n → Owed (at l i) → toEnd (at l j) ≤ toEnd (at l i))
     × ((i : ℕ) → i < j → Owed (at l i) → toEnd (at l j) < toEnd (at l i))
 
--- the same, computed: slot n against the choice among those below it
+-- R44, computed: slot n against the choice among those below it
 abbrev pub sooner : Option ℕ → ℕ → List Slot → Option ℕ
 sooner none n l = some n
 sooner (some j) n l = pick (ltb (toEnd (at l n)) (toEnd (at l j))) (some n) (some j)
@@ -68,7 +68,7 @@ chosen (suc n) l = pick (isOwed (at l n)) (sooner (chosen n l) n l) (chosen n l)
 abbrev pub choose : List Slot → Option ℕ
 choose l = chosen (length l) l
 
--- "Its c falls by one."
+-- R45: it got the tick
 abbrev pub served : Held → Held
 served Nothing = Nothing
 served (Running r) = Running (record { need = r .need; period = r .period; age = r .age; remaining = r .remaining - 1 })
@@ -78,13 +78,13 @@ abbrev pub serve : Option ℕ → List Slot → List Slot
 serve none l = l
 serve (some j) l = putAt (some j) (served (at l j)) l
 
--- "A line whose age is now T has ended its period: with c above 0 this is refusal 14": said of a line before its age rises
+-- R46, R34: the period ends with this tick and ticks are still owed; said of a line before its age rises
 abbrev pub short : Held → Bool
 short Nothing = false
 short (Running r) = pick (ltb (r .age + 1) (r .period)) false (ltb 0 (r .remaining))
 short (Waiting w) = false
 
--- "every age rises by one, every wait falls by one"; a period that has ended, and a line whose wait is now 0, begin with age 0, c = C
+-- R45 to R47: a tick older, or at the beginning of a period where one ends or a wait is over
 abbrev pub passed : Held → Held
 passed Nothing = Nothing
 passed (Running r) =
@@ -100,7 +100,7 @@ passedSlot s = record { held = passed (s .held) }
 abbrev pub pass : List Slot → List Slot
 pass l = map passedSlot l
 
--- "a refused step names none", and its table is untouched
+-- R48, R17: a refused step names no slot and keeps the table
 abbrev pub refusedStep : Table → (number place : ℕ) → Stepped
 refusedStep t n k = record { table = t; outcome = Refused (refusal n k) }
 
@@ -109,13 +109,13 @@ abbrev pub stepUnless : Option ℕ → ℕ → Table → Stepped → Stepped
 stepUnless none n t s = s
 stepUnless (some k) n t s = refusedStep t n k
 
--- a tick in which the slot named, or none, is served
+-- R45, R48: a tick in which the slot named, or none, is served
 unfoldable pub advance : Option ℕ → Table → Stepped
 advance o t =
     stepUnless (lowestOf short (serve o (t .slots))) 14 t
     (record { table = record { clock = t .clock + 1; slots = pass (serve o (t .slots)) }; outcome = Ran (whichOf o) })
 
--- "Step tests 15, 4, then 14."
+-- R48, R35, R7: 15, then 4, then 14
 unfoldable pub stepOf : Table → Stepped
 stepOf t =
     pick (leb (2 ^ 48) (t .clock)) (refusedStep t 15 0)

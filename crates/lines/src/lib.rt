@@ -9,7 +9,7 @@ ghost use Rattle.lines.specs.Board.{blinks, ReadyWord};
 mod line; // what a tick does to a line
 mod pump; // the step
 
-// A running line: its need, its period, its age (ticks since the period began) and what remains of the need.
+// R3: a running line: its need, its period, its age (ticks since the period began) and what remains of the need.
 pub struct Run {
     pub need: u16,
     pub period: u16,
@@ -17,13 +17,14 @@ pub struct Run {
     pub remaining: u16,
 }
 
-// A waiting line starts after `wait` ticks.
+// R3: a waiting line starts after `wait` ticks.
 pub struct Wait {
     pub need: u16,
     pub period: u16,
     pub wait: u16,
 }
 
+// R2: what a slot holds.
 pub enum Held {
     Nothing,
     Running(Run),
@@ -34,31 +35,32 @@ pub struct Slot {
     pub held: Held,
 }
 
+// R2: the clock and the slots.
 pub struct Table {
     pub clock: u64,
     pub slots: [Slot; 16],
 }
 
-// A stretched period for each slot, and the new line. Entries of slots that hold no running line are not looked at.
+// R6: a stretched period for each slot, and the new line. Entries of slots that hold no running line are not looked at.
 pub struct Request {
     pub stretched: [u16; 16],
     pub need: u16,
     pub period: u16,
 }
 
-// A numbered refusal. It is made by `Refusal::new` alone, so that it can grow.
+// R17: a number and a place. A refusal is made by `Refusal::new` alone, so that it can grow.
 pub struct Refusal {
     pub number: u16,
     pub place: u64,
 }
 
-// What ask answers.
+// R41: what ask answers.
 pub enum Answer {
     Start(u64),
     Refused(Refusal),
 }
 
-// What admit answers: the table as it then is, and ask's answer.
+// R42: what admit answers: the table as it then is, and ask's answer.
 pub struct Admitted {
     pub table: Table,
     pub answer: Answer,
@@ -70,19 +72,20 @@ pub enum Which {
     At(usize),
 }
 
-// What a step answers: the slot that ran, or none.
+// R48: what a step answers: the slot that ran, or none.
 pub enum Outcome {
     Ran(Which),
     Refused(Refusal),
 }
 
-// The table as it is after a step, and what the step answers.
+// R48: the table as it is after a step, and what the step answers.
 pub struct Stepped {
     pub table: Table,
     pub outcome: Outcome,
 }
 
 impl Refusal {
+    // R17: the refusal with this number and place.
     pub fn new(number: u16, place: u64) -> Refusal
         ensures { λ r. ⌜ r ≡ refusal number place ⌝ }
     {
@@ -94,7 +97,7 @@ impl Refusal {
 }
 
 impl Run {
-    // "A running line is sound when 1 ≤ C ≤ T, c ≤ C and a < T."
+    // R5: a running line.
     pub fn sound(self) -> bool
         ensures { λ r. ⌜ r ≡ soundRun self ⌝ }
     {
@@ -112,7 +115,7 @@ impl Run {
 }
 
 impl Wait {
-    // "A waiting one is sound when 1 ≤ C ≤ T and w ≥ 1."
+    // R5: a waiting line.
     pub fn sound(self) -> bool
         ensures { λ r. ⌜ r ≡ soundWait self ⌝ }
     {
@@ -127,6 +130,7 @@ impl Wait {
 }
 
 impl Slot {
+    // R5: whatever the slot holds.
     pub fn sound(self) -> bool
         ensures { λ r. ⌜ r ≡ sound (self .held) ⌝ }
     {
@@ -138,7 +142,7 @@ impl Slot {
         }
     }
 
-    // A running line with remaining above 0.
+    // R44: a running line that is still owed ticks.
     pub fn owed(self) -> bool
         ensures { λ r. ⌜ r ≡ isOwed (self .held) ⌝ }
     {
@@ -174,7 +178,7 @@ impl Slot {
 }
 
 impl Table {
-    // "clock 0 and sixteen slots that hold nothing"
+    // R4: clock 0, and nothing in any slot.
     pub fn empty() -> Table
         ensures { λ r. ⌜ r ≡ emptyTable ⌝ }
     {
@@ -188,7 +192,7 @@ impl Table {
         }
     }
 
-    // Refusal 4: "an unsound line", "lowest such slot".
+    // R24, R19: the lowest slot whose line is not sound.
     pub fn lowest_unsound(self) -> Which
         ensures { λ r. ⌜ slotOf r ≡ lowestOf (λ h. not (sound h)) (self .slots) ⌝ }
     {
@@ -204,7 +208,7 @@ impl Table {
         Which::None
     }
 
-    // Refusal 3: "a slot holds a waiting line", "lowest such slot".
+    // R23, R19: the lowest slot whose line waits.
     pub fn lowest_waiting(self) -> Which
         ensures { λ r. ⌜ slotOf r ≡ lowestOf isWaiting (self .slots) ⌝ }
     {
@@ -219,7 +223,7 @@ impl Table {
         Which::None
     }
 
-    // "the new line stands in the lowest empty slot"
+    // R43, R22: the lowest slot that holds nothing.
     pub fn lowest_empty(self) -> Which
         ensures { λ r. ⌜ slotOf r ≡ lowestOf isNothing (self .slots) ⌝ }
     {
@@ -234,7 +238,7 @@ impl Table {
         Which::None
     }
 
-    // "bit k of a sixteen-bit word is set exactly when slot k runs a line with remaining above 0, slot 0 lowest"
+    // R49: a bit for each slot that is owed, slot 0 lowest.
     pub fn ready_word(self) -> u16
         ensures { λ r. ⌜ ReadyWord (self .slots) r ⌝ }
     {
@@ -251,7 +255,7 @@ impl Table {
     }
 }
 
-// "The front lamp shows the refusal by its range": the blinks for its number.
+// R50: the blinks for a refusal's number.
 pub fn lamp(number: u16) -> u8
     ensures { λ r. ⌜ r ≡ blinks number ⌝ }
 {

@@ -1,4 +1,4 @@
-// What a tick does to a line: the one that is served, the period that goes on or ends, the wait that falls, the order in which lines are served.
+// What a tick does to a line, R45 to R47, and the order in which lines are served, R44.
 ghost use mathlib.Core.Path.{_≡_};
 ghost use Prim.Native.Nat.{_+_, _<_};
 ghost use lib.Dec.{ltb};
@@ -24,7 +24,7 @@ impl Run {
         }
     }
 
-    // "Its c falls by one."
+    // R45: it got the tick.
     fn served(self) -> Run
         ensures { λ r. ⌜ Running r ≡ served (Running self) ⌝ }
     {
@@ -49,7 +49,7 @@ impl Run {
         next < period
     }
 
-    // The period ends with this tick, and ticks are still owed.
+    // R46, R34: the period ends with this tick, and ticks are still owed.
     fn short(self) -> bool
         ensures { λ r. ⌜ r ≡ short (Running self) ⌝ }
     {
@@ -60,7 +60,7 @@ impl Run {
         0 < self.remaining
     }
 
-    // "every age rises by one"; a line whose age is now T begins a period.
+    // R45, R46: a tick older, or at the beginning of the next period.
     fn passed(self) -> Run
         ensures { λ r. ⌜ Running r ≡ passed (Running self) ⌝ }
     {
@@ -76,7 +76,7 @@ impl Run {
         Run::fresh(self.need, self.period)
     }
 
-    // Ticks to the end of the period where a tick is owed, else 65,536, which is above every period.
+    // R44: ticks to the end of the period where a tick is owed, else 65,536, which is above every period.
     fn key(self) -> u32
         ensures { λ r. ⌜ (r ≡ pick (isOwed (Running self)) (toEnd (Running self)) 65536) × (Owed (Running self) → r < 65536) ⌝ }
     {
@@ -92,7 +92,7 @@ impl Run {
 }
 
 impl Wait {
-    // "every wait falls by one"; "A line whose wait is now 0 runs with age 0, c = C."
+    // R45, R47: one tick less to wait, or it runs.
     fn passed(self) -> Held
         ensures { λ r. ⌜ r ≡ passed (Waiting self) ⌝ }
     {

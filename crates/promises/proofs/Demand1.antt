@@ -1,42 +1,132 @@
--- The first demand is kept: each part is a corollary of the operation's definition.
-use mathlib.Core.Path.{_≡_, refl, ap}
+-- The first demand is kept: one answer by the uniqueness theorems, and what a refusal keeps by the operations' definitions.
+use mathlib.Core.Path.{_≡_, refl, sym, ap, ap₂, _∙_, subst}
+use mathlib.Core.Bool.{Bool, true, false}
+use mathlib.Core.List.{List}
+use mathlib.Core.Option.{Option, none, some}
 use Prim.Native.Nat.{ℕ}
 use native.Mathlib.Omega.{arith}
+use lib.IntN.{ℤ, negsuc}
+use lib.ListN.{length}
 use Rattle.lines.specs.declared.Table.{Table}
 use Rattle.lines.specs.declared.Request.{Request}
 use Rattle.lines.specs.declared.Refusal.{Refusal}
 use Rattle.lines.specs.declared.Answer.{Answer}
 use Rattle.lines.specs.declared.Answer.the-variants.{Start, Refused}
+use Rattle.lines.specs.declared.Admitted.{Admitted}
+use Rattle.lines.specs.declared.Stepped.{Stepped}
 use Rattle.lines.specs.declared.Outcome as outcome
 use Rattle.lines.specs.declared.Outcome.{Outcome}
-use Rattle.lines.specs.Slots.{Said, refuses}
+use Rattle.lines.specs.Slots.{pick, Said, gives, refuses}
+use Rattle.lines.specs.Grounds.{grounds, FirstOf, Answers}
 use Rattle.lines.specs.Ask.{says, askOf}
 use Rattle.lines.specs.Admit.{admitWith, admitOf}
 use Rattle.lines.specs.Step.{saysRan, stepOf}
 use Rattle.lines.proofs.Step.{refused-keeps}
+use Rattle.lines.proofs.Word.{word-unique}
+use Rattle.theory.proofs.Answers.{ask-answers}
+use Rattle.theory.proofs.Unique.{answers-unique}
+use Rattle.ask.specs.Asked.{Asked, Admits}
+use Rattle.ask.proofs.Right.{asked-unique, admits-unique}
 use Rattle.card.specs.Card.{Card, cardOf}
-use Rattle.card.specs.Answers.{handed, saidRead, filled}
-use Rattle.driver.proofs.Keeps.{refused-drive-keeps}
-use Rattle.promises.specs.Demand1.{RefusalKeeps}
+use Rattle.card.specs.Reading.{readOf}
+use Rattle.card.specs.Answers.{handed, saidRead, writeOf, bufferOf, filled}
+use Rattle.card.proofs.Answers.{said-handed, one-reading, one-writing}
+use Rattle.driver.proofs.Keeps.{refused-drive-keeps, drive-determined}
+use Rattle.reply.specs.Line.{lineOf, laid, fits}
+use Rattle.reply.proofs.Line.{reply-settled, put-reply-settled}
+use Rattle.house.specs.House.{lineFor, numberOf, saidPut, rewriteFor, rewrittenFor}
+use Rattle.promises.specs.Contracts.{Drives, Writes, Puts, AnswersCard, Rewrites}
+use Rattle.promises.specs.Demand1.{FixedAnswer, RefusalKeeps, One, Both}
 
-admit-keeps : (t : Table) (q : Request) (x : Refusal) → says (admitOf t q .answer) ≡ refuses x → admitOf t q .table ≡ t
-admit-keeps t q x = go (askOf t q)
+-- ---- one fixed answer
+
+-- an equation allows one
+by-equation : {A : Type 0} (v : A) → One (λ (x : A). x ≡ v)
+by-equation v x y p q = p ∙ sym q
+
+-- and two equations one pair
+by-equations : {A B : Type 0} (v : A) (w : B) → Both (λ (x : A) (m : B). (x ≡ v) × (m ≡ w))
+by-equations v w x y m n p q = (p .0 ∙ sym (q .0), p .1 ∙ sym (q .1))
+
+-- R71: every input has one answer
+pub fixed-answer : FixedAnswer
+fixed-answer = record {
+  ask-met = λ t q. (askOf t q, ask-answers t q);
+  ask-said = answers-unique;
+  ask = asked-unique;
+  admit = admits-unique;
+  step = λ t. by-equation (stepOf t);
+  drive = λ t x y m n p q. drive-determined t x y m n p q;
+  ready-word = λ t. word-unique (t .slots);
+  lamp = λ n. by-equation _;
+  read = one-reading;
+  write = one-writing;
+  reply-to = λ a. reply-settled (lineOf (says a));
+  put-reply = λ a. put-reply-settled (lineOf (says a));
+  answer-card = λ card l. by-equations _ _;
+  rewrite-card = λ card l. by-equations _ _;
+  run-card = λ card ticks. by-equation _;
+}
+
+-- ---- what a refusal keeps
+
+-- a right answer that refuses is the first ground's refusal
+first-refused : (t : Table) (q : Request) (a : Answer) (x : Refusal) → Answers t q (says a) → says a ≡ refuses x → FirstOf grounds t q x
+first-refused t q a x h e = subst (Answers t q) e h
+
+admit-keeps : (t : Table) (q : Request) (m : Admitted) (x : Refusal) → m ≡ admitOf t q → says (m .answer) ≡ refuses x → m .table ≡ t
+admit-keeps t q m x e f = ap (λ (n : Admitted). n .table) e ∙ go (askOf t q) (ap (λ (n : Admitted). says (n .answer)) (sym e) ∙ f)
   where
     go : (a : Answer) → says (admitWith t q a .answer) ≡ refuses x → admitWith t q a .table ≡ t
-    go (Start r) e = let z : _≡_ {A = ℕ} 0 1 = cc in absurd (omega arith)
-    go (Refused y) e = refl
+    go (Start r) h = let z : _≡_ {A = ℕ} 0 1 = cc in absurd (omega arith)
+    go (Refused y) h = refl
 
 -- a step's answer that says a refusal is that refusal
 step-refused : (o : Outcome) (x : Refusal) → saysRan o ≡ refuses x → o ≡ Outcome.Refused x
 step-refused (Outcome.Ran w) x e = let z : _≡_ {A = ℕ} 0 1 = cc in absurd (omega arith)
 step-refused (Outcome.Refused y) x e = let z : y ≡ x = cc in ap Outcome.Refused z
 
+step-keeps : (t : Table) (s : Stepped) (x : Refusal) → s ≡ stepOf t → saysRan (s .outcome) ≡ refuses x → s .table ≡ t
+step-keeps t s x e f =
+    ap (λ (r : Stepped). r .table) e ∙ refused-keeps t x (step-refused (stepOf t .outcome) x (ap (λ (r : Stepped). saysRan (r .outcome)) (sym e) ∙ f))
+
+drive-keeps : (t : Table) (o : Outcome) (u : Table) (x : Refusal) → Drives t o u → saysRan o ≡ refuses x → u ≡ t
+drive-keeps t o u x h e = h .1 ∙ refused-drive-keeps t x (step-refused (stepOf t .outcome) x (ap saysRan (sym (h .0)) ∙ e))
+
+-- whether the line fits, the number below 0 or the missing length says that it does not
+put-kept : (b : Bool) (line l : List ℕ) → pick b (some (length line)) none ≡ none → pick b (laid line l) l ≡ l
+put-kept true line l e = let z : _≡_ {A = ℕ} 0 1 = cc in absurd (omega arith)
+put-kept false line l e = refl
+
+line-kept : (b : Bool) (line l : List ℕ) (k : ℕ) → numberOf (saidPut (pick b (some (length line)) none)) ≡ negsuc k → pick b (laid line l) l ≡ l
+line-kept true line l k e = let z : _≡_ {A = ℕ} 0 1 = cc in absurd (omega arith)
+line-kept false line l k e = refl
+
+-- whatever was read and written, a number below 0 says that no byte was
+card-kept : (s : Said Card) (l : List ℕ) (k : ℕ) → numberOf (rewriteFor s (length l)) ≡ negsuc k → rewrittenFor s l ≡ l
+card-kept (refuses x) l k e = refl
+card-kept (gives c) l k e = go (writeOf (c .table) (c .request) (length l)) e
+  where
+    go : (w : Said ℕ) → numberOf w ≡ negsuc k → filled (cardOf (c .table) (c .request)) l w ≡ l
+    go (gives n) h = let z : _≡_ {A = ℕ} 0 1 = cc in absurd (omega arith)
+    go (refuses x) h = refl
+
+-- R17: a refusal changes no table and no lent byte
 pub refusal-keeps : RefusalKeeps
 refusal-keeps = record {
-  ask = λ t q. refl;
-  admit = admit-keeps;
-  step = λ t x e. refused-keeps t x (step-refused (stepOf t .outcome) x e);
-  drive = λ t x e. refused-drive-keeps t x (step-refused (stepOf t .outcome) x e);
-  read = λ l x e. (ap (λ (s : Said Card). handed s .table) e, ap (λ (s : Said Card). handed s .request) e, ap (λ (s : Said Card). saidRead (handed s)) e);
-  write = λ t q l x e. ap (filled (cardOf t q) l) e;
+  ask = λ t q a x h e. (
+    first-refused t q a x (h .answers) e,
+    λ m g. let f : says (m .answer) ≡ refuses x = answers-unique t q (says (m .answer)) (says a) (g .answers) (h .answers) ∙ e in
+        (f, admit-keeps t q m x (g .computed) f),
+  );
+  admit = λ t q m x h e. (first-refused t q (m .answer) x (h .answers) e, admit-keeps t q m x (h .computed) e);
+  step = step-keeps;
+  drive = drive-keeps;
+  read = λ card c x h e.
+      let f : readOf card ≡ refuses x = sym (said-handed (readOf card)) ∙ ap saidRead (sym h) ∙ e in
+      (f, rw h (ap (λ (s : Said Card). handed s .table) f), rw h (ap (λ (s : Said Card). handed s .request) f));
+  write = λ t q l a m x h e. h .1 ∙ ap (filled (cardOf t q) l) (sym (h .0) ∙ e);
+  put-reply = λ a l w m h e. h .1 ∙ put-kept (fits (lineOf (says a)) l) (lineOf (says a)) l (sym (h .0) ∙ e);
+  answer-card = λ card l n m k h e. h .1 ∙ line-kept (fits (lineFor card) l) (lineFor card) l k (sym (h .0) ∙ e);
+  rewrite-card = λ card l n m k h e. h .1 ∙ card-kept (readOf card) l k (sym (h .0) ∙ e);
 }

@@ -1,4 +1,4 @@
--- The third demand is kept.
+-- The third demand, R73 to R77, is kept.
 use mathlib.Core.Path.{_≡_, sym, ap, _∙_}
 use mathlib.Core.List.{List}
 use Prim.Native.Nat.{ℕ, _+_, _-_, _^_, _≤_, _<_}
@@ -8,14 +8,16 @@ use Rattle.lines.specs.declared.Table.{Table}
 use Rattle.lines.specs.declared.Request.{Request}
 use Rattle.lines.specs.declared.Stepped.{Stepped}
 use Rattle.lines.specs.Slots.{emptyTable, at, slotOf, refusal, gives, refuses}
+use Rattle.lines.specs.Ask.{says, askOf}
 use Rattle.lines.specs.Admit.{newLine, admitWith}
 use Rattle.lines.specs.Step.{saysRan, whichOf, stepOf, choose}
 use Rattle.lines.specs.Runs.{Act, admitting, run}
 use Rattle.theory.proofs.Numbers.{split}
 use Rattle.theory.proofs.Start.{least-by-last}
-use Rattle.theory.proofs.Granted.{granted}
+use Rattle.theory.proofs.Granted.{says-start, granted}
+use Rattle.theory.proofs.Unique.{answers-is}
 use Rattle.theory.proofs.Step.{fine-step}
-use Rattle.promises.specs.Demand3.{Unfailing, NeverMissed, Admission, admitted-table, StartsByLastEnd, RunsFromStart, HasAllItsNeed, NoEarlierStart}
+use Rattle.promises.specs.Demand3.{Unfailing, NeverMissed, Admission, admitted-table, StartsByLastEnd, RunsFromStart, HasAllItsNeed, NoEarlierStart, NoEarlierThanAnswered}
 use Rattle.promises.proofs.Good.{Good, at-last, good-reached, good-after, slot-empty}
 use Rattle.promises.proofs.Kept.{admit-clock, admit-length, admitted-new}
 use Rattle.promises.proofs.Gets.{gets-need, at-start}
@@ -39,13 +41,15 @@ unfailing t g = record {
     last : 2 ^ 48 ≤ t .clock → saysRan (stepOf t .outcome) ≡ refuses (refusal 15 0)
     last h = ap (λ (s : Stepped). saysRan (s .outcome)) (at-last t h)
 
+-- R74: after any run every step goes on, up to the last tick
 pub never-missed : NeverMissed
 never-missed acts = unfailing (run acts emptyTable) (good-reached acts)
 
+-- R75: by the last end
 pub starts-by-last-end : StartsByLastEnd
 starts-by-last-end acts q r k a =
     let t = run acts emptyTable in
-    let g = granted t q r (a .granted) in
+    let g = granted t q r (says-start (askOf t q) r (a .granted)) in
     (g .least .smooth .from-clock, least-by-last _ (t .clock) _ (q .need) (q .period) r (g .given) (g .alone) (g .least))
 
 -- the admitted table, slot k in it, and that it is good
@@ -60,22 +64,30 @@ module _ (acts : List Act) (q : Request) (r k : ℕ) (a : Admission acts q r k) 
   inside = rw (admit-length t q) (slot-empty t q k (a .slot) .0)
 
   stands : at (admitted-table acts q .slots) k ≡ newLine (q .need) (q .period) (r - t .clock)
-  stands = ap (λ x. at (admitWith t q x .table .slots) k) (a .granted) ∙ admitted-new t q r k (a .slot)
+  stands = ap (λ x. at (admitWith t q x .table .slots) k) (says-start (askOf t q) r (a .granted)) ∙ admitted-new t q r k (a .slot)
 
   starts : admitted-table acts q .clock + (r - t .clock) ≡ r
   starts = omega (arith, admit-clock t q, starts-by-last-end acts q r k a .0)
 
+-- R75: with all its need and its period before it
 pub runs-from-start : RunsFromStart
 runs-from-start acts q r k a more h =
-    at-start more (admitted-table acts q) k (q .need) (q .period) (r - run acts emptyTable .clock) (good acts q r k a) (inside acts q r k a) (stands acts q r k a)
-    (h ∙ sym (starts acts q r k a))
+    rw (starts acts q r k a) at
+    (at-start more (admitted-table acts q) k (q .need) (q .period) (r - run acts emptyTable .clock) (good acts q r k a) (inside acts q r k a) (stands acts q r k a)
+    (h ∙ sym (starts acts q r k a)))
 
+-- R76: exactly its need in its first period
 pub has-all-its-need : HasAllItsNeed
 has-all-its-need acts q r k a more u h =
-    let g = granted (run acts emptyTable) q r (a .granted) in
+    let g = granted (run acts emptyTable) q r (says-start (askOf (run acts emptyTable) q) r (a .granted)) in
     let z : r + q .period ≡ admitted-table acts q .clock + (r - run acts emptyTable .clock) + q .period = omega (arith, starts acts q r k a) in
     gets-need more (admitted-table acts q) k (q .need) (q .period) (r - run acts emptyTable .clock) (good acts q r k a) (inside acts q r k a)
     (omega (arith, g .given .new-some, g .given .new-fits)) (stands acts q r k a) (rw z at u) (rw z at h)
 
+-- R77: at any earlier start some period ends short before the last end
 pub no-earlier-start : NoEarlierStart
 no-earlier-start t q r r' six e late less = no-earlier t q r r' six e late less
+
+-- R77, R41: in the words of ask's contract
+pub no-earlier-than-answered : NoEarlierThanAnswered
+no-earlier-than-answered t q a r r' six right e late less = no-earlier-start t q r r' six (ap says (sym (answers-is t q a right)) ∙ e) late less

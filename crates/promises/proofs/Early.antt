@@ -13,20 +13,19 @@ use Rattle.lines.specs.declared.Held.the-variants.{Nothing, Running, Waiting}
 use Rattle.lines.specs.declared.Slot.{Slot}
 use Rattle.lines.specs.declared.Table.{Table}
 use Rattle.lines.specs.declared.Request.{Request}
-use Rattle.lines.specs.declared.Answer.the-variants.{Start}
 use Rattle.lines.specs.declared.Stepped.{Stepped}
 use Rattle.lines.specs.Slots.{at, Each, lowestOf, slotOf, refusal, gives, refuses}
 use Rattle.lines.specs.Sound.{Sound}
 use Rattle.lines.specs.Demand.{demands, newDemand, endOf, lastEnd, Smooth}
 use Rattle.lines.specs.Grounds.{entry, stretch, stretched, asked, frame}
-use Rattle.lines.specs.Ask.{askOf}
+use Rattle.lines.specs.Ask.{says, askOf}
 use Rattle.lines.specs.Admit.{newLine, admittedAt}
 use Rattle.lines.specs.Step.{saysRan, whichOf, short, choose, serve, refusedStep, advance, stepOf}
 use Rattle.theory.specs.Fine.{wantedAll, May, Kept, ticked}
 use Rattle.theory.specs.Given.{Granted}
 use Rattle.theory.proofs.Numbers.{split}
 use Rattle.theory.proofs.Tail.{tail}
-use Rattle.theory.proofs.Granted.{granted}
+use Rattle.theory.proofs.Granted.{says-start, granted}
 use Rattle.theory.proofs.Stretched.{running-stretched}
 use Rattle.theory.proofs.Pump.{sound-serve, sound-pass, earliest-may, wantedAll-now, excess-kept}
 use Rattle.theory.proofs.Step.{short-none, none-unsound, choose-earliest, advanced}
@@ -50,7 +49,7 @@ named : (o : Option ℕ) → slotOf (whichOf o) ≡ o
 named none = refl
 named (some k) = refl
 
--- n ticks ahead there is excess: a step before that reports 14
+-- R77: n ticks ahead there is excess: a step before that reports 14
 pub runs-short : (n last : ℕ) (t : Table) → Each Sound (t .slots) → t .clock + n < last → last ≤ 2 ^ 48
     → n < wantedAll (t .clock) (t .slots) (t .clock + n) → Misses t last
 runs-short zero last t s b l x =
@@ -140,10 +139,10 @@ early-excess t q r r' g late less =
     (λ w. (w .0, omega (arith, w .1), w .2))
     (search-excess f (last - t0))
 
-pub no-earlier : (t : Table) (q : Request) (r r' : ℕ) → Sixteen q → askOf t q ≡ Start r → t .clock ≤ r' → r' < r
+pub no-earlier : (t : Table) (q : Request) (r r' : ℕ) → Sixteen q → says (askOf t q) ≡ gives r → t .clock ≤ r' → r' < r
     → Misses (admittedAt t q r') (lastEnd (t .clock) (asked t q))
 no-earlier t q r r' six e late less =
-    let g = granted t q r e in
+    let g = granted t q r (says-start (askOf t q) r e) in
     let d = g .given in
     let k = slot-empty t q (g .slot) (g .lowest-empty) in
     let w = early-excess t q r r' g late less in

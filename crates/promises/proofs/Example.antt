@@ -1,4 +1,4 @@
--- The premises of the promises are met: by the run to case A, its admission, and the nine ticks after it.
+-- The premises of R75 to R77 are met: by the run to case A, its admission, and the nine ticks after it.
 use Prim.Native.Nat.{ℕ, zero, suc, _+_, _^_, _≤_, _<_}
 use mathlib.Core.Path.{_≡_, refl}
 use native.Mathlib.Omega.{arith}
@@ -16,20 +16,22 @@ use Rattle.promises.specs.Demand3.{Admission, admitted-table, Unstretche
 use Rattle.promises.specs.Example.{toCaseA, onFromCaseA}
 use Rattle.promises.proofs.Demand3.{no-earlier-start}
 
+-- R73: a run
 pub comes-to-case-A : run toCaseA emptyTable ≡ caseA .table
 unfolding euclid gcdOf lcmOf frameFrom total lowest due lastEnd stretched periodsIn every endsBefore endsOf slack bound greatest anyOf start loadOf askOf chosen advance stepOf
 comes-to-case-A = refl
 
--- an admission in a run: slot 2 is granted 13
+-- R75: an admission in a run: slot 2 is granted 13
 pub case-A-admitted : Admission toCaseA (caseA .request) 13 2
 unfolding euclid gcdOf lcmOf frameFrom total lowest due lastEnd stretched periodsIn every endsBefore endsOf slack bound greatest anyOf start loadOf askOf chosen advance stepOf
 case-A-admitted = record { granted = refl; slot = refl }
 
--- the steps go on to 17, and none stretches slot 2
+-- R76: the steps go on to 17, and none stretches slot 2
 pub case-A-goes-on : 13 + 4 ≤ run onFromCaseA (admitted-table toCaseA (caseA .request)) .clock
 unfolding euclid gcdOf lcmOf frameFrom total lowest due lastEnd stretched periodsIn every endsBefore endsOf slack bound greatest anyOf start loadOf askOf chosen advance stepOf
 case-A-goes-on = omega arith
 
+-- R76: none of them stretches slot 2
 pub case-A-unstretched : Unstretched 2 (13 + 4) onFromCaseA (admitted-table toCaseA (caseA .request))
 case-A-unstretched = ((λ h s. s), ((λ h s. s), ((λ h s. s), ((λ h s. s), ((λ h s. s), ((λ h s. s), ((λ h s. s), ((λ h s. s), ((λ h s. s), tt)))))))))
 
@@ -44,6 +46,7 @@ sixteen-A zero = omega arith
 sixteen-A (suc zero) = omega arith
 sixteen-A (suc (suc i)) = zeros 14 i
 
+-- R77: at 8 some period ends short before 32
 pub case-A-at-once-misses : Misses (admittedAt (caseA .table) (caseA .request) 8) 32
 unfolding euclid gcdOf lcmOf frameFrom total lowest due lastEnd stretched periodsIn every endsBefore endsOf slack bound greatest anyOf start loadOf askOf
 case-A-at-once-misses = no-earlier-start (caseA .table) (caseA .request) 13 8 sixteen-A refl (omega arith) (omega arith)

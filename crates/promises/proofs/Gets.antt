@@ -7,6 +7,7 @@ use native.Mathlib.Omega.{arith}
 use borrow.Author.Tests.{lt-ltb}
 use lib.ListN.{length, take, drop}
 use Rattle.lines.specs.declared.Table.{Table}
+use Rattle.lines.specs.declared.Request.{Request}
 use Rattle.lines.specs.declared.Stepped.{Stepped}
 use Rattle.lines.specs.Slots.{at, slotOf}
 use Rattle.lines.specs.Admit.{fresh, newLine}
@@ -134,27 +135,51 @@ gets-need (stepping ∷ rest) t k C P (suc w) g b p e u r =
 
 -- ---- at the start
 
--- at the tick of its start the line runs, with all its need before it
+-- after the run `more` from t slot k is at the beginning of a period of at least P, exactly P if no act before `until` stretches it
+abbrev Started : (k C P until : ℕ) → List Act → Table → Type 0
+Started k C P until more t =
+    (T : ℕ) × (at (run more t .slots) k ≡ fresh C T) × (P ≤ T) × (Unstretched k until more t → T ≡ P)
+
+-- in the run `more` from t, should it end at the tick `start`
+abbrev Starts : (k C P start : ℕ) → List Act → Table → Type 0
+Starts k C P start more t = run more t .clock ≡ start → Started k C P (start + 1) more t
+
+-- an act that leaves slot k as it was
+one-more : (k C P until : ℕ) (a : Act) (rest : List Act) (t : Table) → Started k C P until rest (after a t) → Started k C P until (a ∷ rest) t
+one-more k C P until a rest t s = (s .0, s .1, s .2, λ u. s .3 (u .1))
+
+-- an admission that finds it at the beginning of its first period may stretch it
+started-admit : (q : Request) (rest : List Act) (t : Table) (k C P : ℕ) → k < length (t .slots) → at (t .slots) k ≡ fresh C P
+    → ((T : ℕ) → at (after (admitting q) t .slots) k ≡ fresh C T → Started k C T (t .clock + 1) rest (after (admitting q) t))
+    → Started k C P (t .clock + 1) (admitting q ∷ rest) t
+started-admit q rest t k C P b e later =
+    let w = admit-running t q k C P 0 C e b in
+    let s = later (w .0) (w .1) in
+    (s .0, s .1, omega (arith, w .2, s .2), λ u. s .3 (u .1) ∙ w .3 (u .0 (omega arith)))
+
+-- R75: at the tick of its start the line runs, with all its need before it
 pub at-start : (more : List Act) (t : Table) (k C P w : ℕ) → Good t → k < length (t .slots) → at (t .slots) k ≡ newLine C P w
-    → run more t .clock ≡ t .clock + w → (T : ℕ) × (at (run more t .slots) k ≡ fresh C T)
-at-start [] t k C P zero g b e h = (P, e)
+    → Starts k C P (t .clock + w) more t
+at-start [] t k C P zero g b e h = (P, e, omega arith, λ u. refl)
 at-start [] t k C P (suc w) g b e h = absurd (omega arith)
-at-start (asking q ∷ rest) t k C P w g b e h = at-start rest t k C P w g b e h
+at-start (asking q ∷ rest) t k C P w g b e h = one-more k C P (t .clock + w + 1) (asking q) rest t (at-start rest t k C P w g b e h)
 at-start (admitting q ∷ rest) t k C P zero g b e h =
-    let s = admit-running t q k C P 0 C e in
-    at-start rest (after (admitting q) t) k C (s .0) 0 (good-after (admitting q) t g) (rw (admit-length t q) b) (s .1) (rw (admit-clock t q) h)
+    let z : t .clock + 0 ≡ t .clock = omega arith in
+    let c = admit-clock t q in
+    rw z (started-admit q rest t k C P b e
+    (λ T f. let y : after (admitting q) t .clock + 0 ≡ t .clock = omega (arith, c) in
+    rw y at (at-start rest (after (admitting q) t) k C T 0 (good-after (admitting q) t g) (rw (admit-length t q) b) f (omega (arith, c)))))
 at-start (admitting q ∷ rest) t k C P (suc w) g b e h =
-    subst (λ (v : Table). run rest v .clock ≡ t .clock + suc w → (T : ℕ) × (at (run rest v .slots) k ≡ fresh C T)) (sym (admit-waiting t q k C P w e b))
-    (at-start rest t k C P (suc w) g b e) h
+    one-more k C P (t .clock + suc w + 1) (admitting q) rest t
+    (subst (Starts k C P (t .clock + suc w) rest) (sym (admit-waiting t q k C P w e b)) (at-start rest t k C P (suc w) g b e) h)
 at-start (stepping ∷ rest) t k C P zero g b e h =
     split (2 ^ 48) (t .clock)
-    (λ l. subst (λ (s : Stepped). run rest (s .table) .clock ≡ t .clock + 0 → (T : ℕ) × (at (run rest (s .table) .slots) k ≡ fresh C T)) (sym (at-last t l))
-    (at-start rest t k C P 0 g b e) h)
+    (λ l. one-more k C P (t .clock + 0 + 1) stepping rest t (subst (λ (s : Stepped). Starts k C P (t .clock + 0) rest (s .table)) (sym (at-last t l)) (at-start rest t k C P 0 g b e) h))
     (λ l. let c : stepOf t .table .clock ≡ t .clock + 1 = ap (λ (s : Stepped). s .table .clock) (step-table t g l) in
     absurd (omega (arith, clock-run rest (stepOf t .table) (good-after stepping t g))))
 at-start (stepping ∷ rest) t k C P (suc w) g b e h =
     split (2 ^ 48) (t .clock)
-    (λ l. subst (λ (s : Stepped). run rest (s .table) .clock ≡ t .clock + suc w → (T : ℕ) × (at (run rest (s .table) .slots) k ≡ fresh C T)) (sym (at-last t l))
-    (at-start rest t k C P (suc w) g b e) h)
-    (λ l. subst (λ (s : Stepped). run rest (s .table) .clock ≡ t .clock + suc w → (T : ℕ) × (at (run rest (s .table) .slots) k ≡ fresh C T)) (sym (step-table t g l))
-    (λ h. at-start rest (next t) k C P w (good-next t g l) (rw (length-tick (choose (t .slots)) (t .slots)) b) (waits-on t k C P w e) (omega arith)) h)
+    (λ l. one-more k C P (t .clock + suc w + 1) stepping rest t (subst (λ (s : Stepped). Starts k C P (t .clock + suc w) rest (s .table)) (sym (at-last t l)) (at-start rest t k C P (suc w) g b e) h))
+    (λ l. let z : t .clock + 1 + w ≡ t .clock + suc w = omega arith in
+    one-more k C P (t .clock + suc w + 1) stepping rest t (subst (λ (s : Stepped). Starts k C P (t .clock + suc w) rest (s .table)) (sym (step-table t g l))
+    (rw z at (at-start rest (next t) k C P w (good-next t g l) (rw (length-tick (choose (t .slots)) (t .slots)) b) (waits-on t k C P w e))) h))

@@ -17,7 +17,7 @@ use Rattle.lines.specs.declared.Answer.the-variants.{Start, Refused}
 use Rattle.lines.specs.declared.Stepped.{Stepped}
 use Rattle.lines.specs.Slots.{empty, at, isNothing, lowestOf}
 use Rattle.lines.specs.Grounds.{entry, stretch, asked}
-use Rattle.lines.specs.Ask.{askOf}
+use Rattle.lines.specs.Ask.{says, askOf}
 use Rattle.lines.specs.Admit.{newLine, putAt, admittedAt, admitWith}
 use Rattle.lines.specs.Step.{choose, stepOf}
 use Rattle.lines.specs.Runs.{Act, asking, admitting, stepping, after}
@@ -73,28 +73,27 @@ admitted-old t q r j C P a x g e =
         let m : line C P a x ≡ Nothing = sym e ∙ ap (at (t .slots)) z ∙ n in
         let y : _≡_ {A = ℕ} 0 1 = cc in omega arith
 
--- at its T', whatever the answer
-pub admit-running : (t : Table) (q : Request) (j C P a x : ℕ) → at (t .slots) j ≡ line C P a x
-    → (T : ℕ) × (at (after (admitting q) t .slots) j ≡ line C T a x)
-admit-running t q j C P a x e = go (askOf t q) refl
+-- whatever the answer, it runs with a period that is not shorter, and where it was not stretched with its own
+pub admit-running : (t : Table) (q : Request) (j C P a x : ℕ) → at (t .slots) j ≡ line C P a x → j < length (t .slots)
+    → (T : ℕ) × (at (after (admitting q) t .slots) j ≡ line C T a x) × (P ≤ T) × ((Stretches j (admitting q) t → ⊥) → T ≡ P)
+admit-running t q j C P a x e b = go (askOf t q) refl
   where
-    go : (b : Answer) → askOf t q ≡ b → (T : ℕ) × (at (admitWith t q b .table .slots) j ≡ line C T a x)
-    go (Start r) h = (entry q j, admitted-old t q r j C P a x (granted t q r h) e)
-    go (Refused y) h = (P, e)
+    go : (d : Answer) → askOf t q ≡ d
+        → (T : ℕ) × (at (admitWith t q d .table .slots) j ≡ line C T a x) × (P ≤ T) × ((Stretches j (admitting q) t → ⊥) → T ≡ P)
+    go (Start r) h =
+        let g = granted t q r h in
+        let up : P ≤ entry q j = split P (entry q j) (λ y. y) (λ y. absurd (g .longer j b (rw e y))) in (
+          entry q j,
+          admitted-old t q r j C P a x g e,
+          up,
+          λ n. split (entry q j) P (λ y. omega arith) (λ y. absurd (n ((r, ap says h), rw e y))),
+        )
+    go (Refused y) h = (P, e, omega arith, λ n. refl)
 
 -- not stretched: as it was
 pub admit-kept : (t : Table) (q : Request) (j C P a x : ℕ) → at (t .slots) j ≡ line C P a x → j < length (t .slots)
     → (Stretches j (admitting q) t → ⊥) → at (after (admitting q) t .slots) j ≡ line C P a x
-admit-kept t q j C P a x e b n = go (askOf t q) refl
-  where
-    go : (b : Answer) → askOf t q ≡ b → at (admitWith t q b .table .slots) j ≡ line C P a x
-    go (Start r) h =
-        let g = granted t q r h in
-        let up : P ≤ entry q j = split P (entry q j) (λ y. y) (λ y. absurd (g .longer j b (rw e y))) in
-        let down : entry q j ≤ P = split (entry q j) P (λ y. y) (λ y. absurd (n ((r, h), rw e y))) in
-        let z : entry q j ≡ P = omega arith in
-        admitted-old t q r j C P a x g e ∙ ap (λ (T : ℕ). line C T a x) z
-    go (Refused y) h = e
+admit-kept t q j C P a x e b n = let w = admit-running t q j C P a x e b in w .1 ∙ ap (λ (T : ℕ). line C T a x) (w .3 n)
 
 -- while a line waits no admission is granted, and nothing changes
 pub admit-waiting : (t : Table) (q : Request) (j C P w : ℕ) → at (t .slots) j ≡ newLine C P (suc w) → j < length (t .slots) → after (admitting q) t ≡ t

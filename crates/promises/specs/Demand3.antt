@@ -1,4 +1,4 @@
--- The third demand: "From an empty table, ask, admit and step in any order up to the clock's last tick", over all runs.
+-- The third demand, R73 to R77, over all runs from the empty table.
 use Prim.Native.Nat.{ℕ, _+_, _-_, _^_, _≤_, _<_}
 use mathlib.Core.Path.{_≡_}
 use mathlib.Core.List.{List, [], _∷_}
@@ -9,19 +9,19 @@ use Rattle.lines.specs.declared.Held.the-variants.{Nothing, Running, Waiting}
 use Rattle.lines.specs.declared.Table.{Table}
 use Rattle.lines.specs.declared.Request.{Request}
 use Rattle.lines.specs.declared.Refusal.{Refusal}
-use Rattle.lines.specs.declared.Answer.the-variants.{Start}
+use Rattle.lines.specs.declared.Answer.{Answer}
 use Rattle.lines.specs.Slots.{emptyTable, at, Each, isNothing, lowestOf, refusal, gives, refuses}
 use Rattle.lines.specs.Sound.{Sound}
 use Rattle.lines.specs.Demand.{lastEnd}
-use Rattle.lines.specs.Grounds.{entry, asked}
-use Rattle.lines.specs.Ask.{askOf}
+use Rattle.lines.specs.Grounds.{entry, asked, Answers}
+use Rattle.lines.specs.Ask.{says, askOf}
 use Rattle.lines.specs.Admit.{fresh, admittedAt}
 use Rattle.lines.specs.Step.{saysRan, stepOf}
 use Rattle.lines.specs.Runs.{Act, asking, admitting, stepping, after, run, trace, times}
 
 -- ---- no missed period
 
--- what is promised of every table that a run comes to: it is sound; a step from it names who ran, but at the last tick, and a step that is
+-- R74: what is promised of every table that a run comes to: it is sound; a step from it names who ran, but at the last tick, and a step that is
 -- refused is refused with 15 at the last tick
 pub record Unfailing (t : Table) : Type 0 where
   pub sound : Each Sound (t .slots)
@@ -30,15 +30,15 @@ pub record Unfailing (t : Table) : Type 0 where
   pub only-fifteen : (x : Refusal) → saysRan (stepOf t .outcome) ≡ refuses x → (x ≡ refusal 15 0) × (t .clock ≡ 2 ^ 48)
   pub at-the-last : t .clock ≡ 2 ^ 48 → saysRan (stepOf t .outcome) ≡ refuses (refusal 15 0)
 
--- "no step reports a missed period", nor an unsound line; 15 comes at the last tick and only there
+-- R74, R73: after any run
 abbrev pub NeverMissed : Type 0
 NeverMissed = (acts : List Act) → Unfailing (run acts emptyTable)
 
 -- ---- what an admitted line gets
 
--- after the run `acts` the request q is granted the start r, in slot k
+-- R75: after the run `acts` the request q is granted the start r, in slot k
 pub record Admission (acts : List Act) (q : Request) (r k : ℕ) : Type 0 where
-  pub granted : askOf (run acts emptyTable) q ≡ Start r
+  pub granted : says (askOf (run acts emptyTable) q) ≡ gives r
   pub slot : lowestOf isNothing (run acts emptyTable .slots) ≡ some k
 
 -- the table at the request, and the table with the line admitted
@@ -48,18 +48,12 @@ asking-table acts = run acts emptyTable
 abbrev pub admitted-table : List Act → Request → Table
 admitted-table acts q = after (admitting q) (run acts emptyTable)
 
--- "an admitted line starts by the last end" of the stretched current periods
+-- R75: the start is not after the last end of the stretched current periods
 abbrev pub StartsByLastEnd : Type 0
 StartsByLastEnd = (acts : List Act) (q : Request) (r k : ℕ) → Admission acts q r k
     → (asking-table acts .clock ≤ r) × (r ≤ lastEnd (asking-table acts .clock) (asked (asking-table acts) q))
 
--- whatever is done next: when the clock is at r, slot k runs with all its need before it
-abbrev pub RunsFromStart : Type 0
-RunsFromStart = (acts : List Act) (q : Request) (r k : ℕ) → Admission acts q r k
-    → (more : List Act) → run more (admitted-table acts q) .clock ≡ r
-    → (T : ℕ) × (at (run more (admitted-table acts q) .slots) k ≡ fresh (q .need) T)
-
--- a granted admission stretches slot k: "T' above its period; T' equal does not count"
+-- R76: a granted admission gives slot k a longer period; an equal one does not count
 abbrev pub Lengthened : ℕ → Held → Type 0
 Lengthened p Nothing = ⊥
 Lengthened p (Running r) = r .period < p
@@ -67,15 +61,23 @@ Lengthened p (Waiting w) = ⊥
 
 abbrev pub Stretches : ℕ → Act → Table → Type 0
 Stretches k (asking q) t = ⊥
-Stretches k (admitting q) t = ((r : ℕ) × (askOf t q ≡ Start r)) × Lengthened (entry q k) (at (t .slots) k)
+Stretches k (admitting q) t = ((r : ℕ) × (says (askOf t q) ≡ gives r)) × Lengthened (entry q k) (at (t .slots) k)
 Stretches k stepping t = ⊥
 
--- no act before the tick `until` stretches slot k
+-- R76: no act before the tick `until` stretches slot k
 abbrev pub Unstretched : (k until : ℕ) → List Act → Table → Type 0
 Unstretched k until [] t = Unit {0}
 Unstretched k until (a ∷ rest) t = (t .clock < until → Stretches k a t → ⊥) × Unstretched k until rest (after a t)
 
--- "and has all its need within one period more": the list of slots that ran names k exactly Cn times from r to r + Tn
+-- R75: whatever is done next, when the clock is at r slot k runs with all its need before it, and with a period of at least Tn: exactly Tn
+-- where no admission up to then stretched it
+abbrev pub RunsFromStart : Type 0
+RunsFromStart = (acts : List Act) (q : Request) (r k : ℕ) → Admission acts q r k
+    → (more : List Act) → run more (admitted-table acts q) .clock ≡ r
+    → (T : ℕ) × (at (run more (admitted-table acts q) .slots) k ≡ fresh (q .need) T) × (q .period ≤ T)
+    × (Unstretched k (r + 1) more (admitted-table acts q) → T ≡ q .period)
+
+-- R76: the list of slots that ran names k exactly Cn times from r to r + Tn
 abbrev pub HasAllItsNeed : Type 0
 HasAllItsNeed = (acts : List Act) (q : Request) (r k : ℕ) → Admission acts q r k
     → (more : List Act) → Unstretched k (r + q .period) more (admitted-table acts q)
@@ -88,11 +90,11 @@ HasAllItsNeed = (acts : List Act) (q : Request) (r k : ℕ) → Admission acts q
 abbrev pub stepped : ℕ → Table → Table
 stepped n t = run (replicate n stepping) t
 
--- "These are sixteen-bit numbers": every request that can be handed in
+-- R6: the T' have sixteen bits, as in every request that can be handed in
 abbrev pub Sixteen : Request → Type 0
 Sixteen q = (i : ℕ) → entry q i < 2 ^ 16
 
--- stepped on with no other admission, a step reports 14 for a period that ends before the tick `last`, and no step before it is refused
+-- R77: stepped on with no other admission, a step reports 14 for a period that ends before the tick `last`, and no step before it is refused
 pub record Misses (t : Table) (last : ℕ) : Type 0 where
   pub steps : ℕ
   pub slot : ℕ
@@ -100,8 +102,12 @@ pub record Misses (t : Table) (last : ℕ) : Type 0 where
   pub misses : saysRan (stepOf (stepped steps t) .outcome) ≡ refuses (refusal 14 slot)
   pub before : t .clock + steps + 1 < last
 
--- "at any earlier start the pump would have missed some period before that last end": of any table and request that are not refused, reached
--- by a run or not, admitted at r' instead
+-- R77: of any table and request that are granted a start r, reached by a run or not, admitted at an earlier r' instead
 abbrev pub NoEarlierStart : Type 0
-NoEarlierStart = (t : Table) (q : Request) (r r' : ℕ) → Sixteen q → askOf t q ≡ Start r → t .clock ≤ r' → r' < r
+NoEarlierStart = (t : Table) (q : Request) (r r' : ℕ) → Sixteen q → says (askOf t q) ≡ gives r → t .clock ≤ r' → r' < r
+    → Misses (admittedAt t q r') (lastEnd (t .clock) (asked t q))
+
+-- R77, R41: the same of any answer that ask's contract allows
+abbrev pub NoEarlierThanAnswered : Type 0
+NoEarlierThanAnswered = (t : Table) (q : Request) (a : Answer) (r r' : ℕ) → Sixteen q → Answers t q (says a) → says a ≡ gives r → t .clock ≤ r' → r' < r
     → Misses (admittedAt t q r') (lastEnd (t .clock) (asked t q))

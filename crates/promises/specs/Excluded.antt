@@ -1,4 +1,4 @@
--- "These must not get through": what meets a contract, and wrong programs that do not.
+-- What meets a contract, and wrong programs that do not.
 use Prim.Native.Nat.{ℕ, _+_, _<_}
 use mathlib.Core.Path.{_≡_}
 use mathlib.Core.List.{List}
@@ -6,49 +6,52 @@ use Rattle.lines.specs.declared.Table.{Table}
 use Rattle.lines.specs.declared.Request.{Request}
 use Rattle.lines.specs.declared.Refusal.{Refusal}
 use Rattle.lines.specs.declared.Answer.{Answer}
-use Rattle.lines.specs.declared.Answer.the-variants.{Start, Refused}
 use Rattle.lines.specs.declared.Stepped.{Stepped}
+use Rattle.lines.specs.Slots.{gives, refuses}
 use Rattle.lines.specs.Grounds.{Answers}
 use Rattle.lines.specs.Ask.{says}
 use Rattle.lines.specs.Step.{stepOf}
 use Rattle.card.specs.declared.ReadCard.{ReadCard}
+use Rattle.card.specs.Card.{Card}
 use Rattle.card.specs.Reading.{readOf}
 use Rattle.card.specs.Answers.{handed, bufferOf}
 
--- what ask's and step's contracts say of a function
+-- R41: what ask's contract says of a function
 abbrev pub MeetsAsk : (Table → Request → Answer) → Type 0
 MeetsAsk f = (t : Table) (q : Request) → Answers t q (says (f t q))
 
+-- R48: what step's says
 abbrev pub MeetsStep : (Table → Stepped) → Type 0
 MeetsStep f = (t : Table) → f t ≡ stepOf t
 
--- what the reader's contract says, and the writer's of the lent buffer
+-- R56: what the reader's says
 abbrev pub MeetsRead : (List ℕ → ReadCard) → Type 0
 MeetsRead f = (l : List ℕ) → f l ≡ handed (readOf l)
 
+-- R59: what the writer's says of the lent buffer
 abbrev pub MeetsWrite : (Table → Request → List ℕ → List ℕ) → Type 0
 MeetsWrite f = (t : Table) (q : Request) (l : List ℕ) → f t q l ≡ bufferOf t q l
 
--- "an ask that refuses everything"
+-- R18, R41: it refuses whatever it is asked
 abbrev pub RefusesEverything : (Table → Request → Answer) → Type 0
-RefusesEverything f = (t : Table) (q : Request) → (x : Refusal) × (f t q ≡ Refused x)
+RefusesEverything f = (t : Table) (q : Request) → (x : Refusal) × (says (f t q) ≡ refuses x)
 
--- "or one that always says the clock"
+-- R14, R41: it starts every line at once
 abbrev pub SaysTheClock : (Table → Request → Answer) → Type 0
-SaysTheClock f = (t : Table) (q : Request) → f t q ≡ Start (t .clock)
+SaysTheClock f = (t : Table) (q : Request) → says (f t q) ≡ gives (t .clock)
 
--- "a step that leaves the table"
+-- R45: it does nothing to the table
 abbrev pub LeavesTheTable : (Table → Stepped) → Type 0
 LeavesTheTable f = (t : Table) → f t .table ≡ t
 
--- "one that serves the first tick properly and afterwards only moves the clock"
+-- R45: after the first tick it moves the clock alone
 abbrev pub OnlyMovesTheClock : (Table → Stepped) → Type 0
 OnlyMovesTheClock f = (t : Table) → 0 < t .clock → f t .table ≡ record { clock = t .clock + 1; slots = t .slots }
 
--- "a reader that gives the same request for every card"
+-- R56: it hands out one and the same request for all cards that read
 abbrev pub OneRequest : (List ℕ → ReadCard) → Type 0
-OneRequest f = (l m : List ℕ) → f l .request ≡ f m .request
+OneRequest f = (l m : List ℕ) (c d : Card) → readOf l ≡ gives c → readOf m ≡ gives d → f l .request ≡ f m .request
 
--- "a writer that writes nothing"
+-- R59: it leaves every buffer as it was
 abbrev pub WritesNothing : (Table → Request → List ℕ → List ℕ) → Type 0
 WritesNothing f = (t : Table) (q : Request) (l : List ℕ) → f t q l ≡ l

@@ -1,5 +1,7 @@
 -- The promises, readable without their proofs.
+pub mod Contracts
 pub mod Demand1
+pub mod Demand2
 pub mod Demand3
 pub mod Witnesses
 pub mod Example

@@ -1,40 +1,31 @@
--- "Each number here can be met": for each of 1 to 15 an input that meets it, with the place.
+-- R20: for each refusal an input that meets it, with the place.
 use Prim.Native.Nat.{ℕ, _+_, _-_, _^_}
 use mathlib.Core.List.{List, [], _∷_, _++_}
 use lib.ListN.{take, replicate}
-use Rattle.lines.specs.declared.Held.the-variants.{Running, Waiting}
 use Rattle.lines.specs.declared.Table.{Table}
 use Rattle.lines.specs.declared.Request.{Request}
 use Rattle.lines.specs.declared.Refusal.{Refusal}
-use Rattle.lines.specs.declared.Answer.the-variants.{Refused}
-use Rattle.lines.specs.Slots.{empty, refusal}
-use Rattle.lines.specs.Cases.{Bench, Case, line, tableFor, requestFor, case, caseA, caseG, caseI, caseJ, caseL}
+use Rattle.lines.specs.Slots.{empty, refusal, refuses}
+use Rattle.lines.specs.Cases.{Bench, Case, line, running, waiting, tableOf, tableFor, requestFor, case, caseA, caseG, caseI, caseJ, caseL}
 use Rattle.card.specs.Bytes.{TA}
 use Rattle.card.specs.Card.{cardOf}
 
 -- slot 0 runs a line, slot 1 is empty, slot 2 waits
 abbrev pub waitingTable : Table
-waitingTable =
-    record {
-      clock = 0;
-      slots =
-          record { held = Running (record { need = 1; period = 4; age = 0; remaining = 1 }) }
-          ∷ empty
-          ∷ record { held = Waiting (record { need = 1; period = 4; wait = 3 }) }
-          ∷ replicate 13 empty;
-    }
+waitingTable = tableOf 0 (running 1 4 0 1 ∷ empty ∷ waiting 1 4 3 ∷ [])
 
 abbrev pub fullBenches : List Bench
 fullBenches = replicate 16 (line 1 64 64 0 1)
 
+-- R20: 1 to 10
 unfoldable pub askMeets : List Case
 askMeets =
-    case (2 ^ 48 - 65536 + 1) [] 1 4 (Refused (refusal 1 0))
-    ∷ case 0 fullBenches 1 64 (Refused (refusal 2 0))
-    ∷ record { table = waitingTable; request = requestFor [] 1 4; answer = Refused (refusal 3 2) }
-    ∷ case 0 (line 1 4 4 0 1 ∷ line 5 4 4 0 0 ∷ []) 1 4 (Refused (refusal 4 1))
-    ∷ case 0 (line 1 4 4 0 1 ∷ line 1 4 3 0 1 ∷ []) 1 4 (Refused (refusal 5 1))
-    ∷ case 0 [] 5 4 (Refused (refusal 6 0))
+    case (2 ^ 48 - 65536 + 1) [] 1 4 (refuses (refusal 1 0))
+    ∷ case 0 fullBenches 1 64 (refuses (refusal 2 0))
+    ∷ record { table = waitingTable; request = requestFor [] 1 4; answer = refuses (refusal 3 2) }
+    ∷ case 0 (line 1 4 4 0 1 ∷ line 5 4 4 0 0 ∷ []) 1 4 (refuses (refusal 4 1))
+    ∷ case 0 (line 1 4 4 0 1 ∷ line 1 4 3 0 1 ∷ []) 1 4 (refuses (refusal 5 1))
+    ∷ case 0 [] 5 4 (refuses (refusal 6 0))
     ∷ caseL
     ∷ caseI
     ∷ caseG
@@ -45,7 +36,7 @@ pub record Meets : Type 0 where
   pub table : Table
   pub refused : Refusal
 
--- a line that is owed two ticks one tick before its end stands in slot 1
+-- R20: 4, 14 and 15. A line that is owed two ticks one tick before its end stands in slot 1.
 unfoldable pub stepMeets : List Meets
 stepMeets =
     record { table = tableFor 0 (line 1 4 4 0 1 ∷ line 5 4 4 0 0 ∷ []); refused = refusal 4 1 }
@@ -63,8 +54,7 @@ pub record ShortBuffer : Type 0 where
   pub room : ℕ
   pub refused : Refusal
 
--- 11: a card cut in its second slot record, and no card at all
--- 12: an old record where the second slot's may stand
+-- R20: 11, a card cut in its second slot record, and no card at all; 12, an old record where the second slot's may stand
 unfoldable pub readMeets : List BrokenCard
 readMeets =
     record { bytes = take 30 (cardOf (caseA .table) (caseA .request)); refused = refusal 11 22 }
@@ -72,7 +62,7 @@ readMeets =
     ∷ record { bytes = take 22 (cardOf (caseA .table) (caseA .request)) ++ TA; refused = refusal 12 22 }
     ∷ []
 
--- 3: a waiting line in slot 2; 13: one byte too few for the card of case A
+-- R20: 3, a waiting line in slot 2; 13, one byte too few for the card of case A
 unfoldable pub writeMeets : List ShortBuffer
 writeMeets =
     record { table = waitingTable; request = caseA .request; room = 240; refused = refusal 3 2 }

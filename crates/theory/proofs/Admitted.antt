@@ -1,4 +1,4 @@
--- The table admitted: its demand is the document's, and a smooth start makes it fine.
+-- The table admitted, R42 and R43: its demand is that of R10 to R12, and a smooth start makes it fine.
 use mathlib.Core.Path.{_≡_, refl, ap}
 use mathlib.Core.Option.{some}
 use mathlib.Core.List.{List}
@@ -19,7 +19,7 @@ use Rattle.theory.specs.Fine.{wanted, wantedAll, load, Divides, Fine, La
 use Rattle.theory.proofs.Numbers.{split, due-renew}
 use Rattle.theory.proofs.Sums.{total-eq, total-zero, total-set, each-set, each-empty}
 
--- no waiting line: demand and share are the document's
+-- R10: without a waiting line the demand is that of the rule
 pub wanted-running : (k : ℕ) (h : Held) (t : ℕ) → (Waits h → ⊥) → wanted k h t ≡ demand k h t
 wanted-running k Nothing t n = refl
 wanted-running k (Running r) t n = refl
@@ -33,7 +33,7 @@ load-running M (Waiting w) n = absurd (n tt)
 pub wantedAll-running : (k : ℕ) (l : List Slot) (t : ℕ) → Each (λ h. Waits h → ⊥) l → wantedAll k l t ≡ demands k l t
 wantedAll-running k l t n = total-eq (λ h. wanted k h t) (λ h. demand k h t) l (λ i b. wanted-running k (at l i) t (n i b))
 
--- the new line in the table is the new line of the document: one that starts at once is at the beginning of a period
+-- R11, R43: the new line in the table asks for what the rule says: one that starts at once is at the beginning of a period
 pub new-wanted : (k C P r t : ℕ) → 1 ≤ P → k ≤ r → wanted k (newLine C P (r - k)) t ≡ newDemand C P r t
 new-wanted k C P r t p b =
     split (r - k) 0
@@ -69,6 +69,7 @@ admitted-wanted k l j C P r t n h e p b =
 pub admitted-sound : (l : List Slot) (j C P w : ℕ) → Each Sound l → 1 ≤ C → C ≤ P → Each Sound (putAt (some j) (newLine C P w) l)
 admitted-sound l j C P w a b c = each-set Sound l j (newLine C P w) a (new-sound C P w b c)
 
+-- R42, R74: a smooth start makes a fine table
 pub admitted-fine : (M k : ℕ) (l : List Slot) (j C P r : ℕ)
     → Each Sound l → Each (λ h. Waits h → ⊥) l → 0 < M → Each (Divides M) l → P ∣ M → total (share M) l + C * (M / P) ≤ M → 1 ≤ C → C ≤ P
     → j < length l → at l j ≡ Nothing → Smooth k l (newDemand C P) r
@@ -91,6 +92,7 @@ admitted-fine M k l j C P r a n m d p x c q h e s =
       no-excess = λ t b. omega (arith, admitted-wanted k l j C P r t n h e (omega arith) (s .from-clock), s .no-excess t b);
     }
 
+-- R29: a new line does not lag
 pub lag-admitted : (M : ℕ) (l : List Slot) (j C P w : ℕ) → Lag M l → j < length l → at l j ≡ Nothing → Lag M (putAt (some j) (newLine C P w) l)
 lag-admitted M l j C P w g h e =
     omega (

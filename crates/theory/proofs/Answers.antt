@@ -1,4 +1,4 @@
--- The computed answer is a right answer: each test decides its ground, in the document's order.
+-- The computed answer is a right answer: each test decides its ground, in the order of R18.
 use mathlib.Core.Path.{_≡_, refl, ap}
 use mathlib.Core.Logic.{inl, inr}
 use mathlib.Core.Bool.{Bool, true, false, not}
@@ -83,7 +83,7 @@ module _ (t : Table) (q : Request) (sound : Each Sound (asked t q)) (none-waits 
 
 -- ---- grounds 1 to 6, and the whole
 
--- the computed answer satisfies the relation
+-- R41: the computed answer satisfies the relation
 pub ask-answers : (t : Table) (q : Request) → Answers t q (says (askOf t q))
 unfolding askOf
 ask-answers t q =

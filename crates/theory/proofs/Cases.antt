@@ -1,4 +1,4 @@
--- Cases A to M satisfy the answer relation itself, and in case B the start 6 is smooth.
+-- R67: cases A to M satisfy the answer relation itself, and in case B the start 6 is smooth.
 use mathlib.Core.Path.{_≡_}
 use mathlib.Core.List.{List, [], _∷_, map}
 use Rattle.periods.specs.Multiples.{All}
@@ -9,19 +9,19 @@ use Rattle.lines.specs.Cases.{Case, cases, caseB}
 use Rattle.lines.proofs.Cases.{all-cases}
 use Rattle.theory.proofs.Answers.{ask-answers}
 
-answered : (cs : List Case) → map (λ (c : Case). askOf (c .table) (c .request)) cs ≡ map (λ (c : Case). c .answer) cs
-    → All (λ (c : Case). Answers (c .table) (c .request) (says (c .answer))) cs
+answered : (cs : List Case) → map (λ (c : Case). says (askOf (c .table) (c .request))) cs ≡ map (λ (c : Case). c .answer) cs
+    → All (λ (c : Case). Answers (c .table) (c .request) (c .answer)) cs
 answered [] e = tt
 answered (c ∷ cs) e =
-    let h : askOf (c .table) (c .request) ≡ c .answer = cc in
-    let rest : map (λ (c : Case). askOf (c .table) (c .request)) cs ≡ map (λ (c : Case). c .answer) cs = cc in
+    let h : says (askOf (c .table) (c .request)) ≡ c .answer = cc in
+    let rest : map (λ (c : Case). says (askOf (c .table) (c .request))) cs ≡ map (λ (c : Case). c .answer) cs = cc in
     (rw h at (ask-answers (c .table) (c .request)), answered cs rest)
 
--- every row of the table of cases is a right answer
-pub cases-answer : All (λ (c : Case). Answers (c .table) (c .request) (says (c .answer))) cases
+-- R67: every row of the table of cases is a right answer
+pub cases-answer : All (λ (c : Case). Answers (c .table) (c .request) (c .answer)) cases
 cases-answer = answered cases all-cases
 
--- "In case B it gives 8, and 6 is smooth"
+-- R68: where the closed formula gives 8, 6 is smooth
 pub six-smooth-B : Smooth 6 (asked (caseB .table) (caseB .request)) (newDemand 1 4) 6
 unfolding cases
 six-smooth-B = cases-answer .1 .0 .1 .smooth

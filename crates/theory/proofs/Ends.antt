@@ -70,6 +70,7 @@ demands-now t0 l s = total-zero (λ h. demand t0 h t0) l (λ i b. demand-now t0 
 abbrev pub Latest : ℕ → List Slot → ℕ → Type 0
 Latest t0 l t = (demands t0 l t ≡ 0) ⊎ ((d : ℕ) × (d ≤ t) × AnyEnd t0 l d × (demands t0 l d ≡ demands t0 l t))
 
+-- R10: what is due at t was due at the latest end up to t
 pub latest : (t0 : ℕ) (l : List Slot) → Each Sound l → (t : ℕ) → t0 ≤ t → Latest t0 l t
 latest t0 l s =
     le-ind (Latest t0 l) (inl (demands-now t0 l s))
@@ -84,6 +85,7 @@ demand-mono t0 Nothing t u s b = omega arith
 demand-mono t0 (Running r) t u s b = due-mono (firstEnd t0 r) (r .remaining) (r .need) (r .period) t u (omega arith) b
 demand-mono t0 (Waiting w) t u s b = omega arith
 
+-- R10: demand never falls
 pub demands-mono : (t0 : ℕ) (l : List Slot) (t u : ℕ) → Each Sound l → t ≤ u → demands t0 l t ≤ demands t0 l u
 demands-mono t0 l t u s b = total-le (λ h. demand t0 h t) (λ h. demand t0 h u) l (λ i c. demand-mono t0 (at l i) t u (s i c) b)
 

@@ -12,12 +12,12 @@ use Rattle.periods.proofs.Frames.{frame-is, frame-pos}
 use Rattle.lines.specs.declared.Table.{Table}
 use Rattle.lines.specs.declared.Request.{Request}
 use Rattle.lines.specs.declared.Answer.{Answer}
-use Rattle.lines.specs.declared.Answer.the-variants.{Start}
-use Rattle.lines.specs.Slots.{both, at, Each, total, isNothing, isWaiting, Waits, lowest, lowestOf}
+use Rattle.lines.specs.declared.Answer.the-variants.{Start, Refused}
+use Rattle.lines.specs.Slots.{both, at, Each, total, isNothing, isWaiting, Waits, lowest, lowestOf, gives}
 use Rattle.lines.specs.Sound.{Sound, sound}
 use Rattle.lines.specs.Demand.{lastEnd, Least, newDemand}
 use Rattle.lines.specs.Grounds.{entry, asked, Shrunk, periodsIn, frame, share, owed, full}
-use Rattle.lines.specs.Ask.{start, endsOf, anyOf, shortAt, shrunk, isNone, refusedAt, refusedIf, loadOf, askOf}
+use Rattle.lines.specs.Ask.{says, start, endsOf, anyOf, shortAt, shrunk, isNone, refusedAt, refusedIf, loadOf, askOf}
 use Rattle.lines.proofs.Search.{lowest-none}
 use Rattle.lines.proofs.Sound.{sound-says}
 use Rattle.theory.specs.Fine.{Longer}
@@ -76,6 +76,12 @@ granted-load t q r s n c fits e =
     let a = quiet F (t .clock) l (q .need) (q .period) g (p10 .0) in
     (g, a, rw (← same-start (start (t .clock) l (q .need) (q .period)) r (p10 .1)) (start-least F (t .clock) l (q .need) (q .period) g a))
 
+-- an answer that says a start is that start
+pub says-start : (a : Answer) (r : ℕ) → says a ≡ gives r → a ≡ Start r
+says-start (Start u) r e = cc
+says-start (Refused x) r e = let z : _≡_ {A = ℕ} 0 1 = cc in absurd (omega arith)
+
+-- R18, R41: what a start tells: no ground holds, and it is the least smooth one
 pub granted : (t : Table) (q : Request) (r : ℕ) → askOf t q ≡ Start r → Granted t q r
 unfolding askOf
 granted t q r e =

@@ -74,6 +74,7 @@ pub earliest-busy : (o : Option ℕ) (l : List Slot) → Earliest o l → Busy o
 earliest-busy none l e = e
 earliest-busy (some j) l e = (e .0, e .1)
 
+-- R29: a tick that is not wasted keeps the lag at most 0
 pub lag-kept : {M : ℕ} {l : List Slot} (o : Option ℕ) → Each Sound l → Shares M l → Busy o l → Each Kept (serve o l) → Lag M l → Lag M (pass (serve o l))
 lag-kept {M} {l} none a v b k g =
     omega (

@@ -77,12 +77,13 @@ pub earliest-may : (o : Option ℕ) (l : List Slot) → Earliest o l → May o l
 earliest-may none l e = tt
 earliest-may (some j) l e = (e .0, e .1)
 
--- no period ends short
+-- R74, R46: no period ends short
 pub never-short : {M k : ℕ} {l : List Slot} (o : Option ℕ) → Fine M k l → Earliest o l → Each Kept (serve o l)
 never-short {M} {k} {l} o f e i h =
     none-wanted k (at (serve o l) i) (sound-serve o l (earliest-may o l e) (f .sound) i h)
     (omega (arith, one-le (λ x. wanted k x (suc k)) (serve o l) i h, earliest-enough o f e (suc k) (omega arith)))
 
+-- R74: a fine table is fine after the tick
 pub fine-kept : {M k : ℕ} {l : List Slot} (o : Option ℕ) → Fine M k l → Earliest o l → Fine M (suc k) (pass (serve o l))
 fine-kept {M} {k} {l} o f e =
     let m = earliest-may o l e in
@@ -106,7 +107,7 @@ serve-pays k (some j) l t m = omega (arith, total-set (λ h. wanted k h t) l j (
 pub wantedAll-now : (k : ℕ) (l : List Slot) → Each Sound l → wantedAll k l k ≡ 0
 wantedAll-now k l a = total-zero (λ h. wanted k h k) l (λ i b. wanted-now k (at l i) (a i b))
 
--- whoever is served, the excess at t is still there after a tick without a short line, and t still to come
+-- R77: whoever is served, the excess at t is still there after a tick without a short line, and t still to come
 pub excess-kept : (k : ℕ) (o : Option ℕ) (l : List Slot) (t : ℕ) → Each Sound l → May o l → Each Kept (serve o l) → k < t → t - k < wantedAll k l t
     → (t - suc k < wantedAll (suc k) (pass (serve o l)) t) × (suc k < t)
 excess-kept k o l t a m v b x =
@@ -132,6 +133,6 @@ doomed-in (suc n) k l t e a x r =
     let y = excess-kept k (r .0) l t a (r .1) (r .2) (omega arith) (omega arith) .0 in
     doomed-in n (suc k) (pass (serve (r .0) l)) t (omega arith) (sound-pass (serve (r .0) l) s) (omega (arith, y)) (r .3)
 
--- no run up to a t with excess is without a short line
+-- R77: no run up to a t with excess is without a short line
 pub doomed : (k : ℕ) (l : List Slot) (t : ℕ) → Each Sound l → k ≤ t → t - k < wantedAll k l t → Reach (t - k) l → ⊥
 doomed k l t a b x r = doomed-in (t - k) k l t (omega arith) a x r

@@ -1,4 +1,4 @@
--- Sums 8 and 9 do not depend on which common multiple is taken.
+-- The sums of R28 and R29 do not depend on which common multiple is taken, R16.
 use mathlib.Core.Path.{_≡_, ap}
 use mathlib.Core.List.{List}
 use Prim.Native.Nat.{ℕ, _+_, _*_, _/_, _∣_, _≤_}
@@ -29,7 +29,7 @@ full-both F G (Running r) = omega arith
 full-both F G (Waiting w) = omega arith
 
 module _ (F G : ℕ) (l : List Slot) (f : Each (Divides F) l) (g : Each (Divides G) l) (pos : 1 ≤ F) where
-  -- sum 8, taken times F, is at most 1: so it is times G
+  -- R16, R28: the shares, taken times F, are at most 1: so they are times G
   pub eight-scale : (Cn Tn : ℕ) → Tn ∣ F → Tn ∣ G → total (share F) l + Cn * (F / Tn) ≤ F → total (share G) l + Cn * (G / Tn) ≤ G
   eight-scale Cn Tn a b h =
       le-of-mul-le-mul-left {k = F}
@@ -43,7 +43,7 @@ module _ (F G : ℕ) (l : List Slot) (f : Each (Divides F) l) (g : Each (Divides
       ))
       pos
 
-  -- and sum 9 likewise
+  -- R16, R29: and the lag likewise
   pub nine-scale : total (owed F) l ≤ total (full F) l → total (owed G) l ≤ total (full G) l
   nine-scale h =
       le-of-mul-le-mul-left {k = F}

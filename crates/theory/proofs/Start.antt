@@ -80,7 +80,7 @@ slack-is : (t0 : ℕ) (l : List Slot) (d : ℕ) → Alone t0 l → t0 ≤ d → 
 unfolding slack
 slack-is t0 l d a h = omega (arith, a d h)
 
--- every smooth start is at or after the bound of every tick before the last end
+-- R13: every smooth start is at or after the bound of every tick before the last end
 pub needed : (F t0 : ℕ) (l : List Slot) (Cn Tn r : ℕ) → Given F l Cn Tn → Alone t0 l → Smooth t0 l (newDemand Cn Tn) r
     → (d : ℕ) → t0 ≤ d → d < lastEnd t0 l → bound Cn Tn (lastEnd t0 l) d (slack t0 l d) ≤ r
 needed F t0 l Cn Tn r g a sm d h b =
@@ -110,7 +110,7 @@ before F t0 l Cn Tn r g a late b t h last =
     ))
     (latest t0 l (g .sound) t h)
 
--- a start that keeps every bound is smooth
+-- R13: a start that keeps every bound is smooth
 pub enough : (F t0 : ℕ) (l : List Slot) (Cn Tn r : ℕ) → Given F l Cn Tn → Alone t0 l → t0 ≤ r → Bounded t0 l Cn Tn r → Smooth t0 l (newDemand Cn Tn) r
 enough F t0 l Cn Tn r g a late b = record {
   from-clock = late;
@@ -135,7 +135,7 @@ unfolding greatest
 greatest-least f r u [] h a = h
 greatest-least f r u (d ∷ ds) h a = greatest-least f (max r (f d)) u ds (omega (arith, a .0)) (a .1)
 
--- it is the greatest of the clock and the bounds of the ends before the last end
+-- R14: the least smooth start is the greatest of the clock and the bounds of the ends before the last end
 pub start-least : (F t0 : ℕ) (l : List Slot) (Cn Tn : ℕ) → Given F l Cn Tn → Alone t0 l → Least t0 l (newDemand Cn Tn) (start t0 l Cn Tn)
 unfolding start
 start-least F t0 l Cn Tn g a =
@@ -149,11 +149,11 @@ start-least F t0 l Cn Tn g a =
           (ends-all (λ d. f d ≤ u) t0 last l (g .sound) (λ d e b. needed F t0 l Cn Tn u g a sm d (omega (arith, any-late t0 l d (g .sound) e)) b));
     }
 
--- there is only one
+-- R14: there is only one
 pub least-unique : (t0 : ℕ) (l : List Slot) (new : ℕ → ℕ → ℕ) (r u : ℕ) → Least t0 l new r → Least t0 l new u → r ≡ u
 least-unique t0 l new r u p q = le-antisymm (p .least u (q .smooth)) (q .least r (p .smooth))
 
--- the last end is smooth, so a smooth start exists, and the least one comes by the last end
+-- R18, R15: the last end is smooth, so a smooth start exists
 pub last-smooth : (F t0 : ℕ) (l : List Slot) (Cn Tn : ℕ) → Given F l Cn Tn → Alone t0 l → Smooth t0 l (newDemand Cn Tn) (lastEnd t0 l)
 last-smooth F t0 l Cn Tn g a = record {
   from-clock = last-late t0 l;
@@ -163,5 +163,6 @@ last-smooth F t0 l Cn Tn g a = record {
       (λ e. omega (arith, a t h, due-before (lastEnd t0 l) 0 Cn Tn t e));
 }
 
+-- R75, R15: the least one comes by the last end
 pub least-by-last : (F t0 : ℕ) (l : List Slot) (Cn Tn r : ℕ) → Given F l Cn Tn → Alone t0 l → Least t0 l (newDemand Cn Tn) r → r ≤ lastEnd t0 l
 least-by-last F t0 l Cn Tn r g a m = m .least (lastEnd t0 l) (last-smooth F t0 l Cn Tn g a)

@@ -48,7 +48,7 @@ short-none l e i b = short-kept (at l i) (lowest-none (λ n. short (at l n)) (le
 pub none-unsound : (l : List Slot) → Each Sound l → lowestOf (λ h. not (sound h)) l ≡ none
 none-unsound l a = none-found (λ i. not (sound (at l i))) (length l) (λ i b. ap not (says-sound (at l i) (a i b)))
 
--- the step's own choice is an earliest end
+-- R44: the step's own choice is an earliest end
 pub choose-earliest : (l : List Slot) → Earliest (choose l) l
 choose-earliest l = chosen-earliest (choose l) l (chosen-is (length l) l)
 
@@ -57,13 +57,14 @@ pub advanced : (o : Option ℕ) (t : Table) → Each Kept (serve o (t .slots)) �
 unfolding advance
 advanced o t v = rw (none-short (serve o (t .slots)) v)
 
--- the step of a fine table
+-- R48, R74: the step of a fine table is not refused
 pub fine-step : {M : ℕ} (t : Table) → Fine M (t .clock) (t .slots) → t .clock < 2 ^ 48 → stepOf t ≡ ticked (choose (t .slots)) t
 unfolding stepOf
 fine-step t f b =
     rw (lt-leb (2 ^ 48) (t .clock) b, none-unsound (t .slots) (f .sound))
     (advanced (choose (t .slots)) t (never-short (choose (t .slots)) f (choose-earliest (t .slots))))
 
+-- R74: and the table after it is fine
 pub fine-stepped : {M : ℕ} (t : Table) → Fine M (t .clock) (t .slots) → t .clock < 2 ^ 48 → Fine M (stepOf t .table .clock) (stepOf t .table .slots)
 fine-stepped {M} t f b =
     rw (fine-step t f b, add-one) (fine-kept (choose (t .slots)) f (choose-earliest (t .slots)))

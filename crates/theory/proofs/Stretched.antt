@@ -53,7 +53,7 @@ stretch-waits p (Waiting w) n v = v
 pub running-stretched : (l : List Slot) (p : ℕ → ℕ) → Longer l p → Each (λ h. Waits h → ⊥) l → Each (λ h. Waits h → ⊥) (stretched l p)
 running-stretched l p n a = each-stretched (λ h. Waits h → ⊥) (λ h. Waits h → ⊥) l p stretch-waits n a
 
--- a longer period only lowers demand
+-- R10: a longer period only lowers demand
 pub wanted-longer : (k p : ℕ) (h : Held) (t : ℕ) → Sound h → (Shrunk p h → ⊥) → wanted k (stretch p h) t ≤ wanted k h t
 wanted-longer k p Nothing t s n = omega arith
 wanted-longer k p (Running r) t s n = due-longer k (r .age) (r .remaining) (r .need) (r .period) p t (omega arith) (not-shrunk p (r .period) n)
@@ -70,7 +70,7 @@ demand-wanted k Nothing t = omega arith
 demand-wanted k (Running r) t = omega arith
 demand-wanted k (Waiting w) t = omega arith
 
--- ground 10 does not hold of a fine table: its running lines alone, at their T', have no excess
+-- R30: it does not hold of a fine table, whose running lines alone, at their T', have no excess
 pub never-ten : {M k : ℕ} {l : List Slot} (p : ℕ → ℕ) → Fine M k l → Longer l p → (t : ℕ) → k ≤ t → demands k (stretched l p) t ≤ t - k
 never-ten {M} {k} {l} p f n t b =
     omega (
@@ -98,7 +98,7 @@ full-longer M N p Nothing = omega arith
 full-longer M N p (Running r) = omega arith
 full-longer M N p (Waiting w) = omega arith
 
--- ground 9 does not hold where the lag is at most 0
+-- R29: it does not hold where the lag is at most 0
 pub lag-stretched : {M : ℕ} {l : List Slot} (N : ℕ) (p : ℕ → ℕ) → Shares M l → Lag M l → Each (Divides N) (stretched l p) → Longer l p → Lag N (stretched l p)
 lag-stretched {M} {l} N p v g d n =
     le-of-mul-le-mul-left

@@ -48,6 +48,7 @@ all-late F t0 l t s d b =
       total-mulr (t - t0) (share F) l,
     )
 
+-- R13, R15: from the last end on there is no excess, wherever the new line starts
 pub tail : (F t0 : ℕ) (l : List Slot) (Cn Tn r : ℕ) → Given F l Cn Tn → t0 ≤ r
     → (t : ℕ) → lastEnd t0 l ≤ t → demands t0 l t + newDemand Cn Tn r t ≤ t - t0
 tail F t0 l Cn Tn r g late t h =

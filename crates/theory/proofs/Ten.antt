@@ -1,4 +1,4 @@
--- Ground 10 by ends: the running lines alone have excess at some tick exactly when they have it at an end before the last end.
+-- R30 by ends: the running lines alone have excess at some tick exactly when they have it at an end before the last end.
 use mathlib.Core.Path.{_≡_, refl}
 use mathlib.Core.Logic.{⊎-elim}
 use mathlib.Core.Bool.{Bool, true, false}
@@ -23,7 +23,7 @@ pub record Excess (t0 : ℕ) (l : List Slot) (t : ℕ) : Type 0 where
   pub from-clock : t0 ≤ t
   pub above : 0 < excess (demands t0 l t) t0 t
 
--- a tick with excess comes before the last end, and the latest end up to it has excess too
+-- R30: a tick with excess comes before the last end, and the latest end up to it has excess too
 pub ten-at-ends : (F t0 : ℕ) (l : List Slot) (Cn Tn t : ℕ) → Given F l Cn Tn → Excess t0 l t
     → (d : ℕ) × (d ≤ t) × (d < lastEnd t0 l) × AnyEnd t0 l d × Excess t0 l d
 ten-at-ends F t0 l Cn Tn t g x =
@@ -35,7 +35,7 @@ ten-at-ends F t0 l Cn Tn t g x =
     (z .0, z .1, omega (arith, z .1), z .2, record { from-clock = omega arith; above = omega (arith, z .1, z .3, x .above) }))
     (latest t0 l (g .sound) t (x .from-clock)))
 
--- no excess at the ends before the last end: none at all
+-- R30: no excess at the ends before the last end: none at all
 pub alone-by-ends : (F t0 : ℕ) (l : List Slot) (Cn Tn : ℕ) → Given F l Cn Tn
     → ((d : ℕ) → AnyEnd t0 l d → d < lastEnd t0 l → demands t0 l d ≤ d - t0) → Alone t0 l
 alone-by-ends F t0 l Cn Tn g f t h =

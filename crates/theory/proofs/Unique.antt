@@ -48,7 +48,7 @@ first-none [] t q x p n = p
 first-none (s ∷ rs) t q x (inl p) n = n .0 (p .0) (p .1)
 first-none (s ∷ rs) t q x (inr p) n = first-none rs t q x (p .1) (n .1)
 
--- two answers that the relation allows are equal
+-- R71, R41: two answers that the relation allows are equal
 pub answers-unique : (t : Table) (q : Request) (a b : Said ℕ) → Answers t q a → Answers t q b → a ≡ b
 answers-unique t q (gives r) (gives u) p s = ap gives (least-unique (t .clock) (asked t q) (newDemand (q .need) (q .period)) r u (p .1) (s .1))
 answers-unique t q (gives r) (refuses y) p s = absurd (first-none grounds t q y s (p .0))
@@ -61,6 +61,6 @@ says-one (Start r) (Refused y) e = cc
 says-one (Refused x) (Start u) e = cc
 says-one (Refused x) (Refused y) e = cc
 
--- so an answer is right exactly when it is the computed one
+-- R41: so an answer is right exactly when it is the computed one
 pub answers-is : (t : Table) (q : Request) (a : Answer) → Answers t q (says a) → a ≡ askOf t q
 answers-is t q a h = says-one a (askOf t q) (answers-unique t q (says a) (says (askOf t q)) h (ask-answers t q))

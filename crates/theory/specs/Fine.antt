@@ -20,7 +20,7 @@ use Rattle.lines.specs.Step.{whichOf, Owed, Earliest, serve, pass}
 abbrev pub line : (C T a c : ℕ) → Held
 line C T a c = Running (record { need = C; period = T; age = a; remaining = c })
 
--- the demand at t of what a slot holds at the clock k, a waiting line as the new line that starts when its wait is over
+-- R10, R11: the demand at t of what a slot holds at the clock k, a waiting line as the new line that starts when its wait is over
 abbrev pub wanted : ℕ → Held → ℕ → ℕ
 wanted k Nothing t = 0
 wanted k (Running r) t = demand k (Running r) t
@@ -30,7 +30,7 @@ wanted k (Waiting w) t = newDemand (w .need) (w .period) (k + w .wait) t
 abbrev pub wantedAll : ℕ → List Slot → ℕ → ℕ
 wantedAll k l t = total (λ h. wanted k h t) l
 
--- C/T times M, of waiting lines too
+-- R16: C/T times M, of waiting lines too
 abbrev pub load : ℕ → Held → ℕ
 load M Nothing = 0
 load M (Running r) = share M (Running r)
@@ -64,13 +64,13 @@ abbrev pub Busy : Option ℕ → List Slot → Type 0
 Busy none l = Each (λ h. Owed h → ⊥) l
 Busy (some j) l = (j < length l) × Owed (at l j)
 
--- where the period ends with the coming tick, nothing is owed
+-- R46: where the period ends with the coming tick, nothing is owed
 abbrev pub Kept : Held → Type 0
 Kept Nothing = Unit {0}
 Kept (Running r) = r .period ≤ r .age + 1 → r .remaining ≡ 0
 Kept (Waiting w) = Unit {0}
 
--- "sum over running lines of (c − C + C × a / T')" is not above 0
+-- R29: the lines are not behind their shares
 abbrev pub Lag : ℕ → List Slot → Type 0
 Lag M l = total (owed M) l ≤ total (full M) l
 
@@ -84,10 +84,10 @@ abbrev pub Safe : ℕ → List Slot → Type 0
 Safe zero l = Unit {0}
 Safe (suc n) l = (o : Option ℕ) → Earliest o l → Each Kept (serve o l) × Safe n (pass (serve o l))
 
--- the tick in which the slot named, or none, is served, where no line is short
+-- R45: the tick in which the slot named, or none, is served, where no line is short
 abbrev pub ticked : Option ℕ → Table → Stepped
 ticked o t = record { table = record { clock = t .clock + 1; slots = pass (serve o (t .slots)) }; outcome = Ran (whichOf o) }
 
--- no running line is given a period shorter than its own
+-- R25: no running line is given a period shorter than its own
 abbrev pub Longer : List Slot → (ℕ → ℕ) → Type 0
 Longer l p = (i : ℕ) → i < length l → Shrunk (p i) (at l i) → ⊥

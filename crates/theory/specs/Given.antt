@@ -1,4 +1,4 @@
--- What the grounds leave of a request, and the ends at which the excess can rise.
+-- What is known of a table and a request that no ground refuses, and the ends at which the excess can rise.
 use Prim.Native.Nat.{ℕ, _+_, _-_, _*_, _/_, _^_, _∣_, _≤_, _<_}
 use mathlib.Core.Path.{_≡_}
 use mathlib.Core.List.{List}
@@ -15,7 +15,7 @@ use Rattle.lines.specs.Demand.{firstEnd, demands, newDemand, Least}
 use Rattle.lines.specs.Grounds.{entry, asked, frame, share, owed, full}
 use Rattle.theory.specs.Fine.{Divides, Longer}
 
--- none of the grounds 4, 6, 8 and 9 holds of the lines l at their T' and the new line (Cn, Tn), sums 8 and 9 taken times a common multiple F
+-- R24, R26, R28, R29: none of these grounds holds of the lines l at their T' and the new line (Cn, Tn), the sums taken times a common multiple F
 pub record Given (F : ℕ) (l : List Slot) (Cn Tn : ℕ) : Type 0 where
   pub sound : Each Sound l
   pub some-frame : 1 ≤ F
@@ -26,7 +26,7 @@ pub record Given (F : ℕ) (l : List Slot) (Cn Tn : ℕ) : Type 0 where
   pub eight : total (share F) l + Cn * (F / Tn) ≤ F
   pub nine : total (owed F) l ≤ total (full F) l
 
--- nor does ground 10
+-- R30: nor does this one
 abbrev pub Alone : ℕ → List Slot → Type 0
 Alone t0 l = (t : ℕ) → t0 ≤ t → demands t0 l t ≤ t - t0
 
@@ -40,7 +40,7 @@ IsEnd t0 (Waiting w) d = ⊥
 abbrev pub AnyEnd : ℕ → List Slot → ℕ → Type 0
 AnyEnd t0 l d = (i : ℕ) × (i < length l) × IsEnd t0 (at l i) d
 
--- what is known of a request that is granted the start r: no ground holds, and r is the least smooth start
+-- R18, R14: what is known of a request that is granted the start r: no ground holds, and r is the least smooth start
 pub record Granted (t : Table) (q : Request) (r : ℕ) : Type 0 where
   pub early : t .clock ≤ 2 ^ 48 - 65536
   pub slot : ℕ

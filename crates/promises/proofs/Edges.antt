@@ -1,0 +1,103 @@
+-- The edges of the promises: each strictness with an example on each side of it.
+use Prim.Native.Nat.{ℕ, zero, suc, _+_, _^_, _≤_, _<_}
+use mathlib.Core.Path.{_≡_, refl}
+use mathlib.Core.List.{List, [], _∷_, _++_}
+use mathlib.Core.Option.{Option, none, some}
+use native.Mathlib.Omega.{arith}
+use native.Mathlib.Nat.{not-suc-le-zero}
+use lib.ListN.{take, drop, replicate}
+use Rattle.periods.specs.Multiples.{euclid, gcdOf, lcmOf, frameFrom}
+use Rattle.lines.specs.declared.Table.{Table}
+use Rattle.lines.specs.declared.Request.{Request}
+use Rattle.lines.specs.Slots.{total, lowest}
+use Rattle.lines.specs.Demand.{due, lastEnd}
+use Rattle.lines.specs.Grounds.{stretched, periodsIn}
+use Rattle.lines.specs.Ask.{every, endsBefore, endsOf, slack, bound, greatest, anyOf, start, loadOf, askOf}
+use Rattle.lines.specs.Step.{chosen, advance, stepOf}
+use Rattle.lines.specs.Runs.{Act, asking, admitting, stepping, run, trace, times}
+use Rattle.lines.specs.Cases.{running, tableOf, caseA}
+use Rattle.promises.specs.Demand3.{admitted-table, Unstretched, Misses, Sixteen}
+use Rattle.promises.specs.Example.{toCaseA, onFromCaseA}
+use Rattle.promises.proofs.Demand3.{has-all-its-need}
+use Rattle.promises.proofs.Example.{case-A-admitted}
+
+-- ---- a miss before the last end
+
+-- a line that is owed two ticks in the last tick of its period: it ends short at 6
+abbrev ending : Table
+ending = tableOf 5 (running 2 4 3 2 ∷ [])
+
+-- R77: the miss at 6 is before 7
+pub misses-before : Misses ending 7
+unfolding lowest chosen advance stepOf
+misses-before = record { steps = 0; slot = 0; goes = λ m h. absurd (not-suc-le-zero h); misses = refl; before = omega arith }
+
+-- R77: one that falls on the last end is none
+pub no-miss-on-the-last-end : Misses ending 6 → ⊥
+no-miss-on-the-last-end m = omega (arith, m .before)
+
+-- ---- a stretch before a tick
+
+-- at clock 5 slot 0 is given p for its period of 4
+abbrev oneLine : Table
+oneLine = tableOf 5 (running 1 4 0 1 ∷ [])
+
+abbrev toPeriod : ℕ → Request
+toPeriod p = record { stretched = p ∷ replicate 15 0; need = 1; period = 4 }
+
+-- R76: at the tick 5 itself it is not before 5
+pub stretch-at-the-tick : Unstretched 0 5 (admitting (toPeriod 8) ∷ []) oneLine
+stretch-at-the-tick = ((λ h s. omega arith), tt)
+
+-- R76: it is before 6
+pub stretch-before-the-tick : Unstretched 0 6 (admitting (toPeriod 8) ∷ []) oneLine → ⊥
+unfolding euclid gcdOf lcmOf frameFrom total lowest due lastEnd stretched periodsIn every endsBefore endsOf slack bound greatest anyOf start loadOf askOf
+stretch-before-the-tick u = u .0 (omega arith) ((5, refl), omega arith)
+
+-- R76: an equal period is no stretch, nor is a longer one that is only asked for
+pub no-stretch : Unstretched 0 6 (admitting (toPeriod 4) ∷ []) oneLine × Unstretched 0 6 (asking (toPeriod 8) ∷ []) oneLine
+no-stretch = (((λ h s. omega (arith, s .1)), tt), ((λ h s. s), tt))
+
+-- ---- the list of slots that ran
+
+-- R76: in case A slot 2 waits five ticks, and of the four ticks from its start on it gets one
+pub trace-A : trace onFromCaseA (admitted-table toCaseA (caseA .request)) ≡ replicate 8 (some 1) ++ (some 2 ∷ [])
+unfolding euclid gcdOf lcmOf frameFrom total lowest due lastEnd stretched periodsIn every endsBefore endsOf slack bound greatest anyOf start loadOf askOf chosen advance stepOf
+trace-A = refl
+
+-- R73, R76: a tick that goes to nobody names no slot, and a refused step is no tick
+pub times-edges : (times 1 (some 1 ∷ none ∷ some 2 ∷ some 1 ∷ []) ≡ 2) × (trace (stepping ∷ stepping ∷ []) (tableOf 0 (running 1 4 2 0 ∷ [])) ≡ none ∷ none ∷ [])
+    × (trace (stepping ∷ []) ending ≡ [])
+unfolding lowest chosen advance stepOf
+times-edges = (refl, refl, refl)
+
+-- nine ticks, and then at 17, when slot 2 has had its period, it is stretched
+abbrev stretchedAfter : List Act
+stretchedAfter = onFromCaseA ++ (admitting (record { stretched = replicate 16 32; need = 1; period = 32 }) ∷ [])
+
+stretched-in-time : Unstretched 2 (13 + 4) stretchedAfter (admitted-table toCaseA (caseA .request))
+unfolding euclid gcdOf lcmOf frameFrom total lowest due lastEnd stretched periodsIn every endsBefore endsOf slack bound greatest anyOf start loadOf askOf chosen advance stepOf
+stretched-in-time =
+    ((λ h s. s), ((λ h s. s), ((λ h s. s), ((λ h s. s), ((λ h s. s), ((λ h s. s), ((λ h s. s), ((λ h s. s), ((λ h s. s), ((λ h s. omega arith), tt))))))))))
+
+stretched-late : 13 + 4 ≤ run stretchedAfter (admitted-table toCaseA (caseA .request)) .clock
+unfolding euclid gcdOf lcmOf frameFrom total lowest due lastEnd stretched periodsIn every endsBefore endsOf slack bound greatest anyOf start loadOf askOf chosen advance stepOf
+stretched-late = omega arith
+
+-- R76: a stretch at one period after the start comes too late to matter
+pub need-before-the-stretch : times 2 (take 4 (drop 5 (trace stretchedAfter (admitted-table toCaseA (caseA .request))))) ≡ 1
+unfolding euclid gcdOf lcmOf frameFrom total lowest due lastEnd stretched periodsIn every endsBefore endsOf slack bound greatest anyOf start loadOf askOf chosen advance stepOf
+need-before-the-stretch = has-all-its-need toCaseA (caseA .request) 13 2 case-A-admitted stretchedAfter stretched-in-time stretched-late
+
+-- ---- sixteen bits
+
+abbrev withFirst : ℕ → Request
+withFirst p = record { stretched = p ∷ []; need = 1; period = 4 }
+
+-- R6: 65,535 is one, 65,536 is none
+pub sixteen-edges : Sixteen (withFirst 65535) × (Sixteen (withFirst 65536) → ⊥)
+sixteen-edges = (low, λ s. omega (arith, s 0))
+  where
+    low : Sixteen (withFirst 65535)
+    low zero = omega arith
+    low (suc i) = omega arith

@@ -1,0 +1,53 @@
+-- The second demand: the least smooth start, R14; refused exactly on the listed grounds, R18; cards there and back, R72.
+use mathlib.Core.Path.{_≡_}
+use mathlib.Core.Logic.{_⊎_}
+use mathlib.Core.List.{List, [], _∷_, _++_}
+use Prim.Native.Nat.{ℕ, _≤_}
+use lib.ListN.{length, take, drop}
+use Rattle.lines.specs.declared.Table.{Table}
+use Rattle.lines.specs.declared.Request.{Request}
+use Rattle.lines.specs.declared.Refusal.{Refusal}
+use Rattle.lines.specs.declared.Answer.{Answer}
+use Rattle.lines.specs.Slots.{gives, refuses}
+use Rattle.lines.specs.Demand.{newDemand, Least}
+use Rattle.lines.specs.Grounds.{asked, Row, grounds, FirstOf}
+use Rattle.lines.specs.Ask.{says}
+use Rattle.ask.specs.Asked.{Asked}
+use Rattle.card.specs.declared.WriteAnswer.{WriteAnswer}
+use Rattle.card.specs.Bytes.{Bytes}
+use Rattle.card.specs.Card.{Card, carrying, cleared, Fits}
+use Rattle.card.specs.Reading.{readOf}
+use Rattle.card.specs.Answers.{saidWritten}
+use Rattle.promises.specs.Contracts.{Writes}
+
+-- R14: a start that ask answers is the least smooth one
+abbrev pub LeastStart : Type 0
+LeastStart = (t : Table) (q : Request) (a : Answer) (r : ℕ) → Asked t q a → says a ≡ gives r
+    → Least (t .clock) (asked t q) (newDemand (q .need) (q .period)) r
+
+-- R18: some ground of the list holds
+abbrev pub SomeOf : List Row → Table → Request → Type 0
+SomeOf [] t q = ⊥
+SomeOf (r ∷ rs) t q = ((k : ℕ) × r .Holds t q k) ⊎ SomeOf rs t q
+
+-- R18: ask refuses where a ground holds and nowhere else, and then with the first
+pub record ExactlyRefused : Type 0 where
+  pub first : (t : Table) (q : Request) (a : Answer) (x : Refusal) → Asked t q a → says a ≡ refuses x → FirstOf grounds t q x
+  pub only : (t : Table) (q : Request) (a : Answer) (x : Refusal) → Asked t q a → says a ≡ refuses x → SomeOf grounds t q
+  pub always : (t : Table) (q : Request) (a : Answer) → Asked t q a → SomeOf grounds t q → (x : Refusal) × (says a ≡ refuses x)
+
+-- R72: what was written reads back. `Fits` holds of every table and request of the code's types that has no waiting line.
+abbrev pub WrittenReadsBack : Type 0
+WrittenReadsBack = (t : Table) (q : Request) (l : List ℕ) (a : WriteAnswer) (m : List ℕ) (n : ℕ) → Fits 16 t q → Writes t q l a m → saidWritten a ≡ gives n
+    → readOf (take n m) ≡ gives (carrying t (cleared t q))
+
+-- R72: what reads is written back byte for byte, into any buffer that has room for it
+abbrev pub ReadWritesBack : Type 0
+ReadWritesBack = (card : List ℕ) (c : Card) (l : List ℕ) (a : WriteAnswer) (m : List ℕ) → Bytes card → readOf card ≡ gives c → length card ≤ length l
+    → Writes (c .table) (c .request) l a m → (saidWritten a ≡ gives (length card)) × (m ≡ card ++ drop (length card) l)
+
+pub record Demand2 : Type 0 where
+  pub least-start : LeastStart
+  pub exactly-refused : ExactlyRefused
+  pub written-reads-back : WrittenReadsBack
+  pub read-writes-back : ReadWritesBack
