@@ -12,11 +12,12 @@ use Rattle.card.specs.Card.{Card}
 use Rattle.card.specs.Reading.{readOf}
 use Rattle.card.specs.Answers.{handed, saidRead, saidWritten, writeOf, bufferOf}
 
--- what is handed out says what was read
+-- R56: what is handed out says what was read
 pub said-handed : (s : Said Card) → saidRead (handed s) ≡ s
 said-handed (gives c) = refl
 said-handed (refuses r) = refl
 
+-- R71: what the reader's contract allows is one thing
 pub one-reading : (l : List ℕ) (a b : ReadCard) → a ≡ handed (readOf l) → b ≡ handed (readOf l) → a ≡ b
 one-reading l a b p q = p ∙ sym q
 
@@ -29,10 +30,11 @@ unfolding answer-with
 answer-said (WriteAnswer.Length n) = refl
 answer-said (WriteAnswer.Refused r) = refl
 
--- the answer a and the buffer m that the writer's contract allows for a buffer l
+-- R59: the answer a and the buffer m that the writer's contract allows for a buffer l
 abbrev pub Written : Table → Request → List ℕ → WriteAnswer → List ℕ → Type 0
 Written t q l a m = (saidWritten a ≡ writeOf t q (length l)) × (m ≡ bufferOf t q l)
 
+-- R71: what the writer's contract allows is one answer and one buffer
 pub one-writing : (t : Table) (q : Request) (l : List ℕ) (a b : WriteAnswer) (m n : List ℕ)
     → Written t q l a m → Written t q l b n → (a ≡ b) × (m ≡ n)
 one-writing t q l a b m n p r =

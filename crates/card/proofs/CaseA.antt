@@ -1,4 +1,4 @@
--- The card of case A, in the bytes that document 01 prints.
+-- The card of case A, in the bytes that R59 prints.
 use mathlib.Core.Path.{_≡_, refl}
 use mathlib.Core.List.{List, [], _∷_, _++_}
 use Prim.Native.Nat.{ℕ}
@@ -17,24 +17,27 @@ printed =
     0x54 ∷ 0x42 ∷ 0x08 ∷ 0x00 ∷ 0x10 ∷ 0x00 ∷ 0x10 ∷ 0x00 ∷ 0x08 ∷ 0x00 ∷ 0x08 ∷ 0x00 ∷
     0x52 ∷ 0x51 ∷ 0x01 ∷ 0x00 ∷ 0x04 ∷ 0x00 ∷ []
 
+-- R59: case A is written as printed
 pub case-A-written : cardOf (caseA .table) (caseA .request) ≡ printed
 unfolding cardOf
 case-A-written = refl
 
+-- R56: and what is printed reads as case A
 pub case-A-read : readOf printed ≡ gives (record { table = caseA .table; request = caseA .request })
 unfolding readWith recordsOf recordOf marked
 case-A-read = refl
 
--- an old record where the second slot's may stand, cut to its mark
+-- R58: an old record where the second slot's may stand, cut to its mark
 pub case-A-old : readOf (take 22 printed ++ TA) ≡ refuses (refusal 12 22)
 unfolding readWith recordsOf recordOf marked
 case-A-old = refl
 
--- "a buffer of 40 bytes against 39 for card A"
+-- R59: 40 bytes are room enough
 pub case-A-in-forty : writeOf (caseA .table) (caseA .request) 40 ≡ gives 40
 unfolding cardOf lowest lengthOf
 case-A-in-forty = refl
 
+-- R33: and 39 are not
 pub case-A-in-thirty-nine : writeOf (caseA .table) (caseA .request) 39 ≡ refuses (refusal 13 0)
 unfolding cardOf lowest lengthOf
 case-A-in-thirty-nine = refl

@@ -12,6 +12,7 @@ use Rattle.card.proofs.ReadsBack.{reads-back}
 use Rattle.card.proofs.WritesBack.{writes-back}
 
 module _ (n : ℕ) where
+  -- R55: a table and request are read from one card alone
   pub one-card : (l m : List ℕ) → Bytes l → Bytes m → (c : Card) → readWith n l ≡ gives c → readWith n m ≡ gives c → l ≡ m
   one-card l m a b c p q = sym (writes-back n l a c p .0) ∙ writes-back n m b c q .0
 
@@ -23,6 +24,7 @@ module _ (n : ℕ) where
   abbrev pub IsCard : List ℕ → Type 0
   IsCard l = (t : Table) × (q : Request) × Fits n t q × (cardOf t q ≡ l)
 
+  -- R55, R56: bytes read where they are a card, and nowhere else
   pub reads-exactly : (l : List ℕ) → Bytes l → (Reads l → IsCard l) × (IsCard l → Reads l)
   reads-exactly l b = (
     λ r. let w = writes-back n l b (r .0) (r .1) in (r .0 .table, r .0 .request, w .1, w .0),

@@ -38,10 +38,10 @@ pub used-slots : (ss : List Slot) → used ss ≤ length ss
 used-slots [] = omega arith
 used-slots (s ∷ ss) = omega (arith, used-more (s .held) (used ss), used-slots ss)
 
--- a card has a record for each slot up to the last used one
+-- R55: a card has a record for each slot up to the last used one
 pub card-length : (t : Table) (q : Request) → length (cardOf t q) ≤ 16 + 12 * used (t .slots)
 card-length t q = omega (arith, length-card t q, records-length (used (t .slots)) (t .slots) (q .stretched))
 
--- "The longest card is 208 bytes."
+-- R55: no card of sixteen slots has more than 208 bytes
 pub longest-card : (t : Table) (q : Request) → length (t .slots) ≡ 16 → length (cardOf t q) ≤ 208
 longest-card t q e = omega (arith, card-length t q, used-slots (t .slots))

@@ -1,5 +1,6 @@
 -- The laws of the card.
 pub mod CaseA
+pub mod Edges
 pub mod Parts
 pub mod Numbers
 pub mod Marks

@@ -23,7 +23,7 @@ value-cons (suc n) b l at = ap (λ (v : ℕ). getD l at 0 + 256 * v) (value-cons
 less : (n v w : ℕ) → v < w → w ≡ 256 * n → v / 256 < n
 less n v w h e = omega arith
 
--- what was put is what is got
+-- R52: what was put is what is got
 pub value-le : (n v : ℕ) (x : List ℕ) → v < 256 ^ n → value n (le n v ++ x) 0 ≡ v
 value-le zero v x h = omega arith
 value-le (suc n) v x h =
@@ -37,7 +37,7 @@ low a b h = omega arith
 pub high : (a b : ℕ) → a < 256 → (a + 256 * b) / 256 ≡ b
 high a b h = omega arith
 
--- what is got stands there
+-- R52: what is got stands there
 pub le-value : (n : ℕ) (l : List ℕ) (at : ℕ) → Bytes l → at + n ≤ length l → drop at l ≡ le n (value n l at) ++ drop (at + n) l
 le-value zero l at b h = ap (λ (k : ℕ). drop k l) (sym (add-zero at))
 le-value (suc n) l at b h =

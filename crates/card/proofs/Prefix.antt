@@ -121,9 +121,10 @@ read-take n l m h =
       records-take (value 8 l 2) n false 10 (drop 10 l) (m - 10) (omega arith),
     )
 
--- the verdict is that on the first bytes, 209 for sixteen slots, so that inputs that agree on these get the same
+-- R57: the verdict is that on the first bytes, one more than the longest card has
 pub verdict-by-prefix : (n : ℕ) (l : List ℕ) → readWith n (take (17 + 12 * n) l) ≡ readWith n l
 verdict-by-prefix n l = read-take n l (17 + 12 * n) (omega arith)
 
+-- R57: so inputs that agree on 209 bytes get the same verdict
 pub verdict-by-209 : (l m : List ℕ) → take 209 l ≡ take 209 m → readOf l ≡ readOf m
 verdict-by-209 l m e = sym (verdict-by-prefix 16 l) ∙ ap readOf e ∙ verdict-by-prefix 16 m

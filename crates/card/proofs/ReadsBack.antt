@@ -1,4 +1,4 @@
--- A written card reads back as the table and the request, entries of empty slots being 0.
+-- A written card reads back as the table and the request, up to the entries of empty slots (R72).
 use mathlib.Core.Path.{_≡_, refl, sym, ap, ap₂, _∙_}
 use mathlib.Core.List.{List, [], _∷_, _++_}
 use mathlib.Core.Bool.{Bool, true, false}
@@ -109,6 +109,7 @@ after-clock n k x h =
     reads-clock n (clockRecord k ++ x) (omega arith) (marked-here CK (le 8 k ++ x))
     ∙ ap (λ (v : ℕ). recordsOf v n false 10 x) (value-le 8 k x h)
 
+-- R72: what was written is read
 pub reads-back : (n : ℕ) (t : Table) (q : Request) → Fits n t q
     → readWith n (cardOf t q) ≡ gives (carrying t (cleared t q))
 unfolding cardOf

@@ -1,4 +1,4 @@
--- The refusals of document 01, each with its offset, behind whole records of any number of slots.
+-- The refusals of R57 and R58, each with its offset, behind whole records of any number of slots.
 use mathlib.Core.Path.{_≡_, refl, sym, ap, ap₂, _∙_}
 use mathlib.Core.List.{List, [], _∷_, _++_, append-assoc}
 use mathlib.Core.Bool.{Bool, true, false}
@@ -66,8 +66,9 @@ passed k left x (s ∷ ss) (t ∷ ts) gap at f =
     ap (recordsOf k (suc (length ss) + left) gap at) (append-assoc (slotRecord (s .held) t) (allRecords ss ts) x)
     ∙ pass-one k left x (s .held) ss t ts gap at (f .0) (λ o a. passed k left x ss ts o a (f .1))
 
--- the first record: "CK … First, once."
+-- the first record
 module _ (n : ℕ) (l : List ℕ) where
+  -- R31, R57: another mark than CK opens the card
   pub no-clock : marked CK l ≡ false → readWith n l ≡ broken 0
   unfolding readWith
   no-clock h = go (leb 10 (length l))
@@ -76,11 +77,12 @@ module _ (n : ℕ) (l : List ℕ) where
       go true = ap (λ (u : Bool). pick u (recordsOf (value 8 l 2) n false 10 (drop 10 l)) (broken 0)) h
       go false = refl
 
-  -- where a slot record may not stand, the old mark is one more wrong mark
+  -- R57: the old mark in place of CK is one more wrong mark
   pub old-mark-first : marked TA l ≡ true → readWith n l ≡ broken 0
   unfolding marked
   old-mark-first h = no-clock (marked-other TA CK l h refl)
 
+  -- R57: too few bytes for the clock's record
   pub cut-clock : length l < 10 → readWith n l ≡ broken 0
   unfolding readWith
   cut-clock h = ap (λ (o : Bool). pick (both o (marked CK l)) (recordsOf (value 8 l 2) n false 10 (drop 10 l)) (broken 0)) (lt-leb 10 (length l) h)
@@ -103,7 +105,7 @@ module _ (k : ℕ) (ss : List Slot) (ts : List ℕ) (left : ℕ) (x : List ℕ) 
   refused-there : (m : ℕ) → recordOf left x ≡ Refused m → readWith slotsOf card ≡ refuses (refusal m offset)
   refused-there m e = there (refusal m offset) (records-refused k left (afterFree false ss) offset x m e)
 
-  -- "A missing, unknown or misplaced mark": no RQ, and no slot's mark
+  -- R57: neither RQ nor a slot's mark
   pub unknown-mark : marked RQ x ≡ false → marked TB x ≡ false → marked TF x ≡ false → marked TA x ≡ false
       → readWith slotsOf card ≡ broken offset
   unknown-mark q b c d = refused-there 11 (go left refl)
@@ -112,28 +114,31 @@ module _ (k : ℕ) (ss : List Slot) (ts : List ℕ) (left : ℕ) (x : List ℕ) 
       go zero e = at-end left x q e
       go (suc n) e = at-unknown left x q (omega arith) b c d
 
+  -- R57: no two bytes are left for a mark
   pub missing-mark : length x < 2 → readWith slotsOf card ≡ broken offset
   missing-mark h = unknown-mark (marked-short RQ x h) (marked-short TB x h) (marked-short TF x h) (marked-short TA x h)
 
+  -- R57: CK where a slot's record or RQ may stand
   pub misplaced-mark : marked CK x ≡ true → readWith slotsOf card ≡ broken offset
   unfolding marked
   misplaced-mark h =
       unknown-mark (marked-other CK RQ x h refl) (marked-other CK TB x h refl) (marked-other CK TF x h refl) (marked-other CK TA x h refl)
 
-  -- "a cut record"
+  -- R57: TB with fewer bytes left than its record has
   pub cut-line : 0 < left → marked TB x ≡ true → length x < 12 → readWith slotsOf card ≡ broken offset
   unfolding marked
   cut-line p h c = refused-there 11 (at-line left x (marked-other TB RQ x h refl) p h ∙ line-cut x c)
 
+  -- R57: RQ with fewer bytes left than its record has
   pub cut-request : marked RQ x ≡ true → length x < 6 → readWith slotsOf card ≡ broken offset
   cut-request h c = refused-there 11 (at-last left x h ∙ last-cut x c)
 
-  -- "a seventeenth slot record": its mark is TB, TF or TA, and no slot is left
+  -- R57: a record marked TB, TF or TA where no slot is left
   pub one-record-too-many : left ≡ 0 → (b : ℕ) → marked (0x54 ∷ b ∷ []) x ≡ true → readWith slotsOf card ≡ broken offset
   unfolding marked
   one-record-too-many e b h = refused-there 11 (at-end left x (marked-other (0x54 ∷ b ∷ []) RQ x h refl) e)
 
-  -- "for TF before RQ, the offset of RQ"
+  -- R57: RQ directly after TF
   pub free-before-request : afterFree false ss ≡ true → marked RQ x ≡ true → readWith slotsOf card ≡ broken offset
   free-before-request g h =
       elim (decLt (length x) 6) [
@@ -143,7 +148,7 @@ module _ (k : ℕ) (ss : List Slot) (ts : List ℕ) (left : ℕ) (x : List ℕ) 
             ∙ ap (λ (o : Bool). closing o offset (length x) (ending k left (value 2 x 2) (value 2 x 4))) g)
       ]
 
-  -- "a byte after RQ … at the offset where that … byte begins"
+  -- R57: a byte after RQ
   pub byte-after-request : afterFree false ss ≡ false → marked RQ x ≡ true → 6 < length x → readWith slotsOf card ≡ broken (offset + 6)
   byte-after-request g h w =
       there (refusal 11 (offset + 6))
@@ -151,7 +156,7 @@ module _ (k : ℕ) (ss : List Slot) (ts : List ℕ) (left : ℕ) (x : List ℕ) 
       ∙ ap₂ (λ (o u : Bool). pick o (broken offset) (pick u (gives (ending k left (value 2 x 2) (value 2 x 4))) (broken (offset + 6))))
       g (ne-eqb (length x) 6 (λ e. omega arith)))
 
-  -- "A TA mark where a slot record may stand is refusal 12, its record cut or whole."
+  -- R32, R58: the old mark where a slot is left, whatever follows it
   pub old-mark : 0 < left → marked TA x ≡ true → readWith slotsOf card ≡ refuses (refusal 12 offset)
   unfolding marked
   old-mark p h =

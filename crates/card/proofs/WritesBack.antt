@@ -1,4 +1,4 @@
--- A card that reads is written back byte for byte.
+-- A card that reads is written back as it was (R72).
 use mathlib.Core.Path.{_≡_, refl, sym, ap, ap₂, _∙_}
 use mathlib.Core.List.{List, [], _∷_, _++_}
 use mathlib.Core.Bool.{Bool, true, false}
@@ -133,7 +133,7 @@ right k (suc n) gap at l b =
 clock-is : (l : List ℕ) → Bytes l → marked CK l ≡ true → 10 ≤ length l → l ≡ clockRecord (value 8 l 2) ++ drop 10 l
 clock-is l b m h = marked-is CK l m ∙ ap (λ (x : List ℕ). CK ++ x) (le-value 8 l 2 b h)
 
--- what was read fits, and its card is what was read
+-- R72: what was read fits, and its card is what was read
 pub writes-back : (n : ℕ) (l : List ℕ) → Bytes l → (c : Card) → readWith n l ≡ gives c
     → (cardOf (c .table) (c .request) ≡ l) × Fits n (c .table) (c .request)
 unfolding readWith cardOf

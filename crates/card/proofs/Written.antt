@@ -31,7 +31,7 @@ no-waiting (s ∷ ss) [] f i h = absurd f
 no-waiting (s ∷ ss) (t ∷ ts) f zero h = carried-runs (s .held) t (f .0)
 no-waiting (s ∷ ss) (t ∷ ts) f (suc i) h = no-waiting ss ts (f .1) i (le-of-suc-le-suc h)
 
--- the length that the writer answers is the card's
+-- R59: the length that the writer answers is the card's
 pub length-written : (t : Table) (q : Request) (room n : ℕ) → writeOf t q room ≡ gives n → n ≡ length (cardOf t q)
 unfolding lengthOf
 length-written t q room n e = go (lowestOf isWaiting (t .slots)) (leb (length (cardOf t q)) room) e
@@ -41,7 +41,7 @@ length-written t q room n e = go (lowestOf isWaiting (t .slots)) (leb (length (c
     go none true p = cc
     go none false p = let z : _≡_ {A = ℕ} 0 1 = cc in absurd (omega arith)
 
--- "Reading a written card gives the table and the request back, entries of empty slots being 0."
+-- R72: what stands in the buffer after writing reads back
 pub written-reads : (n : ℕ) (t : Table) (q : Request) → Fits n t q → (l : List ℕ) (m : ℕ) → writeOf t q (length l) ≡ gives m
     → readWith n (take m (bufferOf t q l)) ≡ gives (carrying t (cleared t q))
 written-reads n t q f l m e =

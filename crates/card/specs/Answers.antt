@@ -13,11 +13,11 @@ use Rattle.card.specs.declared.ReadCard.{ReadCard}
 use Rattle.card.specs.declared.WriteAnswer.{WriteAnswer}
 use Rattle.card.specs.Card.{Card, cardOf}
 
--- "a request of zeros"
+-- R56: the request beside a refusal
 abbrev pub zeroRequest : Request
 zeroRequest = record { stretched = replicate 16 0; need = 0; period = 0 }
 
--- "With a refusal the reader hands out the empty table and a request of zeros."
+-- R56: what is handed out; beside a refusal it is nothing of the card
 abbrev pub handed : Said Card → ReadCard
 handed (gives c) = record { table = c .table; request = c .request; answer = Read }
 handed (refuses r) = record { table = emptyTable; request = zeroRequest; answer = Refused r }
@@ -36,25 +36,25 @@ abbrev pub saidWritten : WriteAnswer → Said ℕ
 saidWritten (WriteAnswer.Length n) = gives n
 saidWritten (WriteAnswer.Refused r) = refuses r
 
--- "buffer too short for the card" is 13; "otherwise it answers the card's length"
+-- R33: the card's length where there is room for it
 unfoldable pub lengthOf : Table → Request → (room : ℕ) → Said ℕ
 lengthOf t q room =
     pick (leb (length (cardOf t q)) room) (gives (length (cardOf t q))) (refuses (refusal 13 0))
 
--- "a slot holds a waiting line" is 3, at the lowest such slot
+-- R23: a waiting line is refused at its slot
 abbrev pub unlessWaiting : Option ℕ → Said ℕ → Said ℕ
 unlessWaiting (some k) s = refuses (refusal 3 k)
 unlessWaiting none s = s
 
--- "The writer refuses 3, then 13"
+-- R59: waiting lines first, then the room
 abbrev pub writeOf : Table → Request → (room : ℕ) → Said ℕ
 writeOf t q room = unlessWaiting (lowestOf isWaiting (t .slots)) (lengthOf t q room)
 
--- the buffer after an answer: "bytes after the card stay"
+-- R17, R59: the buffer after an answer; a refusal leaves every byte
 abbrev pub filled : List ℕ → List ℕ → Said ℕ → List ℕ
 filled card l (gives n) = card ++ drop n l
 filled card l (refuses r) = l
 
--- the lent buffer when the writer returns
+-- R59: the lent buffer when the writer returns
 abbrev pub bufferOf : Table → Request → List ℕ → List ℕ
 bufferOf t q l = filled (cardOf t q) l (writeOf t q (length l))

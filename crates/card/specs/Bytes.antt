@@ -1,4 +1,4 @@
--- Little-endian numbers and two-byte marks in lists of bytes.
+-- Numbers and marks in lists of bytes (R52).
 use Prim.Native.Nat.{ℕ, zero, suc, _+_, _*_, _/_, _%_, _<_}
 use mathlib.Core.List.{List, [], _∷_}
 use mathlib.Core.Bool.{Bool, true, false}
@@ -10,33 +10,33 @@ use Rattle.lines.specs.Slots.{both}
 abbrev pub Bytes : List ℕ → Type 0
 Bytes l = (i : ℕ) → getD l i 0 < 256
 
--- "numbers are little-endian": v in so many bytes
+-- R52: v in so many bytes, the lowest first
 abbrev pub le : (width : ℕ) → ℕ → List ℕ
 le zero v = []
 le (suc n) v = v % 256 ∷ le n (v / 256)
 
--- the number in so many bytes from an offset on
+-- R52: the number in so many bytes from an offset on
 abbrev pub value : (width : ℕ) → List ℕ → (at : ℕ) → ℕ
 value zero l at = 0
 value (suc n) l at = getD l at 0 + 256 * value n l (suc at)
 
--- "Every record opens with a two-byte mark in ASCII": the clock
+-- R53: the mark of the clock
 abbrev pub CK : List ℕ
 CK = 0x43 ∷ 0x4B ∷ []
 
--- a slot that runs a line
+-- R53: the mark of a slot that runs a line
 abbrev pub TB : List ℕ
 TB = 0x54 ∷ 0x42 ∷ []
 
--- a slot that holds nothing
+-- R53: the mark of a slot that holds nothing
 abbrev pub TF : List ℕ
 TF = 0x54 ∷ 0x46 ∷ []
 
--- generation three's line
+-- R53: the old mark, of the third generation
 abbrev pub TA : List ℕ
 TA = 0x54 ∷ 0x41 ∷ []
 
--- the new line
+-- R53: the mark of the new line
 abbrev pub RQ : List ℕ
 RQ = 0x52 ∷ 0x51 ∷ []
 
@@ -44,7 +44,7 @@ RQ = 0x52 ∷ 0x51 ∷ []
 abbrev pub markOf : List ℕ → List ℕ
 markOf m = getD m 0 0 ∷ getD m 1 0 ∷ []
 
--- the bytes open with the mark
+-- R52: the bytes open with the mark
 unfoldable pub marked : (mark : List ℕ) → List ℕ → Bool
 marked [] l = true
 marked (a ∷ m) [] = false

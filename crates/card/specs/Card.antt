@@ -11,25 +11,25 @@ use Rattle.lines.specs.declared.Table.{Table}
 use Rattle.lines.specs.declared.Request.{Request}
 use Rattle.card.specs.Bytes.{le, CK, TB, TF, RQ}
 
--- "CK, then the clock, 8 bytes."
+-- R53: CK and the clock
 abbrev pub clockRecord : (clock : ℕ) → List ℕ
 clockRecord k = CK ++ le 8 k
 
--- "TB, then C, T, T', age, remaining, 2 bytes each"
+-- R53: TB and the line's five numbers, T' the third
 abbrev pub lineRecord : Run → (T' : ℕ) → List ℕ
 lineRecord r t = TB ++ (le 2 (r .need) ++ (le 2 (r .period) ++ (le 2 t ++ (le 2 (r .age) ++ le 2 (r .remaining)))))
 
--- "or TF alone for a slot that holds nothing". A waiting line has no record: no card carries one.
+-- R53: TB or TF. A waiting line has no record: no card carries one.
 abbrev pub slotRecord : Held → (T' : ℕ) → List ℕ
 slotRecord Nothing t = TF
 slotRecord (Running r) t = lineRecord r t
 slotRecord (Waiting w) t = []
 
--- "RQ, then Cn, Tn, 2 bytes each."
+-- R53: RQ and the new line's two numbers
 abbrev pub requestRecord : (Cn Tn : ℕ) → List ℕ
 requestRecord c t = RQ ++ (le 2 c ++ le 2 t)
 
--- the records of the first n slots, "from 0 up"; where there is no entry it is 0
+-- R54: the records of the first n slots, slot 0 first; where there is no entry it is 0
 abbrev pub slotRecords : ℕ → List Slot → (stretched : List ℕ) → List ℕ
 slotRecords zero ss ts = []
 slotRecords (suc n) [] ts = []
@@ -47,12 +47,12 @@ usedFrom Nothing n = oneMore n
 usedFrom (Running r) n = suc n
 usedFrom (Waiting w) n = suc n
 
--- how many slots there are up to the last that holds something: "Slots after the last record hold nothing"
+-- R55: how many slots there are up to the last that holds something
 abbrev pub used : List Slot → ℕ
 used [] = zero
 used (s ∷ ss) = usedFrom (s .held) (used ss)
 
--- the card: the clock, the slots up to the last used one, the new line
+-- R54, R55: the clock, the slots up to the last used one, the new line
 unfoldable pub cardOf : Table → Request → List ℕ
 cardOf t q =
     clockRecord (t .clock) ++
@@ -68,23 +68,23 @@ pub record Card : Type 0 where
 abbrev pub carrying : Table → Request → Card
 carrying t q = record { table = t; request = q }
 
--- "entries of empty slots being 0": what a card carries of the entry of a slot
+-- R72: what a card carries of a slot's entry, none where the slot holds nothing
 abbrev pub entryOf : Held → ℕ → ℕ
 entryOf Nothing t = 0
 entryOf (Running r) t = t
 entryOf (Waiting w) t = t
 
--- the entries, one for each slot, that a card carries
+-- R72: the entries, one for each slot, that a card carries
 abbrev pub entries : List Slot → List ℕ → List ℕ
 entries [] ts = []
 entries (s ∷ ss) [] = []
 entries (s ∷ ss) (t ∷ ts) = entryOf (s .held) t ∷ entries ss ts
 
--- the request that a card carries
+-- R72: the request that a card carries
 abbrev pub cleared : Table → Request → Request
 cleared t q = record { stretched = entries (t .slots) (q .stretched); need = q .need; period = q .period }
 
--- the numbers of a slot fit two bytes each, and no line waits
+-- R53: the numbers of a slot fit two bytes each, and no line waits
 abbrev pub Carried : Held → (T' : ℕ) → Type 0
 Carried Nothing t = Unit {0}
 Carried (Running r) t =
@@ -98,7 +98,7 @@ AllCarried [] (t ∷ ts) = ⊥
 AllCarried (s ∷ ss) [] = ⊥
 AllCarried (s ∷ ss) (t ∷ ts) = Carried (s .held) t × AllCarried ss ts
 
--- a table of n slots without waiting lines and a request, whose numbers fit their widths
+-- R2, R6: a table of n slots without waiting lines and a request, whose numbers fit their widths
 pub record Fits (n : ℕ) (t : Table) (q : Request) : Type 0 where
   pub slots : length (t .slots) ≡ n
   pub clock : t .clock < 18446744073709551616

@@ -1,4 +1,4 @@
--- The card of document 01: its bytes, its reading, what reader and writer answer.
+-- The card, R52 to R59: its bytes, its reading, what reader and writer answer.
 pub mod Bytes
 pub mod Card
 pub mod Reading

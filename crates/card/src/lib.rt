@@ -4,7 +4,7 @@ use lines::Request;
 use lines::Run;
 use lines::Table;
 
-// What stands where a slot record or RQ may stand: a line with its T', a slot that holds nothing, the new line, or a refusal's number.
+// R53, R57: what stands where a slot's record or RQ may stand: a line with its T', a slot that holds nothing, the new line, or a refusal's number.
 pub enum Record {
     Line(Run, u16),
     Free,
@@ -12,18 +12,20 @@ pub enum Record {
     Refused(u16),
 }
 
+// R56: the card was read, or refused.
 pub enum CardAnswer {
     Read,
     Refused(Refusal),
 }
 
-// What the reader hands out. The table and the request stand beside the answer, as they are there with a refusal too.
+// R56: what the reader hands out. The table and the request stand beside the answer, as they are there with a refusal too.
 pub struct ReadCard {
     pub table: Table,
     pub request: Request,
     pub answer: CardAnswer,
 }
 
+// R59: the card's length, or a refusal.
 pub enum WriteAnswer {
     Length(usize),
     Refused(Refusal),

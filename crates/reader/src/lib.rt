@@ -25,6 +25,7 @@ fn wide(b: u8) -> u16
     b as u16
 }
 
+// R52: the lower byte comes first.
 fn get16(s: &[u8], at: usize) -> u16
     requires { ⌜ at + 1 < length (now s) ⌝ }
     ensures { λ r. ⌜ r ≡ value 2 (now (s .entry)) at ⌝ }
@@ -34,7 +35,7 @@ fn get16(s: &[u8], at: usize) -> u16
     low + high * 256
 }
 
-// CK, and the clock after it.
+// R53: CK, and the clock after it.
 fn clock(s: &[u8]) -> u64
     requires { ⌜ 10 ≤ length (now s) ⌝ }
     ensures { λ r. ⌜ r ≡ value 8 (now (s .entry)) 2 ⌝ }
@@ -46,6 +47,7 @@ fn clock(s: &[u8]) -> u64
     a + b * 65536 + c * 4294967296 + d * 281474976710656
 }
 
+// R52: the two bytes of a mark.
 fn opens(s: &[u8], mark: &[u8; 2]) -> bool
     ensures { λ r. ⌜ r ≡ marked (markOf (now (mark .entry))) (now (s .entry)) ⌝ }
 {
@@ -58,7 +60,7 @@ fn opens(s: &[u8], mark: &[u8; 2]) -> bool
     s[1] == mark[1]
 }
 
-// TB, and what follows it.
+// R53, R57: TB, and what follows it.
 fn line(s: &[u8]) -> Record
     ensures { λ r. ⌜ r ≡ lineOf (now (s .entry)) ⌝ }
 {
@@ -76,7 +78,7 @@ fn line(s: &[u8]) -> Record
     )
 }
 
-// RQ, and what follows it.
+// R53, R57: RQ, and what follows it.
 fn last(s: &[u8]) -> Record
     ensures { λ r. ⌜ r ≡ lastOf (now (s .entry)) ⌝ }
 {
@@ -86,7 +88,7 @@ fn last(s: &[u8]) -> Record
     Record::Last(get16(s, 2), get16(s, 4))
 }
 
-// The record at the front of `s`, where `left` slots have none yet.
+// R32, R57, R58: the record at the front of `s`, where `left` slots have none yet.
 fn front(s: &[u8], left: usize) -> Record
     ensures { λ r. ⌜ r ≡ recordOf left (now (s .entry)) ⌝ }
 {
@@ -134,7 +136,7 @@ fn request_of(stretched: [u16; 16], need: u16, period: u16) -> Request
     }
 }
 
-// "With a refusal the reader hands out the empty table and a request of zeros."
+// R56: what is handed out beside a refusal.
 fn refused(number: u16, at: usize) -> ReadCard
     ensures { λ r. ⌜ r ≡ handed (refuses (refusal number at)) ⌝ }
 {
@@ -145,7 +147,7 @@ fn refused(number: u16, at: usize) -> ReadCard
     }
 }
 
-// RQ at `at`, on a card of `len` bytes: no TF stands before it, and no byte after it.
+// R57: RQ at `at`, on a card of `len` bytes: no TF stands before it, and no byte after it.
 fn closed(len: usize, at: usize, gap: bool, table: Table, request: Request) -> ReadCard
     requires { ⌜ at + 6 ≤ len ⌝ }
     ensures { λ r. ⌜ r ≡ handed (closing gap at (len - at) (carrying table request)) ⌝ }
@@ -171,7 +173,7 @@ fn record_at(card: &[u8], at: usize, left: usize) -> Record
     front(&card[at..], left)
 }
 
-// The records after the clock's.
+// R54, R55: the records after the clock's; slots without one hold nothing.
 fn records(card: &[u8]) -> ReadCard
     requires { ⌜ 10 ≤ length (now card) ⌝ }
     ensures { λ r. ⌜ r ≡ handed (recordsOf (value 8 (now (card .entry)) 2) 16 false 10 (drop 10 (now (card .entry)))) ⌝ }
@@ -211,7 +213,7 @@ fn records(card: &[u8]) -> ReadCard
     }
 }
 
-// Any bytes of any length. The contract is an equation: it settles all that is handed out.
+// R31, R56, R57: any bytes of any length. The contract is an equation: it settles all that is handed out.
 pub fn read(card: &[u8]) -> ReadCard
     ensures { λ r. ⌜ r ≡ handed (readOf (now (card .entry))) ⌝ }
 {

@@ -43,7 +43,7 @@ digits-more n h =
     ∙ in-more n n h
     ∙ ap (λ (l : List ℕ). l ++ (glyph (n % 10) ∷ [])) (enough n (n / 10) (n / 10) (omega arith) (omega arith))
 
--- "numbers in decimal", for every number: the steps of the definition are gone
+-- R61: decimal for every number, the steps of the definition gone
 pub digits-equation : (n : ℕ) → digits n ≡ inDecimal (ltb n 10) n digits
 digits-equation n = split n (λ h. rw (lt-ltb n 10 h) (digits-below n h)) (λ h. rw (le-ltb n 10 h) (digits-more n h))
 
@@ -64,14 +64,14 @@ value-one : (v d : ℕ) → valueFrom v (glyph d ∷ []) ≡ v * 10 + d
 unfolding valueFrom
 value-one v d = omega arith
 
--- reading the digits in decimal gives the number
+-- R61: reading the digits in decimal gives the number
 pub digits-read-back : (n : ℕ) → valueOf (digits n) ≡ n
 digits-read-back =
     by-digits (λ n. valueOf (digits n) ≡ n)
     (λ n h. rw (digits-below n h, value-one) (omega arith))
     (λ n h e. rw (digits-more n h, value-append, e, value-one) (omega arith))
 
--- so two numbers with the same digits are the same
+-- R61: so two numbers with the same digits are the same
 pub digits-one : (m n : ℕ) → digits m ≡ digits n → m ≡ n
 digits-one m n e = sym (digits-read-back m) ∙ ap valueOf e ∙ digits-read-back n
 
@@ -84,7 +84,7 @@ all-one : (d : ℕ) → d < 10 → AllDigits (glyph d ∷ [])
 unfolding AllDigits
 all-one d h = (omega arith, omega arith, tt)
 
--- every byte is a digit
+-- R61: every byte is a digit
 pub digits-are-digits : (n : ℕ) → AllDigits (digits n)
 digits-are-digits =
     by-digits (λ n. AllDigits (digits n))
@@ -117,11 +117,11 @@ first-digit =
     let z : n / 10 ≡ 0 = f g in
     omega arith)
 
--- the first digit is a zero only for 0, which is the single digit 48
+-- R61: the first digit is a zero only for 0, which is the single digit 48
 pub digits-no-leading-zero : (n : ℕ) → getD (digits n) 0 0 ≡ 48 → (n ≡ 0) × (digits n ≡ 48 ∷ [])
 digits-no-leading-zero n e = (first-digit n e, ap digits (first-digit n e) ∙ zero-digit)
 
--- a number below a power of ten has no more digits than that power
+-- R61: a number below a power of ten has no more digits than that power
 pub digits-short : (k n : ℕ) → n < 10 ^ suc k → length (digits n) ≤ suc k
 digits-short zero n h = omega (arith, length-below n (omega arith))
 digits-short (suc k) n h =

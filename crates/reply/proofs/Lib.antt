@@ -2,3 +2,4 @@
 pub mod Digits
 pub mod Line
 pub mod Laid
+pub mod Edges

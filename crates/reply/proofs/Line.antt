@@ -15,17 +15,17 @@ use Rattle.reply.specs.declared.Written.the-variants.{Length, Short}
 use Rattle.reply.specs.Line.{lengthOf, lengthFor, heldAfter, digitsIn, digits, AllDigits, lineOf, Wide, Replied, newline, space}
 use Rattle.reply.proofs.Digits.{digits-one, digits-are-digits, digits-short}
 
--- "Its whole output is `release 13` and a newline"
+-- R61: case A's line
 pub line-of-case-A : lineOf (says (Start 13)) ≡ 114 ∷ 101 ∷ 108 ∷ 101 ∷ 97 ∷ 115 ∷ 101 ∷ 32 ∷ 49 ∷ 51 ∷ 10 ∷ []
 unfolding digitsIn digits lineOf
 line-of-case-A = refl
 
--- refusal 9 at place 0 is `refused 9 0` and a newline
+-- R61: refusal 9 at place 0 is `refused 9 0` and a newline
 pub line-of-refusal-9 : lineOf (says (Refused (refusal 9 0))) ≡ 114 ∷ 101 ∷ 102 ∷ 117 ∷ 115 ∷ 101 ∷ 100 ∷ 32 ∷ 57 ∷ 32 ∷ 48 ∷ 10 ∷ []
 unfolding digitsIn digits lineOf
 line-of-refusal-9 = refl
 
--- the line of the greatest number and the greatest place has 35 bytes
+-- R61: the line of the greatest number and the greatest place has 35 bytes
 pub line-of-the-longest : length (lineOf (says (Refused (refusal 65535 18446744073709551615)))) ≡ 35
 unfolding digitsIn digits lineOf
 line-of-the-longest = refl
@@ -64,7 +64,7 @@ refuses-one m p n q e =
     let f = numbers m n _ _ 32 32 (omega arith) (omega arith) w in
     (f .0, numbers p q [] [] 10 10 (omega arith) (omega arith) (f .1) .0)
 
--- two different answers have different lines
+-- R61: two different answers have different lines
 pub line-unique : (s t : Said ℕ) → lineOf s ≡ lineOf t → s ≡ t
 line-unique (gives r) (gives s) e = ap gives (gives-one r s e)
 line-unique (gives r) (refuses x) e = absurd (differ r (x .number) (x .place) e)
@@ -73,6 +73,7 @@ line-unique (refuses x) (refuses y) e =
     let h = refuses-one (x .number) (x .place) (y .number) (y .place) e in
     rw (h .0, h .1)
 
+-- R61: the same of the code's answers
 pub answer-unique : (a b : Answer) → lineOf (says a) ≡ lineOf (says b) → a ≡ b
 answer-unique (Start r) (Start s) e = let h : gives r ≡ gives s = line-unique _ _ e in cc
 answer-unique (Start r) (Refused x) e = let h : gives r ≡ refuses x = line-unique _ _ e in cc
@@ -95,13 +96,13 @@ pub refused-length : {a : Answer} (x : Refusal) (m k : ℕ) → a ≡ Refused x 
     → 10 + m + k ≡ length (lineOf (says a))
 refused-length x m k e g h = rw e (omega (arith, refuses-length (x .number) (x .place)))
 
--- 40 bytes are enough: a number of 64 bits has at most 20 digits, and one of 16 at most 5
+-- R61: 40 bytes are enough: a number of 64 bits has at most 20 digits, and one of 16 at most 5
 pub line-length : (s : Said ℕ) → Wide s → length (lineOf s) ≤ 40
 line-length (gives r) h = omega (arith, gives-length r, digits-short 19 r (omega arith))
 line-length (refuses x) h =
     omega (arith, refuses-length (x .number) (x .place), digits-short 4 (x .number) (omega arith), digits-short 19 (x .place) (omega arith))
 
--- what a reply may be is one thing
+-- R71: what a reply may be is one thing
 pub reply-settled : (line : List ℕ) (r s : Reply) → Replied line r → Replied line s → r ≡ s
 reply-settled line r s v w =
     let n : r .len ≡ s .len = v .long ∙ sym (w .long) in
@@ -117,7 +118,7 @@ length-one (Length m) Short e = cc
 length-one Short (Length n) e = cc
 length-one Short Short e = refl
 
--- and so are what putting a line into a buffer may answer and what the buffer may then hold
+-- R71: and so are what putting a line into a buffer may answer and what the buffer may then hold
 pub put-reply-settled : (line buffer : List ℕ) (r s : Written) (m n : List ℕ)
     → (lengthOf r ≡ lengthFor line buffer) × (m ≡ heldAfter line buffer)
     → (lengthOf s ≡ lengthFor line buffer) × (n ≡ heldAfter line buffer)

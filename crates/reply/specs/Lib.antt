@@ -1,2 +1,2 @@
--- The words of document 01 on the answering program's line.
+-- The line of an answer, R61 and R62.
 pub mod Line

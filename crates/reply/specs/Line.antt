@@ -1,4 +1,4 @@
--- "The answering program … writes one line": its bytes, and what holds them.
+-- The line of an answer (R61): its bytes, and what holds them.
 use Prim.Native.Nat.{ℕ, zero, suc, _+_, _-_, _*_, _/_, _%_, _^_, _≤_, _<_}
 use mathlib.Core.Path.{_≡_}
 use mathlib.Core.Bool.{Bool, true, false}
@@ -11,11 +11,11 @@ use Rattle.reply.specs.declared.Reply.{Reply}
 use Rattle.reply.specs.declared.Written.{Written}
 use Rattle.reply.specs.declared.Written.the-variants.{Length, Short}
 
--- the digit d in ASCII
+-- R61: the digit d in ASCII
 abbrev pub glyph : ℕ → ℕ
 glyph d = 48 + d
 
--- "numbers in decimal": a number below 10 is its one digit; any other is the digits of n / 10, which `front` gives, and then the digit n % 10
+-- R61: a number below 10 is its one digit; any other is the digits of n / 10, which `front` gives, and then the digit n % 10
 abbrev pub inDecimal : (below : Bool) (n : ℕ) (front : ℕ → List ℕ) → List ℕ
 inDecimal true n front = glyph n ∷ []
 inDecimal false n front = front (n / 10) ++ (glyph (n % 10) ∷ [])
@@ -25,7 +25,7 @@ unfoldable pub digitsIn : (steps n : ℕ) → List ℕ
 digitsIn zero n = glyph n ∷ []
 digitsIn (suc steps) n = inDecimal (ltb n 10) n (digitsIn steps)
 
--- the digits of n. From 10 on n / 10 is below n, so that n steps are enough.
+-- R61: the digits of n. From 10 on n / 10 is below n, so that n steps are enough.
 unfoldable pub digits : ℕ → List ℕ
 digits n = digitsIn n n
 
@@ -34,35 +34,37 @@ unfoldable pub valueFrom : (v : ℕ) → List ℕ → ℕ
 valueFrom v [] = v
 valueFrom v (d ∷ ds) = valueFrom (v * 10 + (d - 48)) ds
 
--- the number that digits say, read in decimal
+-- R61: the number that digits say, read in decimal
 abbrev pub valueOf : List ℕ → ℕ
 valueOf ds = valueFrom 0 ds
 
--- each byte is a digit, `0` to `9`
+-- R61: each byte is a digit, `0` to `9`
 unfoldable pub AllDigits : List ℕ → Type 0
 AllDigits [] = Unit {0}
 AllDigits (d ∷ ds) = (48 ≤ d) × (d ≤ 57) × AllDigits ds
 
--- `release` and the space after it
+-- R61: `release` and the space after it
 abbrev pub release : List ℕ
 release = 114 ∷ 101 ∷ 108 ∷ 101 ∷ 97 ∷ 115 ∷ 101 ∷ 32 ∷ []
 
--- `refused` and the space after it
+-- R61: `refused` and the space after it
 abbrev pub refused : List ℕ
 refused = 114 ∷ 101 ∷ 102 ∷ 117 ∷ 115 ∷ 101 ∷ 100 ∷ 32 ∷ []
 
+-- R61: between a refusal's number and its place
 abbrev pub space : List ℕ
 space = 32 ∷ []
 
+-- R61: byte 0A
 abbrev pub newline : List ℕ
 newline = 10 ∷ []
 
--- "`release` and the start, or `refused`, the refusal's number and its place, one space between, numbers in decimal"
+-- R61: the whole line, newline included
 unfoldable pub lineOf : Said ℕ → List ℕ
 lineOf (gives r) = release ++ digits r ++ newline
 lineOf (refuses x) = refused ++ digits (x .number) ++ space ++ digits (x .place) ++ newline
 
--- the numbers are of the widths that an answer has: a start and a place of 64 bits, a refusal's number of 16
+-- R17, R61: the numbers are of the widths that an answer has: a start and a place of 64 bits, a refusal's number of 16
 abbrev pub Wide : Said ℕ → Type 0
 Wide (gives r) = r < 2 ^ 64
 Wide (refuses x) = (x .number < 2 ^ 16) × (x .place < 2 ^ 64)
@@ -70,14 +72,14 @@ Wide (refuses x) = (x .number < 2 ^ 16) × (x .place < 2 ^ 64)
 abbrev pub zeros : ℕ → List ℕ
 zeros n = replicate n 0
 
--- the line in the reply's array, and 0 in every byte after it
+-- R61: the line in the reply's array, which has room for every line, and 0 in every byte after it
 pub record Replied (line : List ℕ) (r : Reply) : Type 0 where
   pub within : r .len ≤ 40
   pub long : r .len ≡ length line
   pub first : take (r .len) (r .bytes) ≡ line
   pub rest : drop (r .len) (r .bytes) ≡ zeros (40 - r .len)
 
--- the bytes at the start of the buffer, and after them the buffer's own
+-- R62: the bytes at the start of the buffer, and after them the buffer's own
 abbrev pub laid : (bytes buffer : List ℕ) → List ℕ
 laid bytes buffer = bytes ++ drop (length bytes) buffer
 
@@ -90,14 +92,14 @@ abbrev pub lengthOf : Written → Option ℕ
 lengthOf (Length n) = some n
 lengthOf Short = none
 
--- the line fits the buffer
+-- R33: the line fits the buffer
 abbrev pub fits : (line buffer : List ℕ) → Bool
 fits line buffer = leb (length line) (length buffer)
 
--- what putting the line into the buffer answers
+-- R33, R62: what putting the line into the buffer answers
 abbrev pub lengthFor : (line buffer : List ℕ) → Option ℕ
 lengthFor line buffer = pick (fits line buffer) (some (length line)) none
 
--- what the buffer then holds: the line and after it the bytes that were there, or every byte as it was
+-- R17, R62: what the buffer then holds: the line and after it the bytes that were there, or every byte as it was
 abbrev pub heldAfter : (line buffer : List ℕ) → List ℕ
 heldAfter line buffer = pick (fits line buffer) (laid line buffer) buffer

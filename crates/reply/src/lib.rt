@@ -8,19 +8,19 @@ ghost use Rattle.reply.specs.Line.{digits, lineOf, laid, laidFrom, Repli
 use lines::Answer;
 use lines::Refusal;
 
-// A line in an array that is long enough for every answer: its first `len` bytes are the line, and the rest are 0.
+// R61: a line in an array that is long enough for every answer: its first `len` bytes are the line, and the rest are 0.
 pub struct Reply {
     pub bytes: [u8; 40],
     pub len: usize,
 }
 
-// What putting a line into a lent buffer answers: the line's length, or that the buffer is too short for it.
+// R33, R62: what putting a line into a lent buffer answers: the line's length, or that the buffer is too short for it.
 pub enum Written {
     Length(usize),
     Short,
 }
 
-// The line for an answer.
+// R61: the line for an answer.
 pub fn reply_to(a: Answer) -> Reply
     ensures { λ r. ⌜ Replied (lineOf (says a)) r ⌝ }
 {
@@ -30,7 +30,7 @@ pub fn reply_to(a: Answer) -> Reply
     Reply { bytes, len }
 }
 
-// Puts the line for an answer at the start of a lent buffer. One that is too short keeps every byte.
+// R33, R62: puts the line for an answer at the start of a lent buffer. One that is too short keeps every byte.
 pub fn put_reply(a: Answer, out: &mut [u8]) -> Written
     ensures { λ r. ⌜ lengthOf r ≡ lengthFor (lineOf (says a)) (now (out .entry)) ⌝ }
     ensures { λ _. ⌜ now (out .exit) ≡ heldAfter (lineOf (says a)) (now (out .entry)) ⌝ }
@@ -43,7 +43,7 @@ pub fn put_reply(a: Answer, out: &mut [u8]) -> Written
     Written::Length(len)
 }
 
-// The length of an answer's line.
+// R61: the length of an answer's line.
 fn line_len(a: Answer) -> usize
     ensures { λ r. ⌜ (r ≡ length (lineOf (says a))) × (r ≤ 40) ⌝ }
 {
@@ -53,7 +53,7 @@ fn line_len(a: Answer) -> usize
     }
 }
 
-// Puts the line for an answer at the start of out.
+// R61: puts the line for an answer at the start of out.
 fn put_line(out: &mut [u8], a: Answer)
     requires { ⌜ length (lineOf (says a)) ≤ length (now out) ⌝ }
     ensures { λ _. ⌜ now (out .exit) ≡ laid (lineOf (says a)) (now (out .entry)) ⌝ }
@@ -64,7 +64,7 @@ fn put_line(out: &mut [u8], a: Answer)
     }
 }
 
-// `release` and the start.
+// R61: `release` and the start.
 fn put_release(out: &mut [u8], start: u64)
     requires { ⌜ length (lineOf (gives start)) ≤ length (now out) ⌝ }
     ensures { λ _. ⌜ now (out .exit) ≡ laid (lineOf (gives start)) (now (out .entry)) ⌝ }
@@ -74,7 +74,7 @@ fn put_release(out: &mut [u8], start: u64)
     add_bytes(out, end, b"\n");
 }
 
-// `refused`, the refusal's number and its place.
+// R61: `refused`, the refusal's number and its place.
 fn put_refused(out: &mut [u8], x: Refusal)
     requires { ⌜ length (lineOf (refuses x)) ≤ length (now out) ⌝ }
     ensures { λ _. ⌜ now (out .exit) ≡ laid (lineOf (refuses x)) (now (out .entry)) ⌝ }
@@ -124,7 +124,7 @@ fn put(out: &mut [u8], s: &[u8]) -> usize
     i
 }
 
-// Puts the decimal digits of n at the start of out, the last one first, and answers how many they are.
+// R61: puts the decimal digits of n at the start of out, the last one first, and answers how many they are.
 fn put_digits(out: &mut [u8], n: u64) -> usize
     requires { ⌜ length (digits n) ≤ length (now out) ⌝ }
     ensures { λ r. ⌜ (r ≡ length (digits n)) × (now (out .exit) ≡ laid (digits n) (now (out .entry))) ⌝ }
@@ -141,7 +141,7 @@ fn put_digits(out: &mut [u8], n: u64) -> usize
     count
 }
 
-// How many decimal digits n has.
+// R61: how many decimal digits n has.
 fn places(n: u64) -> usize
     ensures { λ r. ⌜ (r ≡ length (digits n)) × (1 ≤ r) × (r ≤ 20) ⌝ }
 {
@@ -154,7 +154,7 @@ fn places(n: u64) -> usize
     count
 }
 
-// A digit in ASCII.
+// R61: a digit in ASCII.
 fn digit(d: u64) -> u8
     requires { ⌜ d < 10 ⌝ }
     ensures { λ r. ⌜ r ≡ 48 + d ⌝ }

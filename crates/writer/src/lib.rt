@@ -16,6 +16,7 @@ use lines::Slot;
 use lines::Table;
 use lines::Which;
 
+// R52: the lower byte comes first.
 fn put16(out: &mut [u8], v: u16)
     requires { ⌜ 2 ≤ length (now out) ⌝ }
     ensures { λ _. ⌜ now (out .exit) ≡ le 2 v ++ drop 2 (now (out .entry)) ⌝ }
@@ -24,7 +25,7 @@ fn put16(out: &mut [u8], v: u16)
     out[1] = (v / 256) as u8;
 }
 
-// Two numbers, one after the other.
+// R52: two numbers, one after the other.
 fn put_two(out: &mut [u8], a: u16, b: u16)
     requires { ⌜ 4 ≤ length (now out) ⌝ }
     ensures { λ _. ⌜ now (out .exit) ≡ (le 2 a ++ le 2 b) ++ drop 4 (now (out .entry)) ⌝ }
@@ -33,6 +34,7 @@ fn put_two(out: &mut [u8], a: u16, b: u16)
     put16(&mut out[2..], b);
 }
 
+// R52: the two bytes of a mark.
 fn put_mark(out: &mut [u8], mark: &[u8; 2])
     requires { ⌜ 2 ≤ length (now out) ⌝ }
     ensures { λ _. ⌜ now (out .exit) ≡ markOf (now (mark .entry)) ++ drop 2 (now (out .entry)) ⌝ }
@@ -41,6 +43,7 @@ fn put_mark(out: &mut [u8], mark: &[u8; 2])
     out[1] = mark[1];
 }
 
+// R53: CK and the clock.
 fn put_clock(out: &mut [u8], clock: u64)
     requires { ⌜ 10 ≤ length (now out) ⌝ }
     ensures { λ _. ⌜ now (out .exit) ≡ clockRecord clock ++ drop 10 (now (out .entry)) ⌝ }
@@ -52,6 +55,7 @@ fn put_clock(out: &mut [u8], clock: u64)
     put_two(&mut out[6..], (high % 65536) as u16, (high / 65536) as u16);
 }
 
+// R53: TB and the line's five numbers, T' the third.
 fn put_line(out: &mut [u8], r: Run, stretched: u16)
     requires { ⌜ 12 ≤ length (now out) ⌝ }
     ensures { λ _. ⌜ now (out .exit) ≡ lineRecord r stretched ++ drop 12 (now (out .entry)) ⌝ }
@@ -62,6 +66,7 @@ fn put_line(out: &mut [u8], r: Run, stretched: u16)
     put16(&mut out[10..], r.remaining);
 }
 
+// R53: RQ and the new line's two numbers.
 fn put_request(out: &mut [u8], need: u16, period: u16)
     requires { ⌜ 6 ≤ length (now out) ⌝ }
     ensures { λ _. ⌜ now (out .exit) ≡ requestRecord need period ++ drop 6 (now (out .entry)) ⌝ }
@@ -70,7 +75,7 @@ fn put_request(out: &mut [u8], need: u16, period: u16)
     put_two(&mut out[2..], need, period);
 }
 
-// Writes a slot's record and answers its length. A waiting line has none.
+// R53: writes a slot's record and answers its length. A waiting line has none.
 fn put_slot(out: &mut [u8], s: Slot, stretched: u16) -> usize
     requires { ⌜ length (slotRecord (s .held) stretched) ≤ length (now out) ⌝ }
     ensures { λ r. ⌜ (r ≡ length (slotRecord (s .held) stretched)) × (now (out .exit) ≡ slotRecord (s .held) stretched ++ drop (length (slotRecord (s .held) stretched)) (now (out .entry))) ⌝ }
@@ -89,7 +94,7 @@ fn put_slot(out: &mut [u8], s: Slot, stretched: u16) -> usize
     }
 }
 
-// The length of a slot's record, which no entry of the request changes.
+// R53: the length of a slot's record, which no entry of the request changes.
 fn slot_len(s: Slot) -> usize
     ensures { λ r. ⌜ r ≡ length (slotRecord (s .held) 0) ⌝ }
 {
@@ -112,7 +117,7 @@ fn is_empty(s: Slot) -> bool
     }
 }
 
-// How many slots there are up to the last that holds something.
+// R55: how many slots there are up to the last that holds something.
 fn used_slots(slots: [Slot; 16]) -> usize
     ensures { λ r. ⌜ (r ≡ used slots) × (r ≤ 16) ⌝ }
 {
@@ -142,7 +147,7 @@ fn records_len(slots: [Slot; 16], n: usize) -> usize
     len
 }
 
-// Writes the records of the first `n` slots and answers their length.
+// R54: writes the records of the first `n` slots, slot 0 first, and answers their length.
 fn put_records(out: &mut [u8], slots: [Slot; 16], stretched: [u16; 16], n: usize) -> usize
     requires { ⌜ (n ≤ 16) × (length (slotRecords n slots stretched) ≤ length (now out)) ⌝ }
     ensures { λ r. ⌜ (r ≡ length (slotRecords n slots stretched)) × (now (out .exit) ≡ slotRecords n slots stretched ++ drop (length (slotRecords n slots stretched)) (now (out .entry))) ⌝ }
@@ -158,8 +163,7 @@ fn put_records(out: &mut [u8], slots: [Slot; 16], stretched: [u16; 16], n: usize
     at
 }
 
-// "The writer refuses 3, then 13; otherwise it answers the card's length." The length is known before a byte is written.
-// The contract settles the answer and the whole buffer: both parts are equations.
+// R23, R33, R59: the length is known before a byte is written, so that a refusal leaves the buffer alone. The contract settles the answer and the whole buffer: both parts are equations.
 pub fn write(t: Table, q: Request, out: &mut [u8]) -> WriteAnswer
     ensures { λ r. ⌜ (saidWritten r ≡ writeOf t q (length (now (out .entry)))) × (now (out .exit) ≡ bufferOf t q (now (out .entry))) ⌝ }
 {

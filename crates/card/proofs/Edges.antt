@@ -1,0 +1,291 @@
+-- Cards and buffers on both sides of each edge of R53 to R59, by computation. The bytes are numbers here and no mark's name, and in `whole` no two numbers share
+-- a byte: an exchange of two numbers or marks in the definitions changes what a row says.
+use Prim.Native.Nat.{ℕ, zero, suc}
+use mathlib.Core.Path.{_≡_, refl}
+use mathlib.Core.List.{List, [], _∷_, _++_, map}
+use lib.ListN.{length, take, replicate}
+use Rattle.lines.specs.declared.Slot.{Slot}
+use Rattle.lines.specs.declared.Table.{Table}
+use Rattle.lines.specs.declared.Request.{Request}
+use Rattle.lines.specs.declared.Refusal.{Refusal}
+use Rattle.lines.specs.Slots.{empty, lowest, Said, gives, refuses}
+use Rattle.lines.specs.Cases.{running, waiting, tableOf}
+use Rattle.card.specs.declared.CardAnswer.{CardAnswer}
+use Rattle.card.specs.declared.WriteAnswer.{WriteAnswer}
+use Rattle.card.specs.Bytes.{marked}
+use Rattle.card.specs.Card.{cardOf, Card, cleared}
+use Rattle.card.specs.Reading.{recordOf, recordsOf, readWith, readOf}
+use Rattle.card.specs.Answers.{handed, saidRead, saidWritten, lengthOf, writeOf, bufferOf}
+
+-- the bytes l so many times
+abbrev times : ℕ → List ℕ → List ℕ
+times zero l = []
+times (suc n) l = l ++ times n l
+
+abbrev numbered : (number place : ℕ) → Refusal
+numbered n k = record { number = n; place = k }
+
+abbrev requestOf : (stretched : List ℕ) → (Cn Tn : ℕ) → Request
+requestOf ts c n = record { stretched = ts; need = c; period = n }
+
+-- a card of 30 bytes: the clock, slot 0 that holds nothing, slot 1 with a line, the new line
+abbrev whole : List ℕ
+whole =
+    0x43 ∷ 0x4B ∷ 0x01 ∷ 0x02 ∷ 0x03 ∷ 0x04 ∷ 0x05 ∷ 0x06 ∷ 0x07 ∷ 0x08 ∷
+    0x54 ∷ 0x46 ∷
+    0x54 ∷ 0x42 ∷ 0x11 ∷ 0x12 ∷ 0x21 ∷ 0x22 ∷ 0x31 ∷ 0x32 ∷ 0x61 ∷ 0x62 ∷ 0x71 ∷ 0x72 ∷
+    0x52 ∷ 0x51 ∷ 0x81 ∷ 0x82 ∷ 0x91 ∷ 0x92 ∷ []
+
+-- what its numbers are
+abbrev wholeTable : Table
+wholeTable = tableOf 0x0807060504030201 (empty ∷ running 0x1211 0x2221 0x6261 0x7271 ∷ replicate 14 empty)
+
+abbrev wholeRequest : Request
+wholeRequest = requestOf (0 ∷ 0x3231 ∷ replicate 14 0) 0x8281 0x9291
+
+-- its records one by one
+abbrev clock : List ℕ
+clock = 0x43 ∷ 0x4B ∷ 0x01 ∷ 0x02 ∷ 0x03 ∷ 0x04 ∷ 0x05 ∷ 0x06 ∷ 0x07 ∷ 0x08 ∷ []
+
+abbrev free : List ℕ
+free = 0x54 ∷ 0x46 ∷ []
+
+abbrev line : List ℕ
+line = 0x54 ∷ 0x42 ∷ 0x11 ∷ 0x12 ∷ 0x21 ∷ 0x22 ∷ 0x31 ∷ 0x32 ∷ 0x61 ∷ 0x62 ∷ 0x71 ∷ 0x72 ∷ []
+
+abbrev request : List ℕ
+request = 0x52 ∷ 0x51 ∷ 0x81 ∷ 0x82 ∷ 0x91 ∷ 0x92 ∷ []
+
+-- a whole record of the third generation
+abbrev old : List ℕ
+old = 0x54 ∷ 0x41 ∷ 0x11 ∷ 0x12 ∷ 0x21 ∷ 0x22 ∷ 0x31 ∷ 0x32 ∷ 0x71 ∷ 0x72 ∷ 0x61 ∷ 0x62 ∷ []
+
+abbrev lineSlot : Slot
+lineSlot = running 0x1211 0x2221 0x6261 0x7271
+
+-- the clock and new line of `whole` around these slots
+abbrev reads : List Slot → (stretched : List ℕ) → Said Card
+reads ss ts = gives (record { table = tableOf 0x0807060504030201 ss; request = requestOf ts 0x8281 0x9291 })
+
+abbrev breaks : (place : ℕ) → Said Card
+breaks at = refuses (numbered 11 at)
+
+abbrev isOld : (place : ℕ) → Said Card
+isOld at = refuses (numbered 12 at)
+
+-- some bytes and what the reader says of them
+pub record CardEdge : Type 0 where
+  pub bytes : List ℕ
+  pub says : Said Card
+
+abbrev edge : List ℕ → Said Card → CardEdge
+edge l s = record { bytes = l; says = s }
+
+-- R57: the clock's record whole, cut, and under another mark
+abbrev clockEdges : List CardEdge
+clockEdges =
+    edge [] (breaks 0)
+    ∷ edge (take 9 clock) (breaks 0)
+    ∷ edge clock (breaks 10)
+    ∷ edge (clock ++ request) (reads (replicate 16 empty) (replicate 16 0))
+    ∷ edge (0x43 ∷ 0x4C ∷ 1 ∷ 2 ∷ 3 ∷ 4 ∷ 5 ∷ 6 ∷ 7 ∷ 8 ∷ request) (breaks 0)
+    ∷ edge (0x4B ∷ 0x4B ∷ 1 ∷ 2 ∷ 3 ∷ 4 ∷ 5 ∷ 6 ∷ 7 ∷ 8 ∷ request) (breaks 0)
+    ∷ edge (0x54 ∷ 0x41 ∷ 1 ∷ 2 ∷ 3 ∷ 4 ∷ 5 ∷ 6 ∷ 7 ∷ 8 ∷ request) (breaks 0)
+    ∷ edge (old ++ request) (breaks 0)
+    ∷ edge (clock ++ clock ++ request) (breaks 10)
+    ∷ []
+
+-- R57: where a mark should stand, and records cut by a byte
+abbrev markEdges : List CardEdge
+markEdges =
+    edge (clock ++ (0x54 ∷ [])) (breaks 10)
+    ∷ edge (clock ++ (0x52 ∷ [])) (breaks 10)
+    ∷ edge (clock ++ line ++ (0x00 ∷ [])) (breaks 22)
+    ∷ edge (clock ++ (0x54 ∷ 0x43 ∷ []) ++ request) (breaks 10)
+    ∷ edge (clock ++ (0x42 ∷ 0x54 ∷ []) ++ request) (breaks 10)
+    ∷ edge (clock ++ free ++ (0x52 ∷ 0x52 ∷ 0x81 ∷ 0x82 ∷ 0x91 ∷ 0x92 ∷ [])) (breaks 12)
+    ∷ edge (clock ++ free ++ (0x51 ∷ 0x51 ∷ 0x81 ∷ 0x82 ∷ 0x91 ∷ 0x92 ∷ [])) (breaks 12)
+    ∷ edge (clock ++ take 2 line) (breaks 10)
+    ∷ edge (clock ++ take 11 line) (breaks 10)
+    ∷ edge (clock ++ free ++ take 11 line) (breaks 12)
+    ∷ edge (clock ++ line) (breaks 22)
+    ∷ edge (clock ++ free) (breaks 12)
+    ∷ edge (clock ++ line ++ take 2 request) (breaks 22)
+    ∷ edge (clock ++ line ++ take 5 request) (breaks 22)
+    ∷ edge (clock ++ line ++ request) (reads (lineSlot ∷ replicate 15 empty) (0x3231 ∷ replicate 15 0))
+    ∷ []
+
+-- R54, R55, R57: what stands before RQ and after it
+abbrev requestEdges : List CardEdge
+requestEdges =
+    edge (clock ++ request ++ (0x00 ∷ [])) (breaks 16)
+    ∷ edge (whole ++ (0x52 ∷ [])) (breaks 30)
+    ∷ edge (whole ++ request) (breaks 30)
+    ∷ edge (clock ++ free ++ request) (breaks 12)
+    ∷ edge (clock ++ free ++ request ++ (0x00 ∷ [])) (breaks 12)
+    ∷ edge (clock ++ free ++ take 5 request) (breaks 12)
+    ∷ edge (clock ++ line ++ free ++ request) (breaks 24)
+    ∷ edge (clock ++ free ++ line ++ request) (reads (empty ∷ lineSlot ∷ replicate 14 empty) (0 ∷ 0x3231 ∷ replicate 14 0))
+    ∷ []
+
+-- R54, R57: sixteen slots' records, and one more
+abbrev sixteenEdges : List CardEdge
+sixteenEdges =
+    edge (clock ++ times 16 line ++ request) (reads (replicate 16 lineSlot) (replicate 16 0x3231))
+    ∷ edge (clock ++ times 15 free ++ line ++ request) (reads (replicate 15 empty ++ (lineSlot ∷ [])) (replicate 15 0 ++ (0x3231 ∷ [])))
+    ∷ edge (clock ++ times 15 line ++ free ++ request) (breaks 192)
+    ∷ edge (clock ++ times 16 line) (breaks 202)
+    ∷ edge (clock ++ times 16 line ++ (0x54 ∷ [])) (breaks 202)
+    ∷ edge (clock ++ times 16 line ++ take 5 request) (breaks 202)
+    ∷ edge (clock ++ times 16 line ++ request ++ (0x00 ∷ [])) (breaks 208)
+    ∷ edge (clock ++ times 17 line ++ request) (breaks 202)
+    ∷ edge (clock ++ times 16 line ++ take 2 line) (breaks 202)
+    ∷ edge (clock ++ times 16 line ++ free ++ request) (breaks 202)
+    ∷ edge (clock ++ times 16 free ++ line ++ request) (breaks 42)
+    ∷ edge (clock ++ times 16 line ++ old ++ request) (breaks 202)
+    ∷ edge (clock ++ times 16 line ++ take 2 old) (breaks 202)
+    ∷ []
+
+-- R58: the old mark where a slot's record may stand, its record whole and cut
+abbrev oldEdges : List CardEdge
+oldEdges =
+    edge (clock ++ old ++ request) (isOld 10)
+    ∷ edge (clock ++ old) (isOld 10)
+    ∷ edge (clock ++ take 2 old) (isOld 10)
+    ∷ edge (clock ++ take 1 old) (breaks 10)
+    ∷ edge (clock ++ free ++ old ++ request) (isOld 12)
+    ∷ edge (clock ++ line ++ take 11 old) (isOld 22)
+    ∷ edge (clock ++ times 15 line ++ take 2 old) (isOld 190)
+    ∷ []
+
+-- R56, R3: any numbers are taken, unsound lines too, up to the greatest of sixteen and of 64 bits
+abbrev numberEdges : List CardEdge
+numberEdges =
+    edge whole (gives (record { table = wholeTable; request = wholeRequest }))
+    ∷ edge ((0x43 ∷ 0x4B ∷ replicate 8 0) ++ (0x54 ∷ 0x42 ∷ replicate 10 0) ++ (0x52 ∷ 0x51 ∷ replicate 4 0))
+    (gives (record { table = tableOf 0 (running 0 0 0 0 ∷ replicate 15 empty); request = requestOf (replicate 16 0) 0 0 }))
+    ∷ edge ((0x43 ∷ 0x4B ∷ replicate 8 0xFF) ++ (0x54 ∷ 0x42 ∷ replicate 10 0xFF) ++ (0x52 ∷ 0x51 ∷ replicate 4 0xFF))
+    (gives (record {
+      table = tableOf 18446744073709551615 (running 65535 65535 65535 65535 ∷ replicate 15 empty);
+      request = requestOf (65535 ∷ replicate 15 0) 65535 65535;
+    }))
+    ∷ []
+
+unfoldable pub cardEdges : List CardEdge
+cardEdges = numberEdges ++ clockEdges ++ markEdges ++ requestEdges ++ sixteenEdges ++ oldEdges
+
+-- R31, R32, R57, R58: what the reader says of each
+pub card-edges : map (λ (c : CardEdge). readOf (c .bytes)) cardEdges ≡ map (λ (c : CardEdge). c .says) cardEdges
+unfolding marked recordOf recordsOf readWith cardEdges
+card-edges = refl
+
+-- R52, R53, R54: each mark and each byte of a number stands where `whole` has it
+pub whole-written : cardOf wholeTable wholeRequest ≡ whole
+unfolding cardOf
+whole-written = refl
+
+-- sixteen lines
+abbrev pub longest : List ℕ
+longest = clock ++ times 16 line ++ request
+
+-- R55: the bound of `longest-card` is met
+pub longest-card-exists : (length longest ≡ 208) × (readOf longest ≡ reads (replicate 16 lineSlot) (replicate 16 0x3231))
+unfolding marked recordOf recordsOf readWith
+longest-card-exists = (refl, refl)
+
+-- a table and a request for the writer, the lent buffer, what the writer answers, and what the buffer then holds
+pub record WriteEdge : Type 0 where
+  pub table : Table
+  pub request : Request
+  pub buffer : List ℕ
+  pub answers : Said ℕ
+  pub leaves : List ℕ
+
+abbrev written : Table → Request → List ℕ → (length : ℕ) → List ℕ → WriteEdge
+written t q l n m = record { table = t; request = q; buffer = l; answers = gives n; leaves = m }
+
+-- a refused buffer keeps every byte
+abbrev unwritten : Table → Request → List ℕ → Refusal → WriteEdge
+unwritten t q l r = record { table = t; request = q; buffer = l; answers = refuses r; leaves = l }
+
+-- a buffer of n bytes that are no card's
+abbrev lent : ℕ → List ℕ
+lent n = replicate n 0xEE
+
+-- `wholeTable` with lines that wait in slots 2 and 4
+abbrev waitingTable : Table
+waitingTable =
+    tableOf 0x0807060504030201
+    (empty ∷ lineSlot ∷ waiting 1 4 3 ∷ empty ∷ waiting 1 4 2 ∷ replicate 11 empty)
+
+-- `wholeRequest` with entries for slots that hold nothing
+abbrev fullRequest : Request
+fullRequest = requestOf (0x5251 ∷ 0x3231 ∷ replicate 14 0x5453) 0x8281 0x9291
+
+-- R59: a waiting line is looked for before the room is, and no byte is touched by a refusal
+abbrev orderEdges : List WriteEdge
+orderEdges =
+    unwritten waitingTable wholeRequest (lent 29) (numbered 3 2)
+    ∷ unwritten waitingTable wholeRequest [] (numbered 3 2)
+    ∷ unwritten waitingTable wholeRequest (lent 240) (numbered 3 2)
+    ∷ unwritten (tableOf 0 (replicate 15 empty ++ (waiting 0 0 0 ∷ []))) wholeRequest (lent 3) (numbered 3 15)
+    ∷ unwritten (tableOf 0 (waiting 1 4 3 ∷ replicate 15 empty)) wholeRequest (lent 3) (numbered 3 0)
+    ∷ unwritten wholeTable wholeRequest [] (numbered 13 0)
+    ∷ unwritten wholeTable wholeRequest (lent 29) (numbered 13 0)
+    ∷ written wholeTable wholeRequest (lent 30) 30 whole
+    ∷ written wholeTable wholeRequest (lent 31) 30 (whole ++ (0xEE ∷ []))
+    ∷ written wholeTable wholeRequest (lent 33) 30 (whole ++ (0xEE ∷ 0xEE ∷ 0xEE ∷ []))
+    ∷ []
+
+-- R55, R59: records stop with the last slot that holds something, and entries of slots that hold nothing are left out
+abbrev lengthEdges : List WriteEdge
+lengthEdges =
+    written wholeTable fullRequest (lent 30) 30 whole
+    ∷ unwritten (tableOf 0x0807060504030201 (replicate 16 empty)) fullRequest (lent 15) (numbered 13 0)
+    ∷ written (tableOf 0x0807060504030201 (replicate 16 empty)) fullRequest (lent 16) 16 (clock ++ request)
+    ∷ unwritten (tableOf 0x0807060504030201 (replicate 15 empty ++ (lineSlot ∷ []))) (requestOf (replicate 16 0x3231) 0x8281 0x9291) (lent 57) (numbered 13 0)
+    ∷ written (tableOf 0x0807060504030201 (replicate 15 empty ++ (lineSlot ∷ []))) (requestOf (replicate 16 0x3231) 0x8281 0x9291) (lent 58) 58
+    (clock ++ times 15 free ++ line ++ request)
+    ∷ unwritten (tableOf 0x0807060504030201 (replicate 16 lineSlot)) (requestOf (replicate 16 0x3231) 0x8281 0x9291) (lent 207) (numbered 13 0)
+    ∷ written (tableOf 0x0807060504030201 (replicate 16 lineSlot)) (requestOf (replicate 16 0x3231) 0x8281 0x9291) (lent 208) 208 longest
+    ∷ []
+
+unfoldable pub writeEdges : List WriteEdge
+writeEdges = orderEdges ++ lengthEdges
+
+-- what the definitions say of the input
+abbrev pub writing : WriteEdge → Said ℕ × List ℕ
+writing w = (writeOf (w .table) (w .request) (length (w .buffer)), bufferOf (w .table) (w .request) (w .buffer))
+
+-- what the row says
+abbrev pub expected : WriteEdge → Said ℕ × List ℕ
+expected w = (w .answers, w .leaves)
+
+-- R23, R33, R59: what the writer answers to each, and what it leaves in the buffer
+pub write-edges : map writing writeEdges ≡ map expected writeEdges
+unfolding lowest cardOf lengthOf writeEdges
+write-edges = refl
+
+-- R72: what a card keeps of a request with entries for slots that hold nothing
+pub cleared-edge : cleared wholeTable fullRequest ≡ wholeRequest
+cleared-edge = refl
+
+-- R56: what is handed out with a refusal, and with a card that reads
+pub handed-edges :
+    map (λ (l : List ℕ). handed (readOf l)) (clock ∷ whole ∷ [])
+    ≡ record {
+      table = tableOf 0 (replicate 16 empty);
+      request = requestOf (replicate 16 0) 0 0;
+      answer = CardAnswer.Refused (numbered 11 10);
+    }
+    ∷ record { table = wholeTable; request = wholeRequest; answer = CardAnswer.Read }
+    ∷ []
+unfolding marked recordOf recordsOf readWith
+handed-edges = refl
+
+-- R17, R59: the code's answers say their own numbers, whatever table stands beside a refusal
+pub said-edges : (t : Table) (q : Request) →
+    (map saidRead (record { table = t; request = q; answer = CardAnswer.Refused (numbered 12 34) } ∷ record { table = t; request = q; answer = CardAnswer.Read } ∷ [])
+    ≡ refuses (numbered 12 34) ∷ gives (record { table = t; request = q }) ∷ [])
+    × (map saidWritten (WriteAnswer.Length 56 ∷ WriteAnswer.Refused (numbered 13 78) ∷ []) ≡ gives 56 ∷ refuses (numbered 13 78) ∷ [])
+said-edges t q = (refl, refl)
