@@ -1,4 +1,4 @@
-// The answering program "reads one card from standard input and writes one line".
+// The answering program (R60): one card in, one line out.
 ghost use Prim.Native.Nat.{_≤_};
 
 // Writes the first `len` bytes.
@@ -8,7 +8,7 @@ fn say(line: [u8; 40], len: usize)
     io::write_all(libc::STDOUT_FILENO, &line[..len]);
 }
 
-// One byte more is read than the longest card has: no byte after it changes an answer (house's theorem `answer-by-209`).
+// R60: one byte more is read than the longest card has: no byte after it changes an answer (house's theorem `answer-by-209`).
 fn main() {
     let mut card = [0u8; 209];
     let len = io::read_full(libc::STDIN_FILENO, &mut card);

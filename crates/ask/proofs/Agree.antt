@@ -61,10 +61,11 @@ module _ (t : Table) (q r : Request) (a : Agree t q r) where
   tables-agree (Start s) = rw (a .need, a .period, asked-agrees)
   tables-agree (Refused x) = refl
 
+  -- R6: entries that are not looked at change neither answer nor table
   pub ask-agrees : (askOf t q ≡ askOf t r) × (admitOf t q ≡ admitOf t r)
   ask-agrees = (answers-agree, ap (admitWith t q) answers-agree ∙ tables-agree (askOf t r))
 
--- on the empty table an entry of 65,521 changes nothing: the new line starts at once
+-- R6: on the empty table an entry of 65,521 changes nothing: the new line starts at once
 pub empty-starts : askOf emptyTable (record { stretched = set (replicate 16 0) 3 65521; need = 3; period = 5 }) ≡ Start 0
 unfolding euclid gcdOf lcmOf frameFrom total lowest due lastEnd stretched periodsIn every endsBefore endsOf slack bound greatest anyOf start loadOf askOf
 empty-starts = refl

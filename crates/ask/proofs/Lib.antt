@@ -3,3 +3,4 @@ pub mod Stretching
 pub mod Placing
 pub mod Agree
 pub mod Right
+pub mod Edges

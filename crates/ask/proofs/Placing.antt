@@ -25,6 +25,7 @@ module _ (t : Table) (q : Request) (r : ℕ) {next : Table} (ec : next .clock �
   pub put-nowhere : lowestOf isNothing (t .slots) ≡ none → next ≡ admittedAt t q r
   put-nowhere e = rw e (ap (λ (k : ℕ). table k (next .slots)) ec ∙ ap (table (t .clock)) es)
 
+  -- R43: the new line in the slot that was found
   pub put-at : {k : ℕ} {new : Held} {full : Table} → lowestOf isNothing (t .slots) ≡ some k → new ≡ newLine (q .need) (q .period) (r - t .clock)
       → full .clock ≡ next .clock → full .slots ≡ set (next .slots) k (record { held = new }) → full ≡ admittedAt t q r
   put-at {k} {new} {full} e g fc fs =
@@ -35,9 +36,11 @@ module _ (t : Table) (q : Request) (r : ℕ) {next : Table} (ec : next .clock �
       )
 
 module _ (t : Table) (q : Request) {a : Answer} (e : a ≡ askOf t q) where
+  -- R42: with a start, the table with the new line in it
   pub admit-start : {r : ℕ} {u : Table} → a ≡ Start r → u ≡ admittedAt t q r → _≡_ {A = Admitted} (record { table = u; answer = Start r }) (admitOf t q)
   admit-start {r} g h =
       ap (λ (x : Table). let y : Admitted = record { table = x; answer = Start r } in y) h ∙ ap (admitWith t q) (sym g ∙ e)
 
+  -- R17, R42: with a refusal, the table as it was
   pub admit-refused : {x : Refusal} → a ≡ Refused x → _≡_ {A = Admitted} (record { table = t; answer = Refused x }) (admitOf t q)
   admit-refused g = ap (admitWith t q) (sym g ∙ e)

@@ -1,4 +1,4 @@
--- Two requests that agree on what is looked at.
+-- Two requests that agree on what is looked at (R6).
 use Prim.Native.Nat.{ℕ, _<_}
 use mathlib.Core.Path.{_≡_}
 use lib.ListN.{length}
@@ -9,12 +9,13 @@ use Rattle.lines.specs.declared.Request.{Request}
 use Rattle.lines.specs.Slots.{at}
 use Rattle.lines.specs.Grounds.{entry}
 
+-- R6: a slot whose entry counts, since a line runs there
 abbrev pub Runs : Held → Type 0
 Runs Nothing = ⊥
 Runs (Running r) = Unit {0}
 Runs (Waiting w) = ⊥
 
--- "entries of slots that hold no running line are not looked at"
+-- R6: alike in need, period and the entries of running slots
 pub record Agree (t : Table) (q r : Request) : Type 0 where
   pub need : q .need ≡ r .need
   pub period : q .period ≡ r .period

@@ -1,18 +1,18 @@
-// Ask and admit: the answer to a request, and the table with the new line in it.
+// Ask (R41) and admit (R42): the answer to a request, and the table with the new line in it.
 mod place; // the table with the new line in it
 
 ghost use mathlib.Core.Path.{_≡_};
 ghost use Rattle.lines.specs.declared.Answer.the-variants.{Refused};
 ghost use Rattle.ask.specs.Asked.{Asked, Admits};
 
-// "Ask answers the start, and changes nothing."
+// R41: the refusal or the start, and nothing else
 pub fn ask(t: lines::Table, q: lines::Request) -> lines::Answer
     ensures { λ r. ⌜ Asked t q r ⌝ }
 {
     demand::decide(t, q)
 }
 
-// "A refusal is its number and place, with table and buffers untouched."
+// R17: with a refusal the table is handed back as it came
 fn untouched(t: lines::Table, x: lines::Refusal) -> lines::Admitted
     ensures { λ r. ⌜ r ≡ record { table = t; answer = Refused x } ⌝ }
 {
@@ -22,7 +22,7 @@ fn untouched(t: lines::Table, x: lines::Refusal) -> lines::Admitted
     }
 }
 
-// "Admit answers as ask does."
+// R42: ask's answer, and with a start the table that it leads to
 pub fn admit(t: lines::Table, q: lines::Request) -> lines::Admitted
     ensures { λ r. ⌜ Admits t q r ⌝ }
 {

@@ -1,11 +1,11 @@
-// The table that an admission leaves: the running lines at their T', and the new line in the lowest empty slot.
+// The table that an admission leaves (R42): the running lines at their T', and the new line in the lowest empty slot (R43).
 ghost use mathlib.Core.Path.{_≡_};
 ghost use Prim.Native.Nat.{_+_, _≤_, _<_};
 ghost use lib.ListN.{set};
 ghost use Rattle.lines.specs.Grounds.{stretch, asked};
 ghost use Rattle.lines.specs.Admit.{newLine, admittedAt};
 
-// "has its T' for its period, with age and remaining kept"
+// R42: a running line at its T', and nothing else of it changed
 fn stretched(s: lines::Slot, p: u16) -> lines::Slot
     ensures { λ r. ⌜ r .held ≡ stretch p (s .held) ⌝ }
 {
@@ -24,7 +24,7 @@ fn stretched(s: lines::Slot, p: u16) -> lines::Slot
     }
 }
 
-// Every running line at its T'.
+// R42: every running line at its T'.
 fn stretch_all(t: lines::Table, q: lines::Request) -> lines::Table
     ensures { λ r. ⌜ (r .clock ≡ t .clock) × (r .slots ≡ asked t q) ⌝ }
 {
@@ -40,7 +40,7 @@ fn stretch_all(t: lines::Table, q: lines::Request) -> lines::Table
     next
 }
 
-// "It runs with age 0 and remaining Cn if the start is t0; else it waits start − t0 ticks."
+// R43: without a wait it begins its first period; else it waits
 fn new_line(need: u16, period: u16, wait: u16) -> lines::Held
     ensures { λ r. ⌜ r ≡ newLine need period wait ⌝ }
 {
@@ -69,7 +69,7 @@ fn put(t: lines::Table, at: usize, h: lines::Held) -> lines::Table
     full
 }
 
-// "the new line stands in the lowest empty slot"
+// R42, R43: the lines stretched, and the new one in the lowest free slot
 pub(crate) fn admitted(t: lines::Table, q: lines::Request, start: u64) -> lines::Table
     requires { ⌜ (t .clock ≤ start) × (start ≤ t .clock + 65535) ⌝ }
     ensures { λ r. ⌜ r ≡ admittedAt t q start ⌝ }

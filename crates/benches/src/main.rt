@@ -1,5 +1,5 @@
-// Document 01's benches by example and their edges, on whole tables: a card cannot carry a waiting line.
-// The stored output was written by another program, which knows the document's definitions alone.
+// The cases (R67) and edges beside them, on whole tables: a card cannot carry a waiting line.
+// The stored output was written by another program, which knows the definitions of the rules alone.
 ghost use Prim.Native.Nat.{_<_};
 
 mod edges; // the edges beside the cases
@@ -50,7 +50,7 @@ impl Bench {
         }
     }
 
-    // The order of the numbers is the document's: (C, T, T', age, remaining).
+    // R67: the numbers in the order of the cases' lines: (C, T, T', age, remaining).
     fn line(
         self,
         k: usize,
@@ -150,6 +150,7 @@ fn long(period: u16) -> Bench {
     Bench::new(0, 1, period).line(0, 1, 64, 64, 0, 1)
 }
 
+// R67: cases A to M
 fn cases() {
     say(b"A", case_a());
     say(b"B", case_b());

@@ -38,35 +38,42 @@ module _ (t : Table) (q : Request) where
       (not-false _ (lowest-none (λ k. not (sound (at (t .slots) k))) (length (t .slots)) e4 i h))
       (lowest-none shrinks (length (t .slots)) e5 i h)
 
+  -- R21: the clock is too late
   pub ask-1 : 2 ^ 48 - 65536 < t .clock → Refused (refusal 1 0) ≡ askOf t q
   unfolding askOf
   ask-1 h = rw (lt-ltb (2 ^ 48 - 65536) (t .clock) h)
 
   module _ (h : t .clock ≤ 2 ^ 48 - 65536) where
+    -- R22: no slot is free
     pub ask-2 : lowestOf isNothing (t .slots) ≡ none → Refused (refusal 2 0) ≡ askOf t q
     unfolding askOf
     ask-2 e = rw (le-ltb (2 ^ 48 - 65536) (t .clock) h, e)
 
     module _ {j : ℕ} (e2 : lowestOf isNothing (t .slots) ≡ some j) where
+      -- R23: a line waits
       pub ask-3 : {k : ℕ} → lowestOf isWaiting (t .slots) ≡ some k → Refused (refusal 3 k) ≡ askOf t q
       unfolding askOf
       ask-3 e = rw (le-ltb (2 ^ 48 - 65536) (t .clock) h, e2, e)
 
       module _ (e3 : lowestOf isWaiting (t .slots) ≡ none) where
+        -- R24: a line is unsound
         pub ask-4 : {k : ℕ} → lowestOf (λ h. not (sound h)) (t .slots) ≡ some k → Refused (refusal 4 k) ≡ askOf t q
         unfolding askOf
         ask-4 e = rw (le-ltb (2 ^ 48 - 65536) (t .clock) h, e2, e3, e)
 
         module _ (e4 : lowestOf (λ h. not (sound h)) (t .slots) ≡ none) where
+          -- R25: a line is to shrink
           pub ask-5 : {k : ℕ} → lowest shrinks (length (t .slots)) ≡ some k → Refused (refusal 5 k) ≡ askOf t q
           unfolding askOf
           ask-5 e = rw (le-ltb (2 ^ 48 - 65536) (t .clock) h, e2, e3, e4, e)
 
           module _ (e5 : lowest shrinks (length (t .slots)) ≡ none) where
+            -- R26: the new line's numbers do not fit
             pub ask-6 : both (leb 1 (q .need)) (leb (q .need) (q .period)) ≡ false → Refused (refusal 6 0) ≡ askOf t q
             unfolding askOf
             ask-6 e = rw (le-ltb (2 ^ 48 - 65536) (t .clock) h, e2, e3, e4, e5, e)
 
+            -- R18: past the first six grounds the load decides
             pub ask-load : both (leb 1 (q .need)) (leb (q .need) (q .period)) ≡ true
                 → loadOf (t .clock) (frame (asked t q) (q .period)) (asked t q) (q .need) (q .period) ≡ askOf t q
             unfolding askOf

@@ -67,6 +67,7 @@ module _ (t : Table) (q : Request) (g : Gathered) (fine : AllFine t q) (same : l
         let z : f ≡ frame (asked t q) (q .period) = omega arith in
         ap loaded z
 
+  -- R27: the frame is too long
   pub load-7 : 1000000 < f → Refused (refusal 7 0) ≡ loaded (frame (asked t q) (q .period))
   load-7 k =
       let e = frame-is (asked t q) g (asked-young (t .slots) (entry q) fine) same (q .period) in
@@ -76,6 +77,7 @@ module _ (t : Table) (q : Request) (g : Gathered) (fine : AllFine t q) (same : l
     shares : s + new ≡ total (share f) (asked t q) + q .need * (f / q .period)
     shares = let e = share-is (asked t q) g (asked-young (t .slots) (entry q) fine) same f in omega arith
 
+    -- R28: the shares are above the whole
     pub load-8 : f < s + new → Refused (refusal 8 0) ≡ loaded (frame (asked t q) (q .period))
     load-8 k = in-8 (t .clock) f (q .need) (q .period) (asked t q) h (omega (arith, shares)) ∙ to-frame h
 
@@ -89,6 +91,7 @@ module _ (t : Table) (q : Request) (g : Gathered) (fine : AllFine t q) (same : l
       needs : u ≡ total (full f) (asked t q)
       needs = eu ∙ full-is (asked t q) g (asked-young (t .slots) (entry q) fine) same f
 
+      -- R29: more is owed than the ages leave
       pub load-9 : u < o → Refused (refusal 9 0) ≡ loaded (frame (asked t q) (q .period))
       load-9 j = in-9 (t .clock) f (q .need) (q .period) (asked t q) h below (omega (arith, owes, needs)) ∙ to-frame h
 
@@ -101,9 +104,11 @@ module _ (t : Table) (q : Request) (g : Gathered) (fine : AllFine t q) (same : l
             ap (λ (y : Pass). y .short) ex
             ∙ any-is (asked t q) g (asked-young (t .slots) (entry q) fine) same (t .clock) (q .need) (q .period)
 
+        -- R30: an end is short without the new line
         pub load-10 : x .short ≡ true → Refused (refusal 10 0) ≡ loaded (frame (asked t q) (q .period))
         load-10 b = in-10 (t .clock) f (q .need) (q .period) (asked t q) h below fair (sym passed ∙ b) ∙ to-frame h
 
+        -- R14, R18: no ground holds, and the start is given
         pub load-start : 1 ≤ q .need → x .short ≡ false → Start (t .clock + x .start) ≡ loaded (frame (asked t q) (q .period))
         load-start n b =
             let e = ap (λ (y : Pass). t .clock + y .start) ex in

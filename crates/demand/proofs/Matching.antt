@@ -1,4 +1,4 @@
--- What the code counts is what the document counts: the frame, the sums, the ends and the start.
+-- What the code counts from the clock is what the rules count in absolute ticks: the frame, the sums, the ends and the start.
 use Prim.Native.Nat.{ℕ, _+_, _-_, _≤_, max}
 use mathlib.Core.Path.{_≡_, ap, sym, _∙_}
 use mathlib.Core.Bool.{false}
@@ -31,19 +31,23 @@ short-by t0 d D E e =
     ]
 
 module _ (l : List Slot) (g : Gathered) (young : AllYoung l) (same : linesOf g ≡ linesIn l) where
+  -- R8: the frame of what is gathered is the table's
   pub frame-is : (Tn : ℕ) → frameOf (Tn ∷ periodsTo (g .period) (g .count)) ≡ frame l Tn
   frame-is Tn =
       ap (λ (ps : List ℕ). frameOf (Tn ∷ ps))
       (periods-lines (g .end) (g .remaining) (g .need) (g .period) (g .count) ∙ ap periodsBy same ∙ sym (periods-total l))
 
+  -- R28: the shares of what is gathered add up to the table's
   pub share-is : (F : ℕ) → sumTo (λ k. shareOf F (lineOfAt g k)) (g .count) ≡ total (share F) l
   share-is F =
       sum-lines (g .end) (g .remaining) (g .need) (g .period) (shareOf F) (g .count) ∙ ap (sumOf (shareOf F)) same ∙ sym (share-total F l young)
 
+  -- R29: what the gathered lines are owed adds up to the table's
   pub owed-is : (F : ℕ) → sumTo (λ k. owedOf F (lineOfAt g k)) (g .count) ≡ total (owed F) l
   owed-is F =
       sum-lines (g .end) (g .remaining) (g .need) (g .period) (owedOf F) (g .count) ∙ ap (sumOf (owedOf F)) same ∙ sym (owed-total F l young)
 
+  -- R29: the gathered needs add up to the table's
   pub full-is : (F : ℕ) → sumTo (λ k. fullOf F (lineOfAt g k)) (g .count) ≡ total (full F) l
   full-is F =
       sum-lines (g .end) (g .remaining) (g .need) (g .period) (fullOf F) (g .count) ∙ ap (sumOf (fullOf F)) same ∙ sym (full-total F l young)
@@ -73,6 +77,7 @@ module _ (l : List Slot) (g : Gathered) (young : AllYoung l) (same : linesOf g �
       ends-total t0 last l young
       ∙ ap (after t0) (ap (endsBy last) (sym same) ∙ sym (ends-lines (g .end) (g .remaining) (g .need) (g .period) last (g .count)))
 
+  -- R30: the pass is short where the running lines have an excess at some end
   pub any-is : (t0 Cn Tn : ℕ) → passIn g Cn Tn .short ≡ anyOf (shortAt t0 l) (endsOf t0 (lastEnd t0 l) l)
   any-is t0 Cn Tn =
       pass-any (shortBy all) (boundBy Cn Tn last all) 0 ends
@@ -84,6 +89,7 @@ module _ (l : List Slot) (g : Gathered) (young : AllYoung l) (same : linesOf g �
   unfolding slack
   slack-is t0 d = let e = demand-is t0 d in omega arith
 
+  -- R14: the pass gives the start
   pub start-is : (t0 Cn Tn : ℕ) → 1 ≤ Cn → passIn g Cn Tn .short ≡ false → t0 + passIn g Cn Tn .start ≡ start t0 l Cn Tn
   unfolding start
   start-is t0 Cn Tn h k =

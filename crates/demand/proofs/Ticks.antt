@@ -26,7 +26,7 @@ fine-young p Nothing f = tt
 fine-young p (Running r) f = omega (arith, f .2, f .3)
 fine-young p (Waiting w) f = tt
 
--- after the tests 4 and 5 the lines are young
+-- R9: after the tests 4 and 5 no first end is before the clock
 pub asked-young : (l : List Slot) (p : ℕ → ℕ) → ((i : ℕ) → i < length l → Fine (p i) (at l i)) → AllYoung (stretched l p)
 unfolding stretched
 asked-young [] p f = tt
@@ -94,6 +94,7 @@ demand-line t0 d (Running r) y =
     omega arith
 demand-line t0 d (Waiting w) y = refl
 
+-- R12: the demands added up, counted from the clock
 pub demand-total : (t0 d : ℕ) (l : List Slot) → AllYoung l → total (λ h. demand t0 h (t0 + d)) l ≡ sumOf (dueBy d) (linesIn l)
 demand-total t0 d l y = total-lines (λ h. demand t0 h (t0 + d)) (dueBy d) (demand-line t0 d) l y
 
@@ -116,6 +117,7 @@ last-line t0 Nothing rest y = omega arith
 last-line t0 (Running r) rest y = omega arith
 last-line t0 (Waiting w) rest y = omega arith
 
+-- R15: the last end, counted from the clock
 pub last-total : (t0 : ℕ) (l : List Slot) → AllYoung l → lastEnd t0 l ≡ t0 + lastOf (linesIn l)
 unfolding lastEnd linesIn lastOf
 last-total t0 [] y = omega arith

@@ -19,9 +19,11 @@ pub record Line : Type 0 where
   pub need : ℕ
   pub period : ℕ
 
+-- R9: the first end is T' − a after the clock
 abbrev pub lineOf : Run → Line
 lineOf r = record { end = r .period - r .age; remaining = r .remaining; need = r .need; period = r .period }
 
+-- R6: nothing is taken from a slot that runs no line
 abbrev pub lineIn : Held → List Line
 lineIn Nothing = []
 lineIn (Running r) = lineOf r ∷ []
@@ -82,15 +84,15 @@ Fine p (Waiting w) = Unit {0}
 abbrev pub AllFine : Table → Request → Type 0
 AllFine t q = (i : ℕ) → i < length (t .slots) → Fine (entry q i) (at (t .slots) i)
 
--- C/T' times F
+-- R16, R28: C/T' times F
 abbrev pub shareOf : ℕ → Line → ℕ
 shareOf F x = x .need * (F / x .period)
 
--- c + C × a / T', times F
+-- R16, R29: c + C × a / T', times F
 abbrev pub owedOf : ℕ → Line → ℕ
 owedOf F x = F * x .remaining + x .need * (F / x .period) * (x .period - x .end)
 
--- C, times F
+-- R16, R29: C, times F
 abbrev pub fullOf : ℕ → Line → ℕ
 fullOf F x = F * x .need
 

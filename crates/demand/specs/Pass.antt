@@ -15,15 +15,15 @@ use Rattle.demand.specs.declared.ends.New.{New}
 use Rattle.demand.specs.declared.gather.Gathered.{Gathered}
 use Rattle.demand.specs.Lines.{Line, lineAt, sumTo}
 
--- a line's demand d ticks after the clock
+-- R10: a line's demand d ticks after the clock
 abbrev pub dueBy : ℕ → Line → ℕ
 dueBy d x = due (x .end) (x .remaining) (x .need) (x .period) d
 
--- the demand of the first `count` lines of four arrays
+-- R12: the demands of the first `count` lines of four arrays, added up
 abbrev pub demandTo : (e c n p : List ℕ) (count d : ℕ) → ℕ
 demandTo e c n p count d = sumTo (λ k. dueBy d (lineAt e c n p k)) count
 
--- the greatest of the first k ends, or 0
+-- R15: the greatest of the first k ends, or 0
 unfoldable pub lastTo : List ℕ → ℕ → ℕ
 lastTo e zero = 0
 lastTo e (suc k) = max (lastTo e k) (getD e k 0)
@@ -38,18 +38,18 @@ unfoldable pub passOver : (ℕ → Bool) → (ℕ → ℕ) → ℕ → List ℕ 
 passOver short f r [] = record { short = false; start = r }
 passOver short f r (d ∷ ds) = pick (short d) (record { short = true; start = r }) (passOver short f (max r (f d)) ds)
 
--- with `all d` for the demand at d: more is demanded by d than time has gone by
+-- R30: with `all d` for the demand at d: more is demanded by d than time has gone by
 abbrev pub shortBy : (ℕ → ℕ) → ℕ → Bool
 shortBy all d = ltb d (all d)
 
--- and the bound that d puts on the start
+-- R14: the bound that the end d puts on the start
 abbrev pub boundBy : (Cn Tn last : ℕ) → (ℕ → ℕ) → ℕ → ℕ
 boundBy Cn Tn last all d = bound Cn Tn last d (d - all d)
 
 abbrev pub passBy : (Cn Tn last : ℕ) → (ℕ → ℕ) → ℕ → List ℕ → Pass
 passBy Cn Tn last all r ds = passOver (shortBy all) (boundBy Cn Tn last all) r ds
 
--- the pass over all ends of the lines gathered that are before `last`, from the clock on
+-- R30, R14: the pass over all ends of the lines gathered that are before `last`, from the clock on
 abbrev pub passTo : Gathered → (Cn Tn last : ℕ) → Pass
 passTo g Cn Tn last =
     passBy Cn Tn last (demandTo (g .end) (g .remaining) (g .need) (g .period) (g .count)) 0 (endsTo last (g .end) (g .period) (g .count))

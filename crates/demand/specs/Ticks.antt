@@ -8,10 +8,12 @@ use Rattle.lines.specs.declared.Slot.{Slot}
 use Rattle.lines.specs.Ask.{endsBefore}
 use Rattle.demand.specs.Lines.{Line}
 
+-- R8: the periods that the frame is made of, but for Tn
 unfoldable pub periodsBy : List Line → List ℕ
 periodsBy [] = []
 periodsBy (x ∷ l) = x .period ∷ periodsBy l
 
+-- R15: the greatest first end, or 0
 unfoldable pub lastOf : List Line → ℕ
 lastOf [] = 0
 lastOf (x ∷ l) = max (x .end) (lastOf l)

@@ -1,4 +1,4 @@
-// The pass over the running lines' ends, counted from the clock: one demand sum at each end gives refusal 10 or the start.
+// The pass over the running lines' ends, counted from the clock: one demand sum at each end gives refusal 10 (R30) or the start (R14).
 use crate::gather::Gathered;
 ghost use mathlib.Core.Path.{_≡_};
 ghost use Prim.Native.Nat.{ℕ, _+_, _-_, _*_, _/_, _≤_, _<_};
@@ -9,13 +9,13 @@ ghost use Rattle.lines.specs.Ask.{endsBefore, bound};
 ghost use Rattle.demand.specs.Lines.{sumTo, Packed, PackedIn};
 ghost use Rattle.demand.specs.Pass.{demandTo, lastTo, passBy, passIn, FitNew};
 
-// Whether an end was short, and if none was, the start that the ends leave.
+// R30, R14: whether an end was short, and if none was, the start that the ends leave.
 pub struct Pass {
     pub short: bool,
     pub start: u32,
 }
 
-// "0 before its first end, and from then on c + C × (whole periods T' since the first end)"
+// R10: one line's demand d ticks after the clock
 fn demand_one(end: u32, remaining: u32, need: u32, period: u32, d: u32) -> u32
     requires { ⌜ (1 ≤ period) × (need ≤ period) × (remaining ≤ 65535) × (d ≤ 65535) ⌝ }
     ensures { λ r. ⌜ (r ≡ due end remaining need period d) × (r ≤ 131070) ⌝ }
@@ -40,7 +40,7 @@ fn add(terms: &[u32; 16], count: usize) -> u32
     sum
 }
 
-// The demand of the running lines at d: each line's in an array, and their sum. The array stays here, since it would be copied at every
+// R10, R12: the demand of the running lines at d: each line's in an array, and their sum. The array stays here, since it would be copied at every
 // end if it were handed on by value.
 fn demand_sum<'a>(
     end: &'a [u32; 16],
@@ -63,14 +63,14 @@ fn demand_sum<'a>(
     add(&terms, count)
 }
 
-// "The running lines alone … have excess above 0": not at d, where `sum` is their demand.
+// R30: no excess of the running lines at d, where `sum` is their demand
 fn passes(sum: u32, d: u32) -> bool
     ensures { λ r. ⌜ r ≡ leb sum d ⌝ }
 {
     sum <= d
 }
 
-// The least start that the slack s at d leaves the new line before `last`. The slack pays for s / need of its periods, and the next one
+// R14: the least start that the slack s at d leaves the new line before `last`. The slack pays for s / need of its periods, and the next one
 // must not end before the time for it has gone by.
 fn bound_at(need: u32, period: u32, last: u32, d: u32, s: u32) -> u32
     requires { ⌜ (1 ≤ need) × (need ≤ 65535) × (period ≤ 65535) × (d ≤ 65535) × (s ≤ 65535) ⌝ }
@@ -88,7 +88,7 @@ fn bound_at(need: u32, period: u32, last: u32, d: u32, s: u32) -> u32
     until - before
 }
 
-// The greatest first end, or 0 where no line runs.
+// R15: the greatest first end, or 0 where no line runs.
 fn last_end(end: &[u32; 16], count: usize) -> u32
     requires { ⌜ count ≤ 16 ⌝ }
     ensures { λ r. ⌜ r ≡ lastTo (now (end .entry)) count ⌝ }
@@ -104,14 +104,14 @@ fn last_end(end: &[u32; 16], count: usize) -> u32
     last
 }
 
-// The new line, and the last end.
+// R6, R15: the new line, and the last end.
 struct New {
     need: u32,
     period: u32,
     last: u32,
 }
 
-// The ends from `e` on, every p ticks: at each one demand sum, for refusal 10 and for the bound on the start.
+// R30, R14: the ends from `e` on, every p ticks; at each one demand sum, for the refusal and for the bound on the start.
 fn pass_line<'a>(
     end: &'a [u32; 16],
     remaining: &'a [u32; 16],
@@ -149,7 +149,7 @@ fn pass_line<'a>(
     }
 }
 
-// The ends of each running line before the last end, lowest slot first.
+// R30, R14: the ends of each running line before the last end, lowest slot first.
 pub(crate) fn pass_all(g: Gathered, need: u16, period: u16) -> Pass
     requires { ⌜ PackedIn g × (1 ≤ need) ⌝ }
     ensures { λ r. ⌜ r ≡ passIn g need period ⌝ }

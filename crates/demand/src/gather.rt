@@ -3,7 +3,7 @@ ghost use mathlib.Core.Path.{_≡_};
 ghost use Rattle.lines.specs.Grounds.{asked};
 ghost use Rattle.demand.specs.Lines.{linesOf, linesIn, PackedIn, AllFine};
 
-// Line k, for k below `count`: its first end, what remains of its need, its need, its T'.
+// R9: line k, for k below `count`: its first end, counted from the clock; what remains of its need, its need, its T'.
 pub struct Gathered {
     pub count: usize,
     pub end: [u32; 16],
@@ -12,7 +12,7 @@ pub struct Gathered {
     pub period: [u32; 16],
 }
 
-// "entries of slots that hold no running line are not looked at"
+// R6: a slot that runs no line is passed over, and its entry with it.
 // The arrays are written where they stand: a function that hands them on by value would copy all four for every slot.
 pub(crate) fn gather(t: lines::Table, q: lines::Request) -> Gathered
     requires { ⌜ AllFine t q ⌝ }

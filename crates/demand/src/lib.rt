@@ -1,4 +1,4 @@
-// The decision on a request: the tests 1 to 10 in their order, and the least smooth start.
+// The decision on a request: the tests 1 to 10 in their order (R18), and the least smooth start (R14).
 mod gather; // the running lines, counted from the clock
 mod sums; // the frame, and refusals 8 and 9
 mod ends; // refusal 10 and the start
@@ -14,19 +14,20 @@ ghost use Rattle.lines.specs.Ask.{shrunk, loadOf, askOf};
 ghost use Rattle.demand.specs.Lines.{AllFine};
 ghost use Rattle.demand.specs.Pass.{Near};
 
-// "Asking is possible while the clock is at most 2^48 − 65,536."
+// R7, R21: the last clock that may ask, 2^48 − 65,536
 const LATEST: u64 = 281_474_976_645_120;
 
-// "The frame … at most 1,000,000."
+// R27: the longest frame allowed
 const LIMIT: u64 = 1_000_000;
 
+// R17: a refusal is made of its number and its place
 fn refused(number: u16, place: u64) -> lines::Answer
     ensures { λ r. ⌜ r ≡ Refused (refusal number place) ⌝ }
 {
     lines::Answer::Refused(lines::Refusal::new(number, place))
 }
 
-// "T' < T for a running line"
+// R25: a running line is asked to a shorter period than its own
 fn is_shrunk(s: lines::Slot, p: u16) -> bool
     ensures { λ r. ⌜ r ≡ shrunk p (s .held) ⌝ }
 {
@@ -38,6 +39,7 @@ fn is_shrunk(s: lines::Slot, p: u16) -> bool
     }
 }
 
+// R25, R19: the lowest slot of a line that is asked to shrink
 fn lowest_shrunk(t: lines::Table, q: lines::Request) -> lines::Which
     ensures { λ r. ⌜ slotOf r ≡ lowest (λ i. shrunk (entry q i) (at (t .slots) i)) (length (t .slots)) ⌝ }
 {
@@ -53,7 +55,7 @@ fn lowest_shrunk(t: lines::Table, q: lines::Request) -> lines::Which
     lines::Which::None
 }
 
-// "1 ≤ Cn ≤ Tn"
+// R26: the new line's need lies from 1 to its period
 fn fits(need: u16, period: u16) -> bool
     ensures { λ r. ⌜ r ≡ both (leb 1 need) (leb need period) ⌝ }
 {
@@ -63,7 +65,7 @@ fn fits(need: u16, period: u16) -> bool
     need <= period
 }
 
-// Tests 7 to 10, and the start.
+// R27, R28, R29: the frame and the two sums; then what the pass over the ends says.
 fn load(t: lines::Table, q: lines::Request) -> lines::Answer
     requires { ⌜ AllFine t q × (1 ≤ q .need) × (q .need ≤ q .period) × (t .clock ≤ 2 ^ 48 - 65536) ⌝ }
     ensures { λ r. ⌜ (r ≡ loadOf (t .clock) (frame (asked t q) (q .period)) (asked t q) (q .need) (q .period)) × Near (t .clock) r ⌝ }
@@ -89,7 +91,7 @@ fn load(t: lines::Table, q: lines::Request) -> lines::Answer
     lines::Answer::Start(t.clock + p.start as u64)
 }
 
-// "Ask and admit test 1 to 10 in that order, and the first that holds is given."
+// R18, R41: the first ground that holds, or the start. R21 to R26 are tested here, the others in `load`.
 pub fn decide(t: lines::Table, q: lines::Request) -> lines::Answer
     ensures { λ r. ⌜ (r ≡ askOf t q) × Near (t .clock) r ⌝ }
 {

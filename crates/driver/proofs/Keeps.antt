@@ -25,11 +25,11 @@ module _ (t : Table) (s : Stepped) (e : s ≡ stepOf t) where
   left true f y = absurd y
   left false f y = held false f
 
--- a refused step leaves in the driver what it held
+-- R51: a refused step changes nothing in the driver
 pub refused-drive-keeps : (t : Table) (x : Refusal) → stepOf t .outcome ≡ Refused x → drivenOf t ≡ t
 refused-drive-keeps t x e = ap (λ (o : Outcome). pick (hasRun o) (stepOf t .table) t) e
 
--- refused or not, the driver then holds the table that the step hands back
+-- R51: refused or not, the driver then holds the table that the step hands back
 pub driven-is-stepped : (t : Table) → drivenOf t ≡ stepOf t .table
 driven-is-stepped t = by (stepOf t .outcome) refl
   where
@@ -37,7 +37,7 @@ driven-is-stepped t = by (stepOf t .outcome) refl
     by (Ran w) e = ap (λ (o : Outcome). pick (hasRun o) (stepOf t .table) t) e
     by (Refused x) e = refused-drive-keeps t x e ∙ sym (refused-keeps t x e)
 
--- what `drive` answers, beside what the driver then holds, is the step
+-- R48, R51: what `drive` answers, beside what the driver then holds, is the step
 pub driven-with-answer : (t u : Table) (m : Outcome) → m ≡ stepOf t .outcome → u ≡ drivenOf t → _≡_ {A = Stepped} (record { table = u; outcome = m }) (stepOf t)
 driven-with-answer t u m e f = ap₂ (λ (v : Table) (o : Outcome). let s : Stepped = record { table = v; outcome = o } in s) (f ∙ driven-is-stepped t) e
 
@@ -46,5 +46,6 @@ module _ (t : Table) (r₁ r₂ : Outcome) (t₁ t₂ : Table) where
   abbrev Allowed : Outcome → Table → Type 0
   Allowed r u = (r ≡ stepOf t .outcome) × (u ≡ drivenOf t)
 
+  -- R51, R71: one answer, and one table behind the reference
   pub drive-determined : Allowed r₁ t₁ → Allowed r₂ t₂ → (r₁ ≡ r₂) × (t₁ ≡ t₂)
   drive-determined a b = (a .0 ∙ sym (b .0), a .1 ∙ sym (b .1))

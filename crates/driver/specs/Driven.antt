@@ -1,4 +1,4 @@
--- The pump driver: what it holds after a step of the table that it held.
+-- The pump driver (R51): what it holds after a step of the table that it held.
 use mathlib.Core.Bool.{Bool, true, false}
 use Rattle.lines.specs.declared.Table.{Table}
 use Rattle.lines.specs.declared.Outcome.{Outcome}
@@ -6,11 +6,11 @@ use Rattle.lines.specs.declared.Outcome.the-variants.{Ran, Refused}
 use Rattle.lines.specs.Slots.{pick}
 use Rattle.lines.specs.Step.{stepOf}
 
--- the step was not refused
+-- R48: the step was not refused
 abbrev pub hasRun : Outcome → Bool
 hasRun (Ran w) = true
 hasRun (Refused x) = false
 
--- "after a refused step it holds what it held", and else the next table
+-- R51: the new table, or the old one where the step was refused
 abbrev pub drivenOf : Table → Table
 drivenOf t = pick (hasRun (stepOf t .outcome)) (stepOf t .table) t

@@ -1,4 +1,4 @@
-// "The pump driver owns a single table and lends it to be stepped; after a refused step it holds what it held."
+// The pump driver (R51): one table, lent to be stepped.
 ghost use mathlib.Core.Path.{_≡_};
 ghost use Rattle.lines.specs.Step.{stepOf};
 ghost use Rattle.driver.specs.Driven.{hasRun, drivenOf};
@@ -6,7 +6,7 @@ use lines::Outcome;
 use lines::Stepped;
 use lines::Table;
 
-// The step was not refused.
+// R48: the step was not refused
 fn has_run(o: Outcome) -> bool
     ensures { λ r. ⌜ r ≡ hasRun o ⌝ }
 {
@@ -37,7 +37,7 @@ fn stepped(table: Table, outcome: Outcome) -> Stepped
     }
 }
 
-// The table is copied out, stepped by value and stored, or left as it is where the step was refused.
+// R51, R48: the table is copied out, stepped by value and stored, or left as it is where the step was refused.
 // The fields are read by covered functions, so that the walk of this one stays free of them.
 pub fn drive(t: &mut Table) -> Outcome
     ensures { λ r. ⌜ (r ≡ stepOf (now (t .entry)) .outcome) × (now (t .exit) ≡ drivenOf (now (t .entry))) ⌝ }
@@ -52,7 +52,7 @@ pub fn drive(t: &mut Table) -> Outcome
     outcome
 }
 
-// The owner of a table: lends it to `drive`, and hands back what it then holds with the answer.
+// R51: the owner of a table: lends it to `drive`, and hands back what it then holds with the answer.
 pub fn driven(t: Table) -> Stepped
     ensures { λ r. ⌜ r ≡ stepOf t ⌝ }
 {

@@ -1,4 +1,4 @@
--- Case A over the boundary, by computation: its answer line, and 26 ticks of the pump.
+-- Case A (R67) over the boundary, by computation: its answer line, and 26 ticks of the pump.
 use mathlib.Core.Path.{_≡_, refl, ap, _∙_}
 use mathlib.Core.List.{List, [], _∷_}
 use Prim.Native.Nat.{ℕ}
@@ -30,7 +30,7 @@ asks-A : askOf (caseA .table) (caseA .request) ≡ Start 13
 unfolding euclid gcdOf lcmOf frameFrom total lowest due lastEnd stretched periodsIn every endsBefore endsOf slack bound greatest anyOf start loadOf askOf
 asks-A = refl
 
--- "Its whole output is `release 13` and a newline"
+-- R60, R61: the eleven bytes of case A's line
 pub line-A : lineFor cardA ≡ 114 ∷ 101 ∷ 108 ∷ 101 ∷ 97 ∷ 115 ∷ 101 ∷ 32 ∷ 49 ∷ 51 ∷ 10 ∷ []
 line-A = ap (λ (a : Answer). lineOf (says a)) (ap answerFor reads-A ∙ asks-A) ∙ line-of-case-A
 
@@ -38,6 +38,6 @@ runs-A : runAdmitted 26 (admitOf (caseA .table) (caseA .request)) ≡ gives 23
 unfolding euclid gcdOf lcmOf frameFrom total lowest due lastEnd stretched periodsIn every endsBefore endsOf slack bound greatest anyOf start loadOf askOf chosen advance stepOf ranIn
 runs-A = refl
 
--- three of the 26 ticks run no line
+-- R66: three of the 26 ticks run no line
 pub run-A : numberOf (runOf cardA 26) ≡ pos 23
 run-A = ap numberOf (ap (runFor 26) reads-A ∙ runs-A)

@@ -6,3 +6,4 @@ pub mod Sign
 pub mod Run
 pub mod Theorems
 pub mod CaseA
+pub mod Edges

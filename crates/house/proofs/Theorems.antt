@@ -22,7 +22,7 @@ use Rattle.card.proofs.WritesBack.{writes-back}
 use Rattle.card.proofs.Prefix.{verdict-by-209}
 use Rattle.house.specs.House.{answerFor, answerOf, numberOf, rewriteFor, rewriteOf, rewrittenFor, rewrittenOf}
 
--- the answering program reads no more
+-- R60: the first 209 bytes settle the answer
 pub answer-by-209 : (l m : List ℕ) → take 209 l ≡ take 209 m → answerOf l ≡ answerOf m
 answer-by-209 l m e = ap answerFor (verdict-by-209 l m e)
 
@@ -63,11 +63,11 @@ module _ (card buffer : List ℕ) (b : Bytes card) (c : Card) (e : readOf card �
             ∙ ap (λ (l : List ℕ). filled l buffer (fitting card o)) (writes-back 16 card b c e .0),
       )
 
-  -- "Reading a written card gives the table and the request back", and writing a read one its bytes; "bytes after the card stay"
+  -- R65, R72: a card that reads is put back byte for byte, and what stands after it in the buffer stays
   pub rewrites-back : length card ≤ length buffer
       → (numberOf (rewriteOf card (length buffer)) ≡ pos (length card)) × (rewrittenOf card buffer ≡ card ++ drop (length card) buffer)
   rewrites-back h = let a = answered (le-leb (length card) (length buffer) h) in (ap numberOf (a .0), a .1)
 
-  -- minus 13, and every byte stays
+  -- R33, R65: a buffer that is too short gets minus 13, and every byte stays
   pub short-buffer : length buffer < length card → (numberOf (rewriteOf card (length buffer)) ≡ negsuc 12) × (rewrittenOf card buffer ≡ buffer)
   short-buffer h = let a = answered (lt-leb (length card) (length buffer) h) in (ap numberOf (a .0), a .1)

@@ -17,7 +17,7 @@ use Rattle.card.specs.Answers.{writeOf, bufferOf}
 use Rattle.reply.specs.Line.{lineOf, lengthFor}
 use Rattle.house.specs.declared.Told.{Told}
 
--- "A refused card is answered by the reader's refusal, any other by ask."
+-- R60: the reader's refusal, or what ask answers
 abbrev pub answerFor : Said Card → Answer
 answerFor (gives c) = askOf (c .table) (c .request)
 answerFor (refuses x) = Refused x
@@ -25,11 +25,11 @@ answerFor (refuses x) = Refused x
 abbrev pub answerOf : List ℕ → Answer
 answerOf card = answerFor (readOf card)
 
--- the line of a card's answer
+-- R60, R64: the line of a card's answer
 abbrev pub lineFor : List ℕ → List ℕ
 lineFor card = lineOf (says (answerOf card))
 
--- the number for each case: what was asked for, or minus the refusal's number
+-- R63: the number for each case: what was asked for, or minus the refusal's number
 abbrev pub numberOf : Said ℕ → ℤ
 numberOf (gives n) = pos n
 numberOf (refuses x) = negℤ (pos (x .number))
@@ -44,16 +44,16 @@ abbrev pub Narrow : Said ℕ → Type 0
 Narrow (gives n) = n < 2 ^ 32
 Narrow (refuses x) = Unit {0}
 
--- a buffer that is too short for the line is refusal 13
+-- R33: a buffer that is too short for the line is refusal 13
 abbrev pub saidPut : Option ℕ → Said ℕ
 saidPut (some n) = gives n
 saidPut none = refuses (refusal 13 0)
 
--- what putting a line into a buffer says: the line's length, or 13
+-- R62, R64: what putting a line into a buffer says: the line's length, or 13
 abbrev pub putOf : (line buffer : List ℕ) → Said ℕ
 putOf line buffer = saidPut (lengthFor line buffer)
 
--- a card written anew into a buffer with so much room: the reader's refusal, or what the writer says
+-- R65: a card written anew into a buffer with so much room: the reader's refusal, or what the writer says
 abbrev pub rewriteFor : Said Card → (room : ℕ) → Said ℕ
 rewriteFor (gives c) room = writeOf (c .table) (c .request) room
 rewriteFor (refuses x) room = refuses x
@@ -61,7 +61,7 @@ rewriteFor (refuses x) room = refuses x
 abbrev pub rewriteOf : (card : List ℕ) (room : ℕ) → Said ℕ
 rewriteOf card room = rewriteFor (readOf card) room
 
--- what the buffer holds then; a refusal leaves every byte
+-- R65: what the buffer holds then; a refusal leaves every byte
 abbrev pub rewrittenFor : Said Card → List ℕ → List ℕ
 rewrittenFor (gives c) buffer = bufferOf (c .table) (c .request) buffer
 rewrittenFor (refuses x) buffer = buffer
@@ -69,7 +69,7 @@ rewrittenFor (refuses x) buffer = buffer
 abbrev pub rewrittenOf : (card buffer : List ℕ) → List ℕ
 rewrittenOf card buffer = rewrittenFor (readOf card) buffer
 
--- a tick counts if a line ran in it
+-- R66: a tick counts if a line ran in it
 abbrev pub counted : Option ℕ → ℕ
 counted none = 0
 counted (some k) = 1
@@ -79,17 +79,17 @@ abbrev pub more : ℕ → Said ℕ → Said ℕ
 more k (gives n) = gives (k + n)
 more k (refuses x) = refuses x
 
--- a step in front of what the steps after it say; a refused one is the last
+-- R66: a step in front of what the steps after it say; a refused one is the last
 abbrev pub andThen : Said (Option ℕ) → Said ℕ → Said ℕ
 andThen (gives o) s = more (counted o) s
 andThen (refuses x) s = refuses x
 
--- so many steps of a table: the number of ticks in which a line ran, or the first refusal
+-- R66: so many steps of a table: the number of ticks in which a line ran, or the first refusal
 unfoldable pub ranIn : (ticks : ℕ) → Table → Said ℕ
 ranIn zero t = gives 0
 ranIn (suc n) t = andThen (saysRan (stepOf t .outcome)) (ranIn n (stepOf t .table))
 
--- ask's refusal, or the steps of the admitted table
+-- R66: ask's refusal, or the steps of the admitted table
 abbrev pub unlessRefused : Said ℕ → Said ℕ → Said ℕ
 unlessRefused (gives start) s = s
 unlessRefused (refuses x) s = refuses x
@@ -97,7 +97,7 @@ unlessRefused (refuses x) s = refuses x
 abbrev pub runAdmitted : (ticks : ℕ) → Admitted → Said ℕ
 runAdmitted n a = unlessRefused (says (a .answer)) (ranIn n (a .table))
 
--- the reader's refusal, or the run of the card's table with its request admitted
+-- R66: the reader's refusal, or the run of the card's table with its request admitted
 abbrev pub runFor : (ticks : ℕ) → Said Card → Said ℕ
 runFor n (gives c) = runAdmitted n (admitOf (c .table) (c .request))
 runFor n (refuses x) = refuses x

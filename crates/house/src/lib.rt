@@ -18,13 +18,13 @@ use lines::Table;
 use lines::Which;
 use reply::Written;
 
-// What stands behind the number that a caller gets: a length or a count, or a refusal.
+// R63: what stands behind the number that a caller gets: a length or a count, or a refusal.
 enum Told {
     Given(u32),
     Refused(Refusal),
 }
 
-// "A refused card is answered by the reader's refusal, any other by ask."
+// R60: the reader's refusal, or what ask answers
 pub fn answer(card: &[u8]) -> Answer
     ensures { λ r. ⌜ r ≡ answerOf (now (card .entry)) ⌝ }
 {
@@ -36,7 +36,7 @@ pub fn answer(card: &[u8]) -> Answer
     }
 }
 
-// A refusal is minus its number.
+// R63: a refusal is minus its number.
 fn number(s: Told) -> i64
     ensures { λ r. ⌜ r ≡ numberOf (saidTold s) ⌝ }
 {
@@ -49,7 +49,7 @@ fn number(s: Told) -> i64
     }
 }
 
-// A buffer that is too short for the line is refusal 13.
+// R62, R33: a buffer that is too short for the line is refusal 13.
 fn line_told(w: Written) -> Told
     requires { ⌜ Narrow (saidPut (lengthOf w)) ⌝ }
     ensures { λ r. ⌜ saidTold r ≡ saidPut (lengthOf w) ⌝ }
@@ -60,6 +60,7 @@ fn line_told(w: Written) -> Told
     }
 }
 
+// R65: what the writer answers
 fn card_told(w: WriteAnswer) -> Told
     requires { ⌜ Narrow (saidWritten w) ⌝ }
     ensures { λ r. ⌜ saidTold r ≡ saidWritten w ⌝ }
@@ -70,7 +71,7 @@ fn card_told(w: WriteAnswer) -> Told
     }
 }
 
-// Writes the line of an answer, which has at most 40 bytes.
+// R62: writes the line of an answer, which has at most 40 bytes.
 fn put_line(a: Answer, out: &mut [u8]) -> Told
     ensures { λ r. ⌜ saidTold r ≡ putOf (lineOf (says a)) (now (out .entry)) ⌝ }
     ensures { λ _. ⌜ now (out .exit) ≡ heldAfter (lineOf (says a)) (now (out .entry)) ⌝ }
@@ -79,7 +80,7 @@ fn put_line(a: Answer, out: &mut [u8]) -> Told
     line_told(w)
 }
 
-// Writes a card, which has at most 208 bytes.
+// R65: writes a card, which has at most 208 bytes.
 fn put_card(t: Table, q: Request, out: &mut [u8]) -> Told
     ensures { λ r. ⌜ saidTold r ≡ writeOf t q (length (now (out .entry))) ⌝ }
     ensures { λ _. ⌜ now (out .exit) ≡ bufferOf t q (now (out .entry)) ⌝ }
@@ -88,7 +89,7 @@ fn put_card(t: Table, q: Request, out: &mut [u8]) -> Told
     card_told(w)
 }
 
-// 1 for a tick in which a line ran.
+// R66: 1 for a tick in which a line ran.
 fn count_of(w: Which) -> u32
     ensures { λ r. ⌜ (r ≡ counted (slotOf w)) × (r ≤ 1) ⌝ }
 {
@@ -98,7 +99,7 @@ fn count_of(w: Which) -> u32
     }
 }
 
-// Steps a table so many times, or to the first refusal.
+// R66: steps a table so many times, or to the first refusal.
 fn run_table(start: Table, ticks: u32) -> Told
     ensures { λ r. ⌜ saidTold r ≡ ranIn ticks start ⌝ }
 {
@@ -122,7 +123,7 @@ fn run_table(start: Table, ticks: u32) -> Told
     Told::Given(ran)
 }
 
-// Admits the request and steps the table that this leaves.
+// R66: admits the request and steps the table that this leaves.
 fn run_admitted(t: Table, q: Request, ticks: u32) -> Told
     ensures { λ r. ⌜ saidTold r ≡ runAdmitted ticks (admitOf t q) ⌝ }
 {
@@ -134,7 +135,7 @@ fn run_admitted(t: Table, q: Request, ticks: u32) -> Told
     }
 }
 
-// The line of a card's answer goes into the lent buffer: its length, or minus 13 if the buffer is too short, and then every byte stays.
+// R64: the line of a card's answer goes into the lent buffer: its length, or minus 13 if the buffer is too short, and then every byte stays.
 #[no_mangle]
 pub extern "C" fn trimthuel_answer(card: &[u8], out: &mut [u8]) -> i64
     ensures { λ r. ⌜ r ≡ numberOf (putOf (lineFor (now (card .entry))) (now (out .entry))) ⌝ }
@@ -144,7 +145,7 @@ pub extern "C" fn trimthuel_answer(card: &[u8], out: &mut [u8]) -> i64
     number(put_line(a, out))
 }
 
-// The card is read and written anew: its length, or minus the refusal's number, and then every byte of the lent buffer stays.
+// R65: the card is read and written anew: its length, or minus the refusal's number, and then every byte of the lent buffer stays.
 #[no_mangle]
 pub extern "C" fn trimthuel_rewrite(card: &[u8], out: &mut [u8]) -> i64
     ensures { λ r. ⌜ r ≡ numberOf (rewriteOf (now (card .entry)) (length (now (out .entry)))) ⌝ }
@@ -158,7 +159,7 @@ pub extern "C" fn trimthuel_rewrite(card: &[u8], out: &mut [u8]) -> i64
     }
 }
 
-// The card's request is admitted and the table stepped so many times: the number of ticks in which a line ran, or minus the first refusal's number.
+// R66: the card's request is admitted and the table stepped so many times: the number of ticks in which a line ran, or minus the first refusal's number.
 #[no_mangle]
 pub extern "C" fn trimthuel_run(card: &[u8], ticks: u32) -> i64
     ensures { λ r. ⌜ r ≡ numberOf (runOf (now (card .entry)) ticks) ⌝ }

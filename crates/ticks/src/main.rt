@@ -1,4 +1,4 @@
-// The pump driver at work, held to a file that an independent program wrote from the step rule alone:
+// The pump driver (R51) at work, held to a file that an independent program wrote from the step rule (R48) alone:
 // case A's admitted table to tick 64, the last tick and beyond, an unsound line, and a period that ends short.
 use lines::Held;
 use lines::Outcome;
@@ -38,7 +38,7 @@ fn empty_at(clock: u64) -> Table {
     }
 }
 
-// Case A after admit: the start is 13, so the new line waits 5 ticks.
+// R67: case A after admit: the start is 13, so the new line waits 5 ticks.
 fn admitted() -> Table {
     let mut t = empty_at(8);
     t.slots[0] = running(8, 32, 8, 0);
@@ -47,7 +47,7 @@ fn admitted() -> Table {
     t
 }
 
-// Slots 11 (age T) and 13 (no wait) are unsound.
+// R24: slots 11 (age T) and 13 (no wait) are unsound.
 fn unsound() -> Table {
     let mut t = empty_at(0);
     t.slots[1] = running(1, 4, 0, 1);
@@ -56,7 +56,7 @@ fn unsound() -> Table {
     t
 }
 
-// Three lines are owed the last tick of their periods; slot 0 gets it.
+// R34: three lines are owed the last tick of their periods; slot 0 gets it.
 fn too_late() -> Table {
     let mut t = empty_at(0);
     t.slots[0] = running(1, 4, 3, 1);

@@ -1,4 +1,4 @@
-// The stored set of cards, answered one after the other as the answering program answers one card.
+// The stored set of cards, answered one after the other as the answering program (R60) answers one card.
 // A card is its length in two bytes, low byte first, and that many bytes; the length 65,535 ends the set.
 ghost use mathlib.Core.Path.{_≡_};
 ghost use Prim.Native.Nat.{_+_, _≤_};
@@ -6,6 +6,7 @@ ghost use lib.ListN.{length, take};
 use card::CardAnswer;
 use lines::Answer;
 
+// R60: the reader's refusal, or what ask answers
 fn answer(card: &[u8]) -> Answer {
     let r = reader::read(card);
     let a = r.answer;

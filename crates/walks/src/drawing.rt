@@ -140,7 +140,7 @@ fn use_of(s: Slot, base: u64, period: u64) -> u64 {
     }
 }
 
-// "A request", step 2.
+// A request, step 2.
 fn grown(slots: [Slot; 16], all: Entries, base: u64, m: u64) -> Entries {
     if all.used < base {
         return all;
@@ -187,7 +187,7 @@ fn part(w: Walk, x: u64, free: u64) -> Line {
     }
 }
 
-// "A request", kinds 12 to 15.
+// A request, kinds 12 to 15.
 fn other(x: u64, base: u64, free: u64, kind: u64) -> Line {
     let a = below(x, 30);
     let p = divisor(base, 2 + a.value);
@@ -241,7 +241,7 @@ fn scene(t: Table, periods: [u16; 16], new: Line) -> Scene {
     }
 }
 
-// "A request", for the history's table.
+// A request, for the history's table.
 pub(crate) fn request(w: Walk) -> Scene {
     let t = w.table;
     let slots = t.slots;
@@ -255,7 +255,7 @@ pub(crate) fn request(w: Walk) -> Scene {
     scene(t, periods, new)
 }
 
-// "An operation", while a history opens: the last line is exact.
+// An operation, while a history opens: the last line is exact.
 pub(crate) fn opening(w: Walk) -> Scene {
     let t = w.table;
     let slots = t.slots;

@@ -42,7 +42,7 @@ fn edge(x: u64) -> Drawn {
     }
 }
 
-// "A free table", step 2.
+// A free table, step 2.
 fn clock(x: u64) -> Drawn {
     let e = below(x, 8);
     let k = e.value;

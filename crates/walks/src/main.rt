@@ -23,7 +23,7 @@ pub struct Said {
     pub place: u64,
 }
 
-// "The frame of the run": the generator, the digest, the history, and what the last operation answered.
+// The frame of the run: the generator, the digest, the history, and what the last operation answered.
 pub struct Walk {
     pub x: u64,
     pub h: u64,
@@ -100,7 +100,7 @@ fn span_of(k: u64) -> u64 {
     }
 }
 
-// "Begin a history."
+// Begin a history.
 fn begin(w: Walk) -> Walk {
     let left = generator::below(w.x, 48);
     let k = generator::below(left.x, 4);
@@ -128,7 +128,7 @@ fn begun(w: Walk) -> Walk {
     w
 }
 
-// "An operation", while a history opens: a line is admitted.
+// An operation, while a history opens: a line is admitted.
 fn opened(w: Walk) -> Walk {
     let mut next = w;
     let opening = numbers::minus(w.opening, 1);
@@ -137,7 +137,7 @@ fn opened(w: Walk) -> Walk {
     operations::admit(next, s)
 }
 
-// "An operation": the table of the operations.
+// An operation: the table of the operations.
 fn chosen(w: Walk, op: u64) -> Walk {
     match op {
         0..=8 => operations::ask(w, drawing::request(w)),

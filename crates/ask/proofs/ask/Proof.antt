@@ -1,4 +1,4 @@
--- `ask` meets its contract: the decision is the computed answer, which the theory shows to be the document's.
+-- `ask` meets its contract: the decision is the computed answer, which the theory shows to be the right one.
 use borrow.Author.Needs.{needs}
 use Rattle.ask.proofs.Right.{asked}
 use Rattle.ask.proofs.ask.Statement.{statement}
