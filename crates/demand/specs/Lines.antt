@@ -59,7 +59,7 @@ linesOf g = linesTo (g .end) (g .remaining) (g .need) (g .period) (g .count)
 abbrev pub lineOfAt : Gathered → ℕ → Line
 lineOfAt g k = lineAt (g .end) (g .remaining) (g .need) (g .period) k
 
--- what the tests 4 and 5 and the numbers' width leave of a line
+-- R24, R25, R3: what is known of a gathered line, since neither ground held and its numbers have sixteen bits
 pub record Fit (x : Line) : Type 0 where
   pub some : 1 ≤ x .period
   pub ends : x .end ≤ x .period
@@ -75,7 +75,7 @@ pub record Packed (e c n p : List ℕ) (count : ℕ) : Type 0 where
 abbrev pub PackedIn : Gathered → Type 0
 PackedIn g = Packed (g .end) (g .remaining) (g .need) (g .period) (g .count)
 
--- what the tests 4 and 5 leave of what a slot holds, with p for its T'
+-- R24, R25: what is known of a slot, with p for its T', since neither ground held
 abbrev pub Fine : ℕ → Held → Type 0
 Fine p Nothing = Unit {0}
 Fine p (Running r) = (r .need ≤ r .period) × (r .remaining ≤ r .need) × (r .age < r .period) × (r .period ≤ p)

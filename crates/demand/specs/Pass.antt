@@ -57,7 +57,7 @@ passTo g Cn Tn last =
 abbrev pub passIn : Gathered → (Cn Tn : ℕ) → Pass
 passIn g Cn Tn = passTo g Cn Tn (lastTo (g .end) (g .count))
 
--- what the tests before leave of the new line
+-- R26, R3: what is known of the new line, since its ground did not hold, and of the last end
 pub record FitNew (new : New) : Type 0 where
   pub some : 1 ≤ new .need
   pub small : new .need ≤ 65535

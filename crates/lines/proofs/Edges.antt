@@ -16,7 +16,7 @@ use Rattle.lines.specs.Ask.{says, every, endsBefore, endsOf, slack, boun
 use Rattle.lines.specs.Admit.{admitOf}
 use Rattle.lines.specs.Step.{isOwed}
 use Rattle.lines.specs.Board.{blinks, bit, ReadyWord}
-use Rattle.lines.specs.Cases.{Bench, Case, line, running, waiting, tableOf, tableFor, requestFor, case, caseA, caseC, caseG, caseJ, caseK, caseL}
+use Rattle.lines.specs.Cases.{Bench, Case, line, running, waiting, tableOf, tableFor, case, caseA, caseC, caseG, caseK, caseL}
 
 abbrev refused : (number place : ℕ) → Said ℕ
 refused n k = refuses (refusal n k)

@@ -1,5 +1,5 @@
 -- R18, R19: the order of the grounds and their places in the answer relation, on one table in which two grounds hold: slot 0 has an unsound line and slot 1 waits.
-use mathlib.Core.Path.{_≡_, refl}
+use mathlib.Core.Path.{refl}
 use mathlib.Core.Logic.{inl, inr}
 use mathlib.Core.List.{[], _∷_}
 use Prim.Native.Nat.{ℕ, zero, suc, _<_}

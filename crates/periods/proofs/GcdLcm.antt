@@ -2,7 +2,7 @@
 -- greatest common divisor, by induction on Euclid's steps: both facts follow from that.
 use Prim.Native.Nat.{ℕ, zero, suc, _-_, _*_, _/_, _%_, _∣_, _≤_, _<_}
 use mathlib.Core.Path.{_≡_, refl, sym, ap, _∙_}
-use native.Mathlib.Nat.{mod-lt, zero-lt-suc, mod-def, mul-sub, mul-assoc, mul-comm, mul-zero, zero-mul, one-mul, zero-div, dvd-sub, dvd-mul-right-of-dvd, dvd-zero, dvd-refl, one-dvd, dvd-mod-iff, dvd-mul-left, mul-dvd-mul-left, mul-dvd-mul-right, dvd-of-mul-dvd-mul-right, dvd-antisymm, div-mul-cancel, pos-of-dvd-of-pos, mul-right-comm, le-of-dvd, mul-pos, lt-of-mul-lt-mul-right}
+use native.Mathlib.Nat.{mod-lt, zero-lt-suc, mod-def, mul-sub, mul-assoc, mul-comm, mul-zero, zero-mul, one-mul, zero-div, dvd-sub, dvd-mul-right-of-dvd, dvd-zero, dvd-refl, dvd-mod-iff, dvd-mul-left, mul-dvd-mul-left, mul-dvd-mul-right, dvd-of-mul-dvd-mul-right, dvd-antisymm, div-mul-cancel, pos-of-dvd-of-pos, mul-right-comm, le-of-dvd, mul-pos, lt-of-mul-lt-mul-right}
 use native.Mathlib.Omega.{arith}
 use Rattle.periods.specs.Multiples.{euclid, gcdOf, lcmOf, IsGcd, IsLcm}
 

@@ -1,11 +1,11 @@
 -- The first demand is kept: one answer by the uniqueness theorems, and what a refusal keeps by the operations' definitions.
-use mathlib.Core.Path.{_≡_, refl, sym, ap, ap₂, _∙_, subst}
+use mathlib.Core.Path.{_≡_, refl, sym, ap, _∙_, subst}
 use mathlib.Core.Bool.{Bool, true, false}
 use mathlib.Core.List.{List}
-use mathlib.Core.Option.{Option, none, some}
+use mathlib.Core.Option.{none, some}
 use Prim.Native.Nat.{ℕ}
 use native.Mathlib.Omega.{arith}
-use lib.IntN.{ℤ, negsuc}
+use lib.IntN.{negsuc}
 use lib.ListN.{length}
 use Rattle.lines.specs.declared.Table.{Table}
 use Rattle.lines.specs.declared.Request.{Request}
@@ -25,17 +25,16 @@ use Rattle.lines.proofs.Step.{refused-keeps}
 use Rattle.lines.proofs.Word.{word-unique}
 use Rattle.theory.proofs.Answers.{ask-answers}
 use Rattle.theory.proofs.Unique.{answers-unique}
-use Rattle.ask.specs.Asked.{Asked, Admits}
 use Rattle.ask.proofs.Right.{asked-unique, admits-unique}
 use Rattle.card.specs.Card.{Card, cardOf}
 use Rattle.card.specs.Reading.{readOf}
-use Rattle.card.specs.Answers.{handed, saidRead, writeOf, bufferOf, filled}
+use Rattle.card.specs.Answers.{handed, saidRead, writeOf, filled}
 use Rattle.card.proofs.Answers.{said-handed, one-reading, one-writing}
 use Rattle.driver.proofs.Keeps.{refused-drive-keeps, drive-determined}
 use Rattle.reply.specs.Line.{lineOf, laid, fits}
 use Rattle.reply.proofs.Line.{reply-settled, put-reply-settled}
 use Rattle.house.specs.House.{lineFor, numberOf, saidPut, rewriteFor, rewrittenFor}
-use Rattle.promises.specs.Contracts.{Drives, Writes, Puts, AnswersCard, Rewrites}
+use Rattle.promises.specs.Contracts.{Drives}
 use Rattle.promises.specs.Demand1.{FixedAnswer, RefusalKeeps, One, Both}
 
 -- ---- one fixed answer

@@ -5,20 +5,17 @@ use mathlib.Core.List.{List, [], _∷_, _++_}
 use mathlib.Core.Option.{Option, none}
 use mathlib.Core.Bool.{Bool, true, false}
 use Prim.Native.Nat.{ℕ, _≤_, _<_}
-use native.Mathlib.Omega.{arith}
 use borrow.Author.Tests.{le-leb}
-use lib.ListN.{length, take, drop}
+use lib.ListN.{length, drop}
 use lib.Dec.{leb}
 use Rattle.lines.specs.declared.Table.{Table}
 use Rattle.lines.specs.declared.Request.{Request}
 use Rattle.lines.specs.declared.Refusal.{Refusal}
-use Rattle.lines.specs.declared.Answer.{Answer}
-use Rattle.lines.specs.Slots.{pick, at, isWaiting, lowestOf, Waits, refusal, Said, gives, refuses}
+use Rattle.lines.specs.Slots.{pick, at, isWaiting, lowestOf, refusal, Said, gives, refuses}
 use Rattle.lines.specs.Grounds.{Row, grounds, FirstOf, NoneOf, Answers}
 use Rattle.lines.specs.Ask.{says}
-use Rattle.lines.proofs.Search.{true-false, none-found}
+use Rattle.lines.proofs.Search.{none-found}
 use Rattle.theory.proofs.Tests.{waits-says}
-use Rattle.card.specs.declared.WriteAnswer.{WriteAnswer}
 use Rattle.card.specs.Bytes.{Bytes}
 use Rattle.card.specs.Card.{Card, cardOf}
 use Rattle.card.specs.Reading.{readOf}

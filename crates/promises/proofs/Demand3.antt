@@ -15,7 +15,8 @@ use Rattle.lines.specs.Runs.{Act, admitting, run}
 use Rattle.theory.proofs.Numbers.{split}
 use Rattle.theory.proofs.Start.{least-by-last}
 use Rattle.theory.proofs.Granted.{says-start, granted}
-use Rattle.theory.proofs.Unique.{answers-is}
+use Rattle.theory.proofs.Answers.{ask-answers}
+use Rattle.theory.proofs.Unique.{answers-unique}
 use Rattle.theory.proofs.Step.{fine-step}
 use Rattle.promises.specs.Demand3.{Unfailing, NeverMissed, Admission, admitted-table, StartsByLastEnd, RunsFromStart, HasAllItsNeed, NoEarlierStart, NoEarlierThanAnswered}
 use Rattle.promises.proofs.Good.{Good, at-last, good-reached, good-after, slot-empty}
@@ -90,4 +91,5 @@ no-earlier-start t q r r' six e late less = no-earlier t q r r' six e late less
 
 -- R77, R41: in the words of ask's contract
 pub no-earlier-than-answered : NoEarlierThanAnswered
-no-earlier-than-answered t q a r r' six right e late less = no-earlier-start t q r r' six (ap says (sym (answers-is t q a right)) ∙ e) late less
+no-earlier-than-answered t q r r' six right late less =
+    no-earlier-start t q r r' six (answers-unique t q (says (askOf t q)) (gives r) (ask-answers t q) right) late less

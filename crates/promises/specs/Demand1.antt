@@ -11,7 +11,7 @@ use Rattle.lines.specs.declared.Answer.{Answer}
 use Rattle.lines.specs.declared.Admitted.{Admitted}
 use Rattle.lines.specs.declared.Stepped.{Stepped}
 use Rattle.lines.specs.declared.Outcome.{Outcome}
-use Rattle.lines.specs.Slots.{emptyTable, Said, refuses}
+use Rattle.lines.specs.Slots.{emptyTable, refuses}
 use Rattle.lines.specs.Grounds.{grounds, FirstOf, Answers}
 use Rattle.lines.specs.Ask.{says}
 use Rattle.lines.specs.Step.{saysRan}
@@ -21,7 +21,6 @@ use Rattle.card.specs.declared.ReadCard.{ReadCard}
 use Rattle.card.specs.declared.WriteAnswer.{WriteAnswer}
 use Rattle.card.specs.Reading.{readOf}
 use Rattle.card.specs.Answers.{saidRead, saidWritten, zeroRequest}
-use Rattle.reply.specs.declared.Reply.{Reply}
 use Rattle.reply.specs.declared.Written.{Written}
 use Rattle.reply.specs.Line.{lineOf, lengthOf, Replied}
 use Rattle.promises.specs.Contracts.{Steps, Drives, Reads, Writes, Puts, AnswersCard, Rewrites, RunsCard}

@@ -9,7 +9,6 @@ use Rattle.lines.specs.declared.Held.the-variants.{Nothing, Running, Waiting}
 use Rattle.lines.specs.declared.Table.{Table}
 use Rattle.lines.specs.declared.Request.{Request}
 use Rattle.lines.specs.declared.Refusal.{Refusal}
-use Rattle.lines.specs.declared.Answer.{Answer}
 use Rattle.lines.specs.Slots.{emptyTable, at, Each, isNothing, lowestOf, refusal, gives, refuses}
 use Rattle.lines.specs.Sound.{Sound}
 use Rattle.lines.specs.Demand.{lastEnd}
@@ -107,7 +106,7 @@ abbrev pub NoEarlierStart : Type 0
 NoEarlierStart = (t : Table) (q : Request) (r r' : ℕ) → Sixteen q → says (askOf t q) ≡ gives r → t .clock ≤ r' → r' < r
     → Misses (admittedAt t q r') (lastEnd (t .clock) (asked t q))
 
--- R77, R41: the same of any answer that ask's contract allows
+-- R77, R41: the same of any start that ask's contract allows
 abbrev pub NoEarlierThanAnswered : Type 0
-NoEarlierThanAnswered = (t : Table) (q : Request) (a : Answer) (r r' : ℕ) → Sixteen q → Answers t q (says a) → says a ≡ gives r → t .clock ≤ r' → r' < r
+NoEarlierThanAnswered = (t : Table) (q : Request) (r r' : ℕ) → Sixteen q → Answers t q (gives r) → t .clock ≤ r' → r' < r
     → Misses (admittedAt t q r') (lastEnd (t .clock) (asked t q))
