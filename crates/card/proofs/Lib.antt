@@ -13,4 +13,5 @@ pub mod Length
 pub mod Prefix
 pub mod Refusals
 pub mod Written
+pub mod Rewritten
 pub mod Answers

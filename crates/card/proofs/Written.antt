@@ -1,35 +1,20 @@
--- What was written reads back; a table that is carried has no waiting line.
+-- What was written reads back (R72).
 use mathlib.Core.Path.{_≡_, sym, ap, _∙_}
 use mathlib.Core.Bool.{Bool, true, false}
-use mathlib.Core.List.{List, [], _∷_}
+use mathlib.Core.List.{List}
 use mathlib.Core.Option.{Option, none, some}
-use Prim.Native.Nat.{ℕ, zero, suc, _<_}
+use Prim.Native.Nat.{ℕ}
 use native.Mathlib.Omega.{arith}
-use native.Mathlib.Nat.{le-of-suc-le-suc}
 use lib.ListN.{length, take, drop}
 use lib.Seq.{take-at}
 use lib.Dec.{leb}
-use Rattle.lines.specs.declared.Held.{Held}
-use Rattle.lines.specs.declared.Held.the-variants.{Nothing, Running, Waiting}
-use Rattle.lines.specs.declared.Slot.{Slot}
 use Rattle.lines.specs.declared.Table.{Table}
 use Rattle.lines.specs.declared.Request.{Request}
-use Rattle.lines.specs.Slots.{pick, at, isWaiting, lowestOf, Waits, Said, gives, refuses, refusal}
-use Rattle.card.specs.Card.{cardOf, carrying, cleared, Carried, AllCarried, Fits}
+use Rattle.lines.specs.Slots.{pick, isWaiting, lowestOf, Said, gives, refuses, refusal}
+use Rattle.card.specs.Card.{cardOf, carrying, cleared, Fits}
 use Rattle.card.specs.Reading.{readWith}
 use Rattle.card.specs.Answers.{lengthOf, unlessWaiting, filled, writeOf, bufferOf}
 use Rattle.card.proofs.ReadsBack.{reads-back}
-
-carried-runs : (h : Held) (t : ℕ) → Carried h t → Waits h → ⊥
-carried-runs Nothing t f w = w
-carried-runs (Running r) t f w = w
-carried-runs (Waiting x) t f w = f
-
-pub no-waiting : (ss : List Slot) (ts : List ℕ) → AllCarried ss ts → (i : ℕ) → i < length ss → Waits (at ss i) → ⊥
-no-waiting [] ts f i h = absurd (omega arith)
-no-waiting (s ∷ ss) [] f i h = absurd f
-no-waiting (s ∷ ss) (t ∷ ts) f zero h = carried-runs (s .held) t (f .0)
-no-waiting (s ∷ ss) (t ∷ ts) f (suc i) h = no-waiting ss ts (f .1) i (le-of-suc-le-suc h)
 
 -- R59: the length that the writer answers is the card's
 pub length-written : (t : Table) (q : Request) (room n : ℕ) → writeOf t q room ≡ gives n → n ≡ length (cardOf t q)

@@ -1,0 +1,54 @@
+-- What was read is written: what the writer says of it, and what the buffer then holds (R59, R72).
+use mathlib.Core.Path.{_≡_, refl, ap, _∙_}
+use mathlib.Core.List.{List, [], _∷_}
+use mathlib.Core.Option.{Option, none}
+use mathlib.Core.Bool.{Bool, false}
+use Prim.Native.Nat.{ℕ, zero, suc, _<_}
+use native.Mathlib.Omega.{arith}
+use lib.ListN.{length}
+use lib.Dec.{leb}
+use Rattle.lines.specs.declared.Held.{Held}
+use Rattle.lines.specs.declared.Held.the-variants.{Nothing, Running, Waiting}
+use Rattle.lines.specs.declared.Slot.{Slot}
+use Rattle.lines.specs.Slots.{pick, at, isWaiting, lowestOf, refusal, Said, gives, refuses}
+use Rattle.lines.proofs.Search.{none-found}
+use Rattle.card.specs.Bytes.{Bytes}
+use Rattle.card.specs.Card.{Card, cardOf, Carried, AllCarried}
+use Rattle.card.specs.Reading.{readWith}
+use Rattle.card.specs.Answers.{lengthOf, unlessWaiting, writeOf, filled, bufferOf}
+use Rattle.card.proofs.WritesBack.{writes-back}
+
+-- no card carries a waiting line
+none-waits : (ss : List Slot) (ts : List ℕ) → AllCarried ss ts → (i : ℕ) → i < length ss → isWaiting (at ss i) ≡ false
+none-waits [] ts f i h = absurd (omega arith)
+none-waits (s ∷ ss) [] f i h = absurd f
+none-waits (s ∷ ss) (t ∷ ts) f zero h = go (s .held) (f .0)
+  where
+    go : (x : Held) → Carried x t → isWaiting x ≡ false
+    go Nothing g = refl
+    go (Running r) g = refl
+    go (Waiting w) g = absurd g
+none-waits (s ∷ ss) (t ∷ ts) f (suc i) h = none-waits ss ts (f .1) i (omega arith)
+
+-- the card's length if it fits, or 13
+abbrev pub fitting : (card : List ℕ) → Bool → Said ℕ
+fitting card o = pick o (gives (length card)) (refuses (refusal 13 0))
+
+-- a card that reads, before a buffer; o is whether it fits
+module _ (n : ℕ) (card buffer : List ℕ) (b : Bytes card) (c : Card) (e : readWith n card ≡ gives c) {o : Bool} (h : leb (length card) (length buffer) ≡ o) where
+  -- R59: what the writer says of it
+  pub write-is : writeOf (c .table) (c .request) (length buffer) ≡ fitting card o
+  unfolding lengthOf
+  write-is =
+      let w = writes-back n card b c e in
+      let none-waiting : lowestOf isWaiting (c .table .slots) ≡ none =
+      none-found (λ i. isWaiting (at (c .table .slots) i)) (length (c .table .slots)) (none-waits (c .table .slots) (c .request .stretched) (w .1 .lines)) in
+      ap (λ (p : Option ℕ). unlessWaiting p (lengthOf (c .table) (c .request) (length buffer))) none-waiting
+      ∙ ap (λ (l : List ℕ). fitting l (leb (length l) (length buffer))) (w .0)
+      ∙ ap (fitting card) h
+
+  -- R59, R72: what the buffer then holds
+  pub buffer-is : bufferOf (c .table) (c .request) buffer ≡ filled card buffer (fitting card o)
+  buffer-is =
+      ap (filled (cardOf (c .table) (c .request)) buffer) write-is
+      ∙ ap (λ (l : List ℕ). filled l buffer (fitting card o)) (writes-back n card b c e .0)
