@@ -12,10 +12,6 @@ use Rattle.card.specs.Bytes.{Bytes, le, value}
 pub bytes-drop : (n : ℕ) (l : List ℕ) → Bytes l → Bytes (drop n l)
 bytes-drop n l h i = rw getD-drop (h (n + i))
 
-pub length-le : (n v : ℕ) → length (le n v) ≡ n
-length-le zero v = refl
-length-le (suc n) v = ap suc (length-le n (v / 256))
-
 value-cons : (n b : ℕ) (l : List ℕ) (at : ℕ) → value n (b ∷ l) (suc at) ≡ value n l at
 value-cons zero b l at = refl
 value-cons (suc n) b l at = ap (λ (v : ℕ). getD l at 0 + 256 * v) (value-cons n b l (suc at))

@@ -64,11 +64,6 @@ unfolding frameFrom
 frame-zero [] = refl
 frame-zero (p ∷ ps) = ap (λ (x : ℕ). frameFrom x ps) (lcm-zero-left p) ∙ frame-zero ps
 
--- with a period of 0 in first place it is 0
-pub frame-zero-first : (m : ℕ) (ps : List ℕ) → frameFrom m (0 ∷ ps) ≡ 0
-unfolding frameFrom
-frame-zero-first m ps = ap (λ (x : ℕ). frameFrom x ps) (lcm-zero-right m) ∙ frame-zero ps
-
 -- the period at i comes first in what is left from i on
 pub frame-step : (m : ℕ) (ps : List ℕ) (i : ℕ) → i < length ps → frameFrom m (drop i ps) ≡ frameFrom (lcmOf m (getD ps i 0)) (drop (i + 1) ps)
 unfolding frameFrom

@@ -4,7 +4,7 @@ ghost use mathlib.Core.Bool.{false};
 ghost use Prim.Native.Nat.{_+_, _-_, _≤_, _<_};
 ghost use lib.ListN.{length, drop};
 ghost use Rattle.lines.specs.declared.Held.the-variants.{Running};
-ghost use Rattle.lines.specs.Slots.{empty, refusal, Said, refuses};
+ghost use Rattle.lines.specs.Slots.{empty, refusal, refuses};
 ghost use Rattle.card.specs.Bytes.{value, markOf, marked};
 ghost use Rattle.card.specs.Card.{carrying};
 ghost use Rattle.card.specs.Reading.{lineOf, lastOf, recordOf, recordsOf, closing, readOf};

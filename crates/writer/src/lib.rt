@@ -1,7 +1,7 @@
 // The card writer: each record goes into the part of the buffer after the last one.
 ghost use mathlib.Core.Path.{_≡_};
 ghost use mathlib.Core.List.{_++_};
-ghost use Prim.Native.Nat.{_+_, _*_, _≤_, _<_};
+ghost use Prim.Native.Nat.{_+_, _≤_, _<_};
 ghost use lib.ListN.{length, drop, replicate};
 ghost use Rattle.lines.specs.Slots.{isNothing};
 ghost use Rattle.card.specs.Bytes.{le, markOf};
