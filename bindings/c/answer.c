@@ -1,5 +1,11 @@
-/* answer FILE: the answer line of a card, and what else the boundary says of it. */
+/*
+ * answer FILE: the answer line of a card, and what else the boundary says of it.
+ *
+ * Exit status: 0 the bench is released, 1 it is refused, 2 trouble: the card could not be read or the
+ * answer not be written. A card that cannot be read is not a broken card: it gets a message and no answer.
+ */
 #include <inttypes.h>
+#include <signal.h>
 #include <stdio.h>
 #include <string.h>
 
@@ -8,27 +14,44 @@
 /* R55: one byte more than the longest card, so that a longer file is seen to be too long. */
 #define ROOM (TRIMTHUEL_CARD_MAX + 1)
 
-/* R64: the line of the card. */
+enum { RELEASED = 0, REFUSED = 1, TROUBLE = 2 };
+
+/* Reads the card of a file; 0 if that failed. */
+static int read_card(const char *path, uint8_t card[ROOM], size_t *len)
+{
+    FILE *file = fopen(path, "rb");
+    int fine;
+
+    if (file == NULL)
+        return 0;
+    *len = fread(card, 1, ROOM, file);
+    fine = !ferror(file);
+    fclose(file);
+    return fine;
+}
+
+/* R64: the line of the card, which always fits, and the exit status that it means. */
 static int show_line(const uint8_t *card, size_t len)
 {
     uint8_t line[TRIMTHUEL_LINE_MAX];
     int64_t n = trimthuel_answer(card, len, line, sizeof line);
 
-    if (n < 0)
-        return 0;
-    return fwrite(line, 1, (size_t)n, stdout) == (size_t)n;
+    fwrite(line, 1, (size_t)n, stdout);
+    return memcmp(line, "release ", 8) == 0 ? RELEASED : REFUSED;
 }
 
 /* R33: a buffer that is one byte too short for the line gets -13, and every byte stays (R17). */
-static int show_short(const uint8_t *card, size_t len)
+static void show_short(const uint8_t *card, size_t len)
 {
     uint8_t line[TRIMTHUEL_LINE_MAX], kept[TRIMTHUEL_LINE_MAX];
     int64_t n = trimthuel_answer(card, len, line, sizeof line);
+    int same;
 
     memset(line, '.', sizeof line);
     memset(kept, '.', sizeof kept);
-    printf("short %" PRId64 "\n", trimthuel_answer(card, len, line, (size_t)n - 1));
-    return memcmp(line, kept, sizeof line) == 0;
+    n = trimthuel_answer(card, len, line, (size_t)n - 1);
+    same = memcmp(line, kept, sizeof line) == 0;
+    printf("short %" PRId64 "%s\n", n, same ? "" : " and changed");
 }
 
 /* R65, R72: a card that reads comes back the same. */
@@ -45,17 +68,27 @@ int main(int argc, char **argv)
 {
     uint8_t card[ROOM];
     size_t len;
-    FILE *file;
+    int status;
 
-    if (argc != 2 || (file = fopen(argv[1], "rb")) == NULL) {
+    if (argc != 2) {
         fprintf(stderr, "usage: answer FILE\n");
-        return 2;
+        return TROUBLE;
     }
-    len = fread(card, 1, sizeof card, file);
-    fclose(file);
-    if (!show_line(card, len) || !show_short(card, len))
-        return 1;
+    if (!read_card(argv[1], card, &len)) {
+        perror(argv[1]);
+        return TROUBLE;
+    }
+#ifdef SIGPIPE
+    /* A reader that has gone away is then a write that fails. */
+    signal(SIGPIPE, SIG_IGN);
+#endif
+    status = show_line(card, len);
+    show_short(card, len);
     show_rewritten(card, len);
     printf("ran %" PRId64 " of 56\n", trimthuel_run(card, len, 56));
-    return 0;
+    if (fclose(stdout) != 0) {
+        perror("the answer could not be written");
+        return TROUBLE;
+    }
+    return status;
 }

@@ -1,4 +1,7 @@
 //! answer FILE: the answer line of a card, and what else the boundary says of it.
+//!
+//! Exit status: 0 the bench is released, 1 it is refused, 2 trouble: the card could not be read or the
+//! answer not be written. A card that cannot be read is not a broken card: it gets a message and no answer.
 
 use std::fs::File;
 use std::io::{self, Read, Write};
@@ -21,22 +24,23 @@ fn number(told: Told<usize>) -> String {
     }
 }
 
-fn show(card: &[u8]) -> io::Result<()> {
+/// Writes all that is said of a card; true if the bench is released.
+fn show(card: &[u8], out: &mut impl Write) -> io::Result<bool> {
     let mut line = [0; LINE_MAX];
-    let Ok(length) = trimthuel::answer(card, &mut line) else {
-        return Err(io::Error::other("no line is longer than LINE_MAX"));
-    };
-    io::stdout().write_all(&line[..length])?;
+    let length = trimthuel::answer(card, &mut line).map_err(io::Error::other)?;
+    out.write_all(&line[..length])?;
+    let released = line.starts_with(b"release ");
     let short = trimthuel::answer(card, &mut line[..length - 1]);
-    println!("short {}", number(short));
+    writeln!(out, "short {}", number(short))?;
     let mut anew = [0; CARD_MAX];
     let rewritten = trimthuel::rewrite(card, &mut anew);
     let same = rewritten.is_ok_and(|length| &anew[..length] == card);
     let remark = if same { " the same" } else { "" };
-    println!("rewritten {}{remark}", number(rewritten));
+    writeln!(out, "rewritten {}{remark}", number(rewritten))?;
     let ran = trimthuel::run(card, 56).map(|ticks| ticks as usize);
-    println!("ran {} of 56", number(ran));
-    Ok(())
+    writeln!(out, "ran {} of 56", number(ran))?;
+    out.flush()?;
+    Ok(released)
 }
 
 fn main() -> ExitCode {
@@ -45,11 +49,12 @@ fn main() -> ExitCode {
         eprintln!("usage: answer FILE");
         return ExitCode::from(2);
     };
-    match card_of(path).and_then(|card| show(&card)) {
-        Ok(()) => ExitCode::SUCCESS,
+    match card_of(path).and_then(|card| show(&card, &mut io::stdout().lock())) {
+        Ok(true) => ExitCode::SUCCESS,
+        Ok(false) => ExitCode::from(1),
         Err(error) => {
-            eprintln!("{error}");
-            ExitCode::FAILURE
+            eprintln!("{path}: {error}");
+            ExitCode::from(2)
         }
     }
 }

@@ -7,6 +7,8 @@
 //! assert_eq!(&out[..n], b"refused 11 0\n");
 //! ```
 
+use std::fmt;
+
 /// R55: no card that reads is longer, and no card that is written.
 pub const CARD_MAX: usize = 208;
 
@@ -18,6 +20,43 @@ pub const LINE_MAX: usize = 40;
 pub struct Refused {
     pub number: u64,
 }
+
+/// R21 to R35: why, for refusal 1, 2 and so on.
+const WHY: [&str; 15] = [
+    "the clock is too late to ask",
+    "no slot is empty",
+    "a line still waits",
+    "a line's numbers are unsound",
+    "a period would be shortened",
+    "the new line does not fit its period",
+    "the frame is above 1,000,000",
+    "more than all of the pump is asked for",
+    "the lines are behind their shares",
+    "the running lines alone come too late",
+    "a broken card",
+    "an old-order mark on a card",
+    "the buffer is too short",
+    "a period ended short",
+    "the clock's last tick",
+];
+
+impl Refused {
+    /// Why, in words; none for a number that no refusal has.
+    #[must_use]
+    pub fn why(self) -> Option<&'static str> {
+        let index = usize::try_from(self.number).ok()?.checked_sub(1)?;
+        WHY.get(index).copied()
+    }
+}
+
+impl fmt::Display for Refused {
+    fn fmt(&self, f: &mut fmt::Formatter<'_>) -> fmt::Result {
+        let why = self.why().unwrap_or("no refusal has this number");
+        write!(f, "refusal {}: {why}", self.number)
+    }
+}
+
+impl std::error::Error for Refused {}
 
 /// R63: what was asked for, or a refusal.
 pub type Told<T> = Result<T, Refused>;
@@ -102,6 +141,30 @@ mod tests {
         assert_eq!(out, [b'.'; CARD_MAX]);
         assert_eq!(rewrite(CASE_A, &mut out), Ok(40));
         assert_eq!((&out[..40], out[40]), (CASE_A, b'.'));
+    }
+
+    #[test]
+    fn a_refusal_says_why_as_the_header_does() {
+        let header = include_str!("../../../include/trimthuel.h");
+        for number in 1..=15 {
+            let why = Refused { number }.why().expect("a refusal");
+            assert!(header.contains(&format!(" -{number}  {why}")), "{number}");
+        }
+        for number in [0, 16, u64::MAX] {
+            assert_eq!(Refused { number }.why(), None);
+        }
+        let short = Refused { number: 13 }.to_string();
+        assert_eq!(short, "refusal 13: the buffer is too short");
+    }
+
+    #[test]
+    fn a_refusal_is_an_error() {
+        let rewritten =
+            || -> Result<usize, Box<dyn std::error::Error>> { Ok(rewrite(b"", &mut [])?) };
+        assert_eq!(
+            rewritten().map_err(|e| e.to_string()),
+            Err("refusal 11: a broken card".into())
+        );
     }
 
     #[test]
