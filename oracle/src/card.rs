@@ -179,10 +179,14 @@ pub fn write(table: &Table, request: &Request, buffer: &mut [u8]) -> Result<usiz
     if let Some(slot) = table.lowest(Content::is_waiting) {
         return Err(Refusal::at(3, slot));
     }
-    let card = bytes(table, request);
-    let part = buffer.get_mut(..card.len()).ok_or(Refusal::at(13, 0))?;
-    part.copy_from_slice(&card);
-    Ok(card.len())
+    put(&bytes(table, request), buffer)
+}
+
+/// R33, R59, R62: what is written stands at the start of a lent buffer, all of it or nothing.
+pub fn put(text: &[u8], buffer: &mut [u8]) -> Result<usize, Refusal> {
+    let part = buffer.get_mut(..text.len()).ok_or(Refusal::at(13, 0))?;
+    part.copy_from_slice(text);
+    Ok(text.len())
 }
 
 /// R60: what the reader refuses is not asked.

@@ -1,9 +1,9 @@
 //! Random cards answered through the C boundary (R63 to R66) and by this program, with the feature
 //! `house`.
 
+use crate::boundary;
 use crate::card;
 use crate::random::Random;
-use crate::rules;
 use crate::spoil;
 use crate::types::Refusal;
 use std::time::Instant;
@@ -21,29 +21,6 @@ const SHOWN: u64 = 10;
 fn refused<T>(refusal: Refusal) -> Told<T> {
     let number = u64::from(refusal.number);
     Err(Refused { number })
-}
-
-/// R66: what a run has to answer.
-pub fn run_of(bytes: &[u8], ticks: u32) -> Told<u64> {
-    let reading = card::read(bytes);
-    if let Some(refusal) = reading.refusal {
-        return refused(refusal);
-    }
-    let mut table = match rules::admit(&reading.table, &reading.request) {
-        Ok((_, table)) => table,
-        Err(refusal) => return refused(refusal),
-    };
-    let mut ran = 0;
-    for _ in 0..ticks {
-        match rules::step(&table) {
-            Ok((next, slot)) => {
-                ran += u64::from(slot.is_some());
-                table = next;
-            }
-            Err(refusal) => return refused(refusal),
-        }
-    }
-    Ok(ran)
 }
 
 /// R17, R62: lends a buffer of `lent` bytes to `put`: what is wanted and the bytes after it untouched,
@@ -108,7 +85,8 @@ pub fn run(count: u64) -> bool {
         let answered = answers_agree(&mut random, &bytes, line.as_bytes());
         let rewritten = rewrites_agree(&mut random, &bytes);
         let ticks = random.below(400) as u32;
-        let (theirs, ours) = (trimthuel::run(&bytes, ticks), run_of(&bytes, ticks));
+        let ours = boundary::run(&bytes, ticks).or_else(refused);
+        let theirs = trimthuel::run(&bytes, ticks);
         if !answered || !rewritten || theirs != ours {
             differing += 1;
             if differing <= SHOWN {

@@ -11,24 +11,27 @@
 //!
 //! Its assumptions are the paper's: load exactly 1, and a table that came from a real run.
 
-use crate::types::{Request, Table};
+use crate::types::{Request, Run, Table, SLOTS};
 
 const SEGMENT: usize = 1024;
 
-/// The running tasks as (c_i(t_r), C_i, T'_i, t_i + T'_i), times counted from t_r.
+/// A running task as c_i(t_r), C_i, T'_i and t_i + T'_i. Times count from t_r and stay below 2^17,
+/// so 32 bits are enough.
+#[derive(Clone, Copy, Default)]
 struct Task {
-    owed: i64,
-    need: i64,
-    period: i64,
-    first_end: i64,
+    owed: i32,
+    need: i32,
+    period: i32,
+    first_end: i32,
 }
 
 struct Search {
-    tasks: Vec<Task>,
-    need: i64,
-    period: i64,
-    release: i64,
-    last: i64,
+    tasks: [Task; SLOTS],
+    count: usize,
+    need: i32,
+    period: i32,
+    release: i32,
+    last: i32,
     checks: u64,
 }
 
@@ -49,57 +52,84 @@ pub fn earliest(table: &Table, request: &Request) -> Found {
     }
 }
 
-impl Search {
-    fn new(table: &Table, request: &Request) -> Search {
-        let task = |(slot, run): (usize, &crate::types::Run)| Task {
+impl Task {
+    fn new(run: &Run, stretched: u16) -> Task {
+        Task {
             owed: run.remaining.into(),
             need: run.need.into(),
-            period: request.stretched[slot].into(),
-            first_end: i64::from(request.stretched[slot]) - i64::from(run.age),
-        };
-        let tasks: Vec<Task> = table.running().map(task).collect();
-        let last = tasks.iter().map(|task| task.first_end).max().unwrap_or(0);
+            period: stretched.into(),
+            first_end: i32::from(stretched) - i32::from(run.age),
+        }
+    }
+
+    /// Equations 3 and 4 for one task.
+    fn demand(&self, t: i32) -> i32 {
+        if t < self.first_end {
+            0
+        } else {
+            self.owed + self.need * whole(t - self.first_end, self.period)
+        }
+    }
+}
+
+/// The whole part of a quotient of numbers that are not below 0, unsigned because that divides quicker.
+fn whole(time: i32, by: i32) -> i32 {
+    (time as u32 / by as u32) as i32
+}
+
+impl Search {
+    fn new(table: &Table, request: &Request) -> Search {
+        let mut tasks = [Task::default(); SLOTS];
+        let mut count = 0;
+        for (slot, run) in table.running() {
+            tasks[count] = Task::new(run, request.stretched[slot]);
+            count += 1;
+        }
+        let ends = tasks[..count].iter().map(|task| task.first_end);
         Search {
             tasks,
+            count,
             need: request.need.into(),
             period: request.period.into(),
             release: 0,
-            last,
+            last: ends.max().unwrap_or(0),
             checks: 0,
         }
     }
 
     /// Lines 2 to 16.
     fn all_segments(&mut self) {
-        let mut ends: Vec<i64> = self.tasks.iter().map(|task| task.first_end).collect();
+        let mut ends = self.tasks.map(|task| task.first_end);
+        let ends = &mut ends[..self.count];
         let mut segment_end = ends.iter().copied().min().unwrap_or(0);
-        let mut flags = [0u32; SEGMENT];
+        // Eight bits are enough for a mark: there are at most 64 segments.
+        let mut flags = [0u8; SEGMENT];
         let mut mark = 0;
         while segment_end < self.last {
             let segment_start = segment_end;
-            segment_end += (self.last - segment_end).min(SEGMENT as i64);
+            segment_end += (self.last - segment_end).min(SEGMENT as i32);
             mark += 1;
-            for (index, end) in ends.iter_mut().enumerate() {
+            for (end, task) in ends.iter_mut().zip(self.tasks) {
                 while *end < segment_end {
                     let flag = &mut flags[(*end - segment_start) as usize];
                     if self.release < *end && *flag != mark {
                         *flag = mark;
                         self.release += self.delay_at(*end);
                     }
-                    *end += self.tasks[index].period;
+                    *end += task.period;
                 }
             }
         }
     }
 
     /// The sub function deadlinecheck(): theorem 3.
-    fn delay_at(&mut self, end: i64) -> i64 {
+    fn delay_at(&mut self, end: i32) -> i32 {
         let over = self.delta(end);
-        let whole = (end - self.release) / self.period;
-        let since_own_end = end - self.release - whole * self.period;
+        let whole_periods = whole(end - self.release, self.period);
+        let since_own_end = end - self.release - whole_periods * self.period;
         if over > 0 {
             // Equation 6, its last term with the ceiling.
-            let times = (over - 1) / self.need;
+            let times = whole(over - 1, self.need);
             return since_own_end + over + times * (self.period - self.need);
         }
         let own_end = end - since_own_end + self.period;
@@ -110,18 +140,12 @@ impl Search {
         }
     }
 
-    /// Δ(t_r, t) with equations 3 and 4.
-    fn delta(&mut self, t: i64) -> i64 {
+    /// Δ(t_r, t).
+    fn delta(&mut self, t: i32) -> i32 {
         self.checks += 1;
-        let demand = |task: &Task| {
-            if t < task.first_end {
-                0
-            } else {
-                task.owed + task.need * ((t - task.first_end) / task.period)
-            }
-        };
-        let old: i64 = self.tasks.iter().map(demand).sum();
-        old + self.need * ((t - self.release) / self.period) - t
+        let tasks = &self.tasks[..self.count];
+        let old: i32 = tasks.iter().map(|task| task.demand(t)).sum();
+        old + self.need * whole(t - self.release, self.period) - t
     }
 }
 

@@ -2,6 +2,8 @@
 
 #[cfg(feature = "house")]
 mod bench;
+mod benches;
+mod boundary;
 mod card;
 mod cases;
 #[cfg(feature = "house")]
@@ -14,9 +16,13 @@ mod esit;
 mod published;
 mod random;
 mod rules;
+mod samples;
 mod scene;
+#[cfg(any(test, feature = "house"))]
 mod slow;
 mod spoil;
+mod stored;
+mod ticks;
 mod types;
 mod vectors;
 mod walks;
@@ -26,19 +32,27 @@ use std::path::Path;
 use std::process::ExitCode;
 
 const USAGE: &str = "oracle answer < CARD
-oracle vectors OUT_DIR
+oracle example < CARD
+oracle stored OUT_DIR
 oracle walks
 oracle sweep [FROM TO]
-oracle bench          (feature house)
+oracle bench [RUNS]   (feature house)
 oracle count WAY [T0] TIMES      (feature house)
 oracle compare N      (feature house)";
 
-/// R60: one card from standard input, its line to standard output; R55: 209 bytes decide every card.
-fn answer() -> io::Result<bool> {
+/// One card from standard input; R55: 209 bytes decide every card.
+fn given_card() -> io::Result<Vec<u8>> {
     let mut bytes = Vec::new();
     let most = types::LONGEST_CARD as u64 + 1;
     io::stdin().lock().take(most).read_to_end(&mut bytes)?;
-    io::stdout().write_all(card::answer(&bytes).as_bytes())?;
+    Ok(bytes)
+}
+
+/// A text to standard output, flushed, so that what could not be written is an error.
+fn say(text: &str) -> io::Result<bool> {
+    let mut out = io::stdout().lock();
+    out.write_all(text.as_bytes())?;
+    out.flush()?;
     Ok(true)
 }
 
@@ -46,13 +60,20 @@ fn answer() -> io::Result<bool> {
 #[cfg(feature = "house")]
 fn beside_the_house(words: &[&str]) -> io::Result<bool> {
     match words {
-        ["bench"] => Ok(bench::run()),
-        ["count", way, times] => times.parse().map_or_else(|_| usage(), |n| Ok(bench::count(way, None, n))),
+        ["bench"] => Ok(bench::run(1)),
+        ["bench", runs] => runs
+            .parse::<std::num::NonZeroUsize>()
+            .map_or_else(|_| usage(), |n| Ok(bench::run(n.get()))),
+        ["count", way, times] => times
+            .parse()
+            .map_or_else(|_| usage(), |n| Ok(bench::count(way, None, n))),
         ["count", way, set, times] => match (set.parse(), times.parse()) {
             (Ok(set), Ok(n)) => Ok(bench::count(way, Some(set), n)),
             _ => usage(),
         },
-        ["compare", count] => count.parse().map_or_else(|_| usage(), |n| Ok(compare::run(n))),
+        ["compare", count] => count
+            .parse()
+            .map_or_else(|_| usage(), |n| Ok(compare::run(n))),
         _ => usage(),
     }
 }
@@ -65,8 +86,9 @@ fn beside_the_house(_words: &[&str]) -> io::Result<bool> {
 /// Runs a command; false when it failed or is not known.
 fn command(words: &[&str]) -> io::Result<bool> {
     match words {
-        ["answer"] => answer(),
-        ["vectors", folder] => vectors::write(Path::new(folder)).map(|()| true),
+        ["answer"] => say(&card::answer(&given_card()?)),
+        ["example"] => say(&boundary::example(&given_card()?)),
+        ["stored", folder] => stored::write(Path::new(folder)).map(|()| true),
         ["walks"] => walks::print().map(|()| true),
         ["sweep"] => {
             published::sweep(0, u64::MAX);

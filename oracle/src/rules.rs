@@ -169,6 +169,7 @@ fn last_end(lines: &[Stretched]) -> usize {
 }
 
 /// R15 as a tick of the clock, for the second algorithm.
+#[cfg(any(test, feature = "house"))]
 pub fn last_end_of(table: &Table, request: &Request) -> u64 {
     let end = last_end(&stretched_lines(table, request)) as u64;
     table.clock.saturating_add(end)

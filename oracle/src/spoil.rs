@@ -29,7 +29,8 @@ fn offsets(lines: usize) -> Vec<usize> {
     first.into_iter().chain(rest).collect()
 }
 
-fn with_mark(card: &[u8], offset: usize, mark: &[u8]) -> Vec<u8> {
+/// A card with another mark at an offset.
+pub fn with_mark(card: &[u8], offset: usize, mark: &[u8]) -> Vec<u8> {
     let mut changed = card.to_vec();
     changed[offset..offset + mark.len()].copy_from_slice(mark);
     changed

@@ -5,30 +5,56 @@ use crate::pump::{Held, Pump, Request, SLOTS};
 
 /// R9: a running line at its stretched period, its first end counted from the clock.
 #[derive(Clone, Copy, Default)]
-struct Line {
-    end: u32,
-    remaining: u32,
-    need: u32,
-    period: u32,
+pub(crate) struct Line {
+    pub(crate) end: u32,
+    pub(crate) remaining: u32,
+    pub(crate) need: u32,
+    pub(crate) period: u32,
+}
+
+/// 2^32 / by, rounded up: what `whole` multiplies by, since a line is divided by the same period at every end.
+#[inline]
+fn inverse(by: u32) -> u64 {
+    u64::from(u32::MAX / by) + 1
+}
+
+/// The whole part of a quotient. Exact where the number and what it is divided by are below 2^16.
+#[inline]
+fn whole(number: u32, inverse: u64) -> u32 {
+    ((u64::from(number) * inverse) >> 32) as u32
 }
 
 /// R10, summed over the lines.
 #[inline]
-fn demand(lines: &[Line], d: u32) -> u32 {
-    lines.iter().map(|l| if d < l.end { 0 } else { l.remaining + l.need * ((d - l.end) / l.period) }).sum()
+fn demand(lines: &[Line], inverses: &[u64], d: u32) -> u32 {
+    let one = |l: &Line, i: &u64| {
+        if d < l.end {
+            0
+        } else {
+            l.remaining + l.need * whole(d - l.end, *i)
+        }
+    };
+    lines.iter().zip(inverses).map(|(l, i)| one(l, i)).sum()
 }
 
-/// R14: ticks from the clock to the least smooth start, or `None` for R30.
+/// R14: ticks from the clock to the least smooth start, or `None` for R30. With q whole needs in the slack at an end, q + 1 of the new line's
+/// periods must not be over before that many needs and the demand fit.
 #[inline]
 fn start(lines: &[Line], need: u32, period: u32) -> Option<u32> {
     let last = lines.iter().map(|l| l.end).max().unwrap_or(0);
+    let mut inverses = [0; SLOTS];
+    inverses
+        .iter_mut()
+        .zip(lines)
+        .for_each(|(i, l)| *i = inverse(l.period));
+    let by_need = inverse(need);
     let mut best = 0;
     for line in lines {
         let mut d = line.end;
         while d < last {
-            let slack = d.checked_sub(demand(lines, d))?;
-            let until = (d + need - slack % need).min(last);
-            best = best.max(until.saturating_sub((slack / need + 1) * period));
+            let demand = demand(lines, &inverses, d);
+            let slack = d.checked_sub(demand)?;
+            best = best.max(demand.saturating_sub((whole(slack, by_need) + 1) * (period - need)));
             d += line.period;
         }
     }
@@ -61,7 +87,12 @@ fn load(lines: &[Line], need: u32, period: u32) -> Result<(), u16> {
     if lines.iter().map(|l| share(l.need, l.period)).sum::<u64>() + share(need, period) > frame {
         return Err(8);
     }
-    let owed: u64 = lines.iter().map(|l| frame * u64::from(l.remaining) + share(l.need, l.period) * u64::from(l.period - l.end)).sum();
+    let owed: u64 = lines
+        .iter()
+        .map(|l| {
+            frame * u64::from(l.remaining) + share(l.need, l.period) * u64::from(l.period - l.end)
+        })
+        .sum();
     if owed > lines.iter().map(|l| frame * u64::from(l.need)).sum() {
         return Err(9);
     }
@@ -71,15 +102,19 @@ fn load(lines: &[Line], need: u32, period: u32) -> Result<(), u16> {
 /// R19: the lowest slot of which the test holds.
 #[inline]
 fn lowest(pump: &Pump, test: impl Fn(usize, Held) -> bool) -> Option<u64> {
-    pump.slots.iter().enumerate().find(|(i, h)| test(*i, **h)).map(|(i, _)| i as u64)
+    pump.slots
+        .iter()
+        .enumerate()
+        .find(|(i, h)| test(*i, **h))
+        .map(|(i, _)| i as u64)
 }
 
 /// The running lines at their stretched periods, and how many there are.
-type Lines = ([Line; SLOTS], usize);
+pub(crate) type Lines = ([Line; SLOTS], usize);
 
 /// R21 to R29 in that order, and the lines gathered.
 #[inline]
-fn tested(pump: &Pump, request: &Request) -> Result<Lines, (u16, u64)> {
+pub(crate) fn tested(pump: &Pump, request: &Request) -> Result<Lines, (u16, u64)> {
     if pump.clock > (1 << 48) - 65_536 {
         return Err((1, 0));
     }
@@ -101,13 +136,29 @@ fn tested(pump: &Pump, request: &Request) -> Result<Lines, (u16, u64)> {
     let mut lines = [Line::default(); SLOTS];
     let mut count = 0;
     for (held, stretched) in pump.slots.iter().zip(request.stretched) {
-        if let Held::Running { need, age, remaining, .. } = *held {
+        if let Held::Running {
+            need,
+            age,
+            remaining,
+            ..
+        } = *held
+        {
             let period = u32::from(stretched);
-            lines[count] = Line { end: period - u32::from(age), remaining: u32::from(remaining), need: u32::from(need), period };
+            lines[count] = Line {
+                end: period - u32::from(age),
+                remaining: u32::from(remaining),
+                need: u32::from(need),
+                period,
+            };
             count += 1;
         }
     }
-    load(&lines[..count], u32::from(request.need), u32::from(request.period)).map_err(|number| (number, 0))?;
+    load(
+        &lines[..count],
+        u32::from(request.need),
+        u32::from(request.period),
+    )
+    .map_err(|number| (number, 0))?;
     Ok((lines, count))
 }
 
@@ -125,7 +176,12 @@ pub fn passes(card: &[u8]) -> bool {
 #[inline]
 pub fn ask(pump: &Pump, request: &Request) -> Result<u64, (u16, u64)> {
     let (lines, count) = tested(pump, request)?;
-    let ticks = start(&lines[..count], u32::from(request.need), u32::from(request.period)).ok_or((10, 0))?;
+    let ticks = start(
+        &lines[..count],
+        u32::from(request.need),
+        u32::from(request.period),
+    )
+    .ok_or((10, 0))?;
     Ok(pump.clock + u64::from(ticks))
 }
 
@@ -141,6 +197,7 @@ pub fn answer(card: &[u8]) -> Result<u64, (u16, u64)> {
 
 #[cfg(test)]
 mod tests {
+    use super::{inverse, whole};
     use crate::{answer, read, write};
 
     /// R59: the card of case A.
@@ -153,5 +210,18 @@ mod tests {
         let mut out = [0; 208];
         assert_eq!(write(&pump, &request, &mut out), Ok(40));
         assert_eq!(&out[..40], CASE_A);
+    }
+
+    #[test]
+    fn whole_parts_on_both_sides_of_a_multiple() {
+        for by in 1..65_536 {
+            let most = 65_535 / by;
+            for times in [0, 1, most / 2, most] {
+                let numbers = [times * by, times * by + by - 1];
+                for number in numbers.map(|n| n.min(65_535)) {
+                    assert_eq!(whole(number, inverse(by)), number / by, "{number} by {by}");
+                }
+            }
+        }
     }
 }

@@ -20,8 +20,15 @@ pub fn read(card: &[u8]) -> Result<(Pump, Request), (u16, u64)> {
     if !card.starts_with(b"CK") {
         return Err((11, 0));
     }
-    let mut pump = Pump { clock: u64::from_le_bytes(clock), slots: [Held::Nothing; SLOTS] };
-    let mut request = Request { stretched: [0; SLOTS], need: 0, period: 0 };
+    let mut pump = Pump {
+        clock: u64::from_le_bytes(clock),
+        slots: [Held::Nothing; SLOTS],
+    };
+    let mut request = Request {
+        stretched: [0; SLOTS],
+        need: 0,
+        period: 0,
+    };
     let (mut at, mut slot, mut gap) = (10, 0, false);
     loop {
         let rest = &card[at..];
@@ -36,13 +43,22 @@ pub fn read(card: &[u8]) -> Result<(Pump, Request), (u16, u64)> {
             return Ok((pump, request));
         }
         if slot < SLOTS && rest.starts_with(b"TB") && rest.len() >= 12 {
-            pump.slots[slot] = Held::Running { need: two(rest, 2), period: two(rest, 4), age: two(rest, 8), remaining: two(rest, 10) };
+            pump.slots[slot] = Held::Running {
+                need: two(rest, 2),
+                period: two(rest, 4),
+                age: two(rest, 8),
+                remaining: two(rest, 10),
+            };
             request.stretched[slot] = two(rest, 6);
             (at, slot, gap) = (at + 12, slot + 1, false);
         } else if slot < SLOTS && rest.starts_with(b"TF") {
             (at, slot, gap) = (at + 2, slot + 1, true);
         } else {
-            let number = if slot < SLOTS && rest.starts_with(b"TA") { 12 } else { 11 };
+            let number = if slot < SLOTS && rest.starts_with(b"TA") {
+                12
+            } else {
+                11
+            };
             return Err((number, at as u64));
         }
     }
@@ -72,9 +88,18 @@ pub fn write(pump: &Pump, request: &Request, out: &mut [u8]) -> Result<usize, (u
     out[2..10].copy_from_slice(&pump.clock.to_le_bytes());
     let mut at = 10;
     for (held, stretched) in pump.slots[..used].iter().zip(&request.stretched) {
-        if let Held::Running { need, period, age, remaining } = held {
+        if let Held::Running {
+            need,
+            period,
+            age,
+            remaining,
+        } = held
+        {
             out[at..at + 2].copy_from_slice(b"TB");
-            for (k, v) in [need, period, stretched, age, remaining].into_iter().enumerate() {
+            for (k, v) in [need, period, stretched, age, remaining]
+                .into_iter()
+                .enumerate()
+            {
                 out[at + 2 + 2 * k..at + 4 + 2 * k].copy_from_slice(&v.to_le_bytes());
             }
             at += 12;

@@ -7,8 +7,17 @@ pub const SLOTS: usize = 16;
 #[derive(Clone, Copy, Debug, PartialEq, Eq)]
 pub enum Held {
     Nothing,
-    Running { need: u16, period: u16, age: u16, remaining: u16 },
-    Waiting { need: u16, period: u16, wait: u16 },
+    Running {
+        need: u16,
+        period: u16,
+        age: u16,
+        remaining: u16,
+    },
+    Waiting {
+        need: u16,
+        period: u16,
+        wait: u16,
+    },
 }
 
 /// R2: the table.
@@ -32,7 +41,12 @@ impl Held {
     pub(crate) fn sound(self) -> bool {
         match self {
             Held::Nothing => true,
-            Held::Running { need, period, age, remaining } => 1 <= need && need <= period && remaining <= need && age < period,
+            Held::Running {
+                need,
+                period,
+                age,
+                remaining,
+            } => 1 <= need && need <= period && remaining <= need && age < period,
             Held::Waiting { need, period, wait } => 1 <= need && need <= period && 1 <= wait,
         }
     }
@@ -41,7 +55,12 @@ impl Held {
     #[inline]
     fn key(self) -> u32 {
         match self {
-            Held::Running { period, age, remaining, .. } if remaining > 0 => u32::from(period) - u32::from(age),
+            Held::Running {
+                period,
+                age,
+                remaining,
+                ..
+            } if remaining > 0 => u32::from(period) - u32::from(age),
             _ => u32::MAX,
         }
     }
@@ -51,9 +70,30 @@ impl Held {
     fn passed(self) -> Held {
         match self {
             Held::Nothing => self,
-            Held::Running { need, period, age, remaining } if age + 1 < period => Held::Running { need, period, age: age + 1, remaining },
-            Held::Waiting { need, period, wait } if wait > 1 => Held::Waiting { need, period, wait: wait - 1 },
-            Held::Running { need, period, .. } | Held::Waiting { need, period, .. } => Held::Running { need, period, age: 0, remaining: need },
+            Held::Running {
+                need,
+                period,
+                age,
+                remaining,
+            } if age + 1 < period => Held::Running {
+                need,
+                period,
+                age: age + 1,
+                remaining,
+            },
+            Held::Waiting { need, period, wait } if wait > 1 => Held::Waiting {
+                need,
+                period,
+                wait: wait - 1,
+            },
+            Held::Running { need, period, .. } | Held::Waiting { need, period, .. } => {
+                Held::Running {
+                    need,
+                    period,
+                    age: 0,
+                    remaining: need,
+                }
+            }
         }
     }
 }
@@ -77,7 +117,13 @@ impl Pump {
         }
         let ran = (best.0 < u32::MAX).then_some(best.1);
         for (i, held) in self.slots.iter().enumerate() {
-            if let Held::Running { period, age, remaining, .. } = *held {
+            if let Held::Running {
+                period,
+                age,
+                remaining,
+                ..
+            } = *held
+            {
                 if age + 1 == period && remaining > u16::from(ran == Some(i)) {
                     return Err((14, i as u64));
                 }

@@ -1,0 +1,177 @@
+//! The sample cards: cases A to M, a broken card of each kind, and a card for each refusal of ask that no
+//! case has. Refusal 3 has none, as a card carries no waiting line.
+
+use crate::card;
+use crate::cases::{letters, refused, row, Case, Line, CARD_A, LAST_CLOCK};
+use crate::spoil::with_mark;
+use crate::types::Refusal;
+
+/// A card, and its answer worked out by hand from docs/RULES.md.
+pub struct Sample {
+    pub name: &'static str,
+    pub bytes: Vec<u8>,
+    pub answer: Result<u64, Refusal>,
+}
+
+fn sample(name: &'static str, bytes: Vec<u8>, number: u8, place: usize) -> Sample {
+    let answer = refused(number, place);
+    Sample {
+        name,
+        bytes,
+        answer,
+    }
+}
+
+fn card_of(clock: u64, lines: &[Line], new: (u16, u16)) -> Vec<u8> {
+    let (table, request) = row(clock, lines, new);
+    card::bytes(&table, &request)
+}
+
+/// R67: cases A to M.
+fn cases() -> Vec<Sample> {
+    let of = |case: Case| Sample {
+        name: case.name,
+        bytes: card::bytes(&case.table, &case.request),
+        answer: case.answer,
+    };
+    letters().into_iter().map(of).collect()
+}
+
+/// Equal lines with time to spare; R55: sixteen make the longest card.
+fn equal_lines(lines: usize) -> Vec<u8> {
+    card_of(0, &[(1, 64, 64, 0, 1); 16][..lines], (1, 64))
+}
+
+/// R57, R58: case A's card with one fault of its form, its records at 0, 10, 22 and 34; and the full
+/// card with its last line, of 12 bytes before the new line's 6, a second time.
+fn broken() -> Vec<Sample> {
+    let a = &CARD_A;
+    let (before, asked) = a.split_at(34);
+    let (first, second) = before.split_at(22);
+    let full = equal_lines(16);
+    let seventeenth = [&full[..202], &full[190..]].concat();
+    let free = [before, b"TF", asked].concat();
+    let misplaced = [first, &a[..10], second, asked].concat();
+    vec![
+        sample("broken-byte-after", [a, &b"\0"[..]].concat(), 11, 40),
+        sample("broken-cut-record", a[..30].to_vec(), 11, 22),
+        sample("broken-empty", Vec::new(), 11, 0),
+        sample("broken-free-before-request", free, 11, 36),
+        sample("broken-misplaced-mark", misplaced, 11, 22),
+        sample("broken-no-clock", a[10..].to_vec(), 11, 0),
+        sample("broken-old-order", with_mark(a, 22, b"TA"), 12, 22),
+        sample("broken-seventeenth", seventeenth, 11, 202),
+        sample("broken-unknown-mark", with_mark(a, 22, b"XX"), 11, 22),
+    ]
+}
+
+/// Three lines with time to spare and a new line that fits, released at once: one changed number makes
+/// each of the refused cards but the full one.
+const FINE: [Line; 3] = [(1, 4, 4, 0, 1), (4, 16, 16, 4, 3), (4, 32, 64, 12, 0)];
+const NEW: (u16, u16) = (1, 8);
+
+/// R21, R22, R24, R25, R26: one fault each. A need above its period is above all of the pump too (R28);
+/// of the others no second ground holds.
+fn one_fault() -> Vec<Sample> {
+    let late = card_of(LAST_CLOCK + 1, &FINE, NEW);
+    let (mut unsound, mut shortened) = (FINE, FINE);
+    // R5: an age of T. R25: a T' of T − 1.
+    unsound[2].3 = 32;
+    shortened[1].2 = 15;
+    vec![
+        sample("refused-1-late-clock", late, 1, 0),
+        sample("refused-2-full", equal_lines(16), 2, 0),
+        sample("refused-4-unsound", card_of(40, &unsound, NEW), 4, 2),
+        sample("refused-5-shortened", card_of(40, &shortened, NEW), 5, 1),
+        sample("refused-6-no-fit", card_of(40, &FINE, (9, 8)), 6, 0),
+    ]
+}
+
+/// Every sample card.
+pub fn all() -> Vec<Sample> {
+    [cases(), broken(), one_fault()]
+        .into_iter()
+        .flatten()
+        .collect()
+}
+
+#[cfg(test)]
+mod tests {
+    use super::*;
+    use crate::rules;
+    use crate::types::{Content, LONGEST_CARD};
+
+    /// R53: where each number of a card of three lines begins.
+    fn numbers() -> Vec<usize> {
+        let lines = (10..46)
+            .step_by(12)
+            .flat_map(|line| [2, 4, 6, 8, 10].map(|at| line + at));
+        [2].into_iter().chain(lines).chain([48, 50]).collect()
+    }
+
+    #[test]
+    fn every_answer_is_the_stated_one() {
+        for sample in all() {
+            assert_eq!(card::judge(&sample.bytes), sample.answer, "{}", sample.name);
+        }
+    }
+
+    #[test]
+    fn the_names_say_the_refusal() {
+        for sample in all() {
+            let number = sample.answer.map_or_else(|refusal| refusal.number, |_| 0);
+            let said = match sample.name.split('-').collect::<Vec<_>>()[..] {
+                ["broken", "old", "order"] => number == 12,
+                ["broken", ..] => number == 11,
+                ["refused", said, ..] => said == number.to_string(),
+                _ => sample.name.len() == 1,
+            };
+            assert!(said, "{}", sample.name);
+        }
+    }
+
+    #[test]
+    fn one_number_mended_releases() {
+        let fine = card_of(40, &FINE, NEW);
+        assert_eq!(card::judge(&fine), Ok(40));
+        for sample in one_fault() {
+            if sample.name == "refused-2-full" {
+                continue;
+            }
+            assert_eq!(sample.bytes.len(), fine.len());
+            let differing = |at: &usize| sample.bytes[*at] != fine[*at];
+            let of = |at| numbers().iter().rposition(|number| *number <= at);
+            let mut changed: Vec<_> = (0..fine.len()).filter(differing).map(of).collect();
+            changed.dedup();
+            assert_eq!(changed.len(), 1, "{}", sample.name);
+        }
+    }
+
+    #[test]
+    fn no_second_ground_behind_4_and_5() {
+        // R26 to R30 look at T' and never at T, so that another T mends the line for them alone.
+        let (mut unsound, mut shortened) = (FINE, FINE);
+        (unsound[2].3, unsound[2].1) = (32, 64);
+        (shortened[1].2, shortened[1].1) = (15, 15);
+        for lines in [unsound, shortened] {
+            assert_eq!(card::judge(&card_of(40, &lines, NEW)), Ok(40));
+        }
+    }
+
+    fn read(name: &str) -> card::Reading {
+        let sample = one_fault().into_iter().find(|sample| sample.name == name);
+        card::read(&sample.expect("a sample").bytes)
+    }
+
+    #[test]
+    fn one_tick_earlier_and_one_line_fewer_release() {
+        let mut late = read("refused-1-late-clock");
+        late.table.clock -= 1;
+        assert_eq!(rules::ask(&late.table, &late.request), Ok(LAST_CLOCK));
+        let mut full = read("refused-2-full");
+        assert!(full.table.slots.iter().all(Content::is_sound));
+        full.table.slots[15] = Content::Nothing;
+        assert_eq!(rules::ask(&full.table, &full.request), Ok(0));
+        assert_eq!(equal_lines(16).len(), LONGEST_CARD);
+    }
+}
