@@ -1,5 +1,5 @@
 // The cases (R67) and edges beside them, on whole tables: a card cannot carry a waiting line.
-// The stored output was written by another program, which knows the definitions of the rules alone.
+// The stored output is written by the independent program, `oracle stored`, from the rules alone.
 ghost use Prim.Native.Nat.{_<_};
 
 mod edges; // the edges beside the cases

@@ -1,4 +1,4 @@
-// The pump driver (R51) at work, held to a file that an independent program wrote from the step rule (R48) alone:
+// The pump driver (R51) at work, held to what the independent program, `oracle stored`, writes from the step rule (R48) alone:
 // case A's admitted table to tick 64, the last tick and beyond, an unsound line, and a period that ends short.
 use lines::Held;
 use lines::Outcome;

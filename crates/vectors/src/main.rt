@@ -1,24 +1,9 @@
-// The stored set of cards, answered one after the other as the answering program (R60) answers one card.
+// The stored set of cards, answered one after the other as the answering program (R60) answers one card: by `house::answer`.
 // A card is its length in two bytes, low byte first, and that many bytes; the length 65,535 ends the set.
 ghost use mathlib.Core.Path.{_≡_};
 ghost use Prim.Native.Nat.{_+_, _≤_};
 ghost use lib.ListN.{length, take};
-use card::CardAnswer;
 use lines::Answer;
-
-// R60: the reader's refusal, or what ask answers
-fn answer(card: &[u8]) -> Answer {
-    let r = reader::read(card);
-    let a = r.answer;
-    match a {
-        CardAnswer::Read => {
-            let t = r.table;
-            let q = r.request;
-            ask::ask(t, q)
-        }
-        CardAnswer::Refused(x) => Answer::Refused(x),
-    }
-}
 
 fn wide(b: u8) -> usize
     ensures { λ r. ⌜ r ≤ 255 ⌝ }
@@ -96,7 +81,7 @@ fn answer_all(out: &mut [u8]) -> usize
         if !fill(&mut card, n) {
             return at;
         }
-        let a = answer(&card[..n]);
+        let a = house::answer(&card[..n]);
         at = add(out, at, a);
         left -= 1;
     }

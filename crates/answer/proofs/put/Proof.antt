@@ -1,9 +1,9 @@
--- The array has 40 bytes, so that its first `len` are `len`.
+-- `answer::put` is safe: the array has 40 bytes, so that its first `len` are `len`.
 use native.Mathlib.Omega.{arith}
 use lib.ListN.{length-take}
 use borrow.Author.Needs.{needs}
-use Rattle.answer.proofs.say.Statement.{statement}
-use Rattle.answer.proofs.say.Tie as tie
+use Rattle.answer.proofs.put.Statement.{statement}
+use Rattle.answer.proofs.put.Tie as tie
 
 array-share-prefix-line : tie.Need-array-share-prefix-line
 array-share-prefix-line c = search needs
@@ -17,7 +17,7 @@ write-all-requires c κs = search needs
 returns : tie.Need-returns
 returns c = search needs
 
-pub say-spec : {M : Type 1} → statement M
-say-spec =
+pub put-spec : {M : Type 1} → statement M
+put-spec =
     tie.close
     (tie.spec array-share-prefix-line slice-aggregate-write-all write-all-requires returns)
