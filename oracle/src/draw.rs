@@ -22,7 +22,7 @@ const WIDE_BASES: [u64; 5] = [720_720, 831_600, 997_920, 999_999, 1_000_000];
 /// The greatest divisor of `base` that is at most `most` and fits sixteen bits.
 fn divisor(base: u64, most: u64) -> u16 {
     let mut candidate = most.clamp(1, 65_535);
-    while !base.is_multiple_of(candidate) {
+    while base % candidate != 0 {
         candidate -= 1;
     }
     candidate as u16

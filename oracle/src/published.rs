@@ -35,7 +35,7 @@ pub const FIRST_PERIODS: std::ops::RangeInclusive<u64> = 50..=250;
 /// T3, the least common multiple of T0, 120 and 180, and so of all periods before compression.
 pub fn round(first_period: u64) -> u64 {
     let multiples = (1..=360).map(|times| times * first_period);
-    let mut common = multiples.filter(|multiple| multiple.is_multiple_of(360));
+    let mut common = multiples.filter(|multiple| *multiple % 360 == 0);
     common.next().unwrap_or(360 * first_period)
 }
 

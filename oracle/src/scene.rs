@@ -19,7 +19,7 @@ pub struct Scene {
 /// WALKS.md, "A divisor": the greatest divisor of base that is at most `most`.
 fn divisor(base: u64, most: u64) -> u64 {
     let mut candidate = most;
-    while !base.is_multiple_of(candidate) {
+    while base % candidate != 0 {
         candidate -= 1;
     }
     candidate
@@ -107,7 +107,7 @@ impl Scene {
 
     /// T × times where it divides the base, else T.
     fn longer(&self, period: u64, times: u64) -> u64 {
-        if self.base.is_multiple_of(period * times) {
+        if self.base % (period * times) == 0 {
             period * times
         } else {
             period

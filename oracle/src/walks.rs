@@ -92,7 +92,7 @@ impl<W: Write> Walk<W> {
             if self.number <= IN_CLEAR {
                 writeln!(self.out, "{} {text}", self.number)?;
             }
-            if self.number.is_multiple_of(EVERY) {
+            if self.number % EVERY == 0 {
                 writeln!(self.out, "{} {}", self.number, self.digest.value())?;
             }
         }

@@ -169,6 +169,12 @@ pub fn passes(card: &[u8]) -> bool {
     read(card).is_ok_and(|(pump, request)| tested(&pump, &request).is_ok())
 }
 
+/// R41: the start that is so many ticks from the clock; none is R30.
+#[inline]
+pub(crate) fn from_clock(pump: &Pump, ticks: Option<u32>) -> Result<u64, (u16, u64)> {
+    Ok(pump.clock + u64::from(ticks.ok_or((10, 0))?))
+}
+
 /// R41: the start, or the refusal's number and place.
 ///
 /// # Errors
@@ -176,13 +182,8 @@ pub fn passes(card: &[u8]) -> bool {
 #[inline]
 pub fn ask(pump: &Pump, request: &Request) -> Result<u64, (u16, u64)> {
     let (lines, count) = tested(pump, request)?;
-    let ticks = start(
-        &lines[..count],
-        u32::from(request.need),
-        u32::from(request.period),
-    )
-    .ok_or((10, 0))?;
-    Ok(pump.clock + u64::from(ticks))
+    let (need, period) = (request.need.into(), request.period.into());
+    from_clock(pump, start(&lines[..count], need, period))
 }
 
 /// R60: the answer to a card, the reader's refusal or ask's.

@@ -6,7 +6,7 @@
 //!
 //! A tick between two ends puts a lower bound than the end before it: to look at it changes nothing.
 
-use crate::ask::{tested, Line};
+use crate::ask::{from_clock, tested, Line};
 use crate::card::read;
 use crate::pump::SLOTS;
 
@@ -201,11 +201,6 @@ fn start(lines: &[Line], need: u32, period: u32) -> Option<u32> {
 pub fn answer_in_order(card: &[u8]) -> Result<u64, (u16, u64)> {
     let (pump, request) = read(card)?;
     let (lines, count) = tested(&pump, &request)?;
-    let ticks = start(
-        &lines[..count],
-        u32::from(request.need),
-        u32::from(request.period),
-    )
-    .ok_or((10, 0))?;
-    Ok(pump.clock + u64::from(ticks))
+    let (need, period) = (request.need.into(), request.period.into());
+    from_clock(&pump, start(&lines[..count], need, period))
 }

@@ -19,7 +19,7 @@ impl Draw {
     fn period(&mut self, frame: u32, least: u32) -> u32 {
         loop {
             let period = frame / (1 + self.below(frame / least));
-            if period < 65_536 && frame.is_multiple_of(period) {
+            if period < 65_536 && frame % period == 0 {
                 return period;
             }
         }
