@@ -6,19 +6,23 @@ use mathlib.Core.List.{List, [], _∷_}
 use native.Mathlib.Omega.{arith}
 use lib.ListN.{length, set, replicate}
 use Rattle.periods.specs.Multiples.{euclid, gcdOf, lcmOf, frameFrom}
-use Rattle.lines.specs.declared.Held.{Held}
-use Rattle.lines.specs.declared.Held.the-variants.{Nothing, Running, Waiting}
-use Rattle.lines.specs.declared.Slot.{Slot}
-use Rattle.lines.specs.declared.Table.{Table}
-use Rattle.lines.specs.declared.Request.{Request}
-use Rattle.lines.specs.declared.Answer.{Answer}
-use Rattle.lines.specs.declared.Answer.the-variants.{Start, Refused}
-use Rattle.lines.specs.Slots.{at, total, lowest, emptyTable}
-use Rattle.lines.specs.Demand.{due, lastEnd}
-use Rattle.lines.specs.Grounds.{entry, stretch, stretched, asked, periodsIn}
-use Rattle.lines.specs.Ask.{shrunk, every, endsBefore, endsOf, slack, bound, greatest, anyOf, start, loadOf, askOf}
-use Rattle.lines.specs.Admit.{admitWith, admitOf}
-use Rattle.lines.proofs.Search.{lowest-congr}
+use Rattle.line.specs.declared.Held.{Held}
+use Rattle.line.specs.declared.Held.the-variants.{Nothing, Running, Waiting}
+use Rattle.line.specs.declared.Slot.{Slot}
+use Rattle.table.specs.declared.Table.{Table}
+use Rattle.table.specs.declared.Request.{Request}
+use Rattle.table.specs.declared.Answer.{Answer}
+use Rattle.table.specs.declared.Answer.the-variants.{Start, Refused}
+use Rattle.line.specs.Slots.{at, total, lowest}
+use Rattle.table.specs.Words.{emptyTable}
+use Rattle.line.specs.Demand.{due, lastEnd}
+use Rattle.table.specs.Grounds.{entry, asked}
+use Rattle.line.specs.Stretch.{stretch, stretched, shrunk}
+use Rattle.line.specs.Shares.{periodsIn}
+use Rattle.line.specs.Ends.{every, endsBefore, endsOf, slack, bound, greatest, anyOf, start}
+use Rattle.table.specs.Ask.{loadOf, askOf}
+use Rattle.table.specs.Admit.{admitWith, admitOf}
+use Rattle.line.proofs.Search.{lowest-congr}
 use Rattle.ask.specs.Agree.{Runs, Agree}
 
 stretch-agrees : (p r : ℕ) (h : Held) → (Runs h → p ≡ r) → stretch p h ≡ stretch r h

@@ -5,17 +5,21 @@ use mathlib.Core.List.{[], _∷_}
 use native.Mathlib.Omega.{arith}
 use lib.ListN.{length, replicate}
 use Rattle.periods.specs.Multiples.{euclid, gcdOf, lcmOf, frameFrom}
-use Rattle.lines.specs.declared.Table.{Table}
-use Rattle.lines.specs.declared.Request.{Request}
-use Rattle.lines.specs.declared.Answer.{Answer}
-use Rattle.lines.specs.declared.Answer.the-variants.{Start, Refused}
-use Rattle.lines.specs.declared.Admitted.{Admitted}
-use Rattle.lines.specs.Slots.{empty, emptyTable, at, total, isNothing, lowest, refusal}
-use Rattle.lines.specs.Demand.{due, lastEnd}
-use Rattle.lines.specs.Grounds.{entry, stretched, periodsIn}
-use Rattle.lines.specs.Ask.{every, endsBefore, endsOf, slack, bound, greatest, anyOf, start, loadOf, askOf}
-use Rattle.lines.specs.Cases.{running, waiting, tableOf}
-use Rattle.lines.proofs.Search.{true-false}
+use Rattle.table.specs.declared.Table.{Table}
+use Rattle.table.specs.declared.Request.{Request}
+use Rattle.table.specs.declared.Answer.{Answer}
+use Rattle.table.specs.declared.Answer.the-variants.{Start, Refused}
+use Rattle.table.specs.declared.Admitted.{Admitted}
+use Rattle.line.specs.Slots.{empty, at, total, isNothing, lowest}
+use Rattle.table.specs.Words.{emptyTable, refusal}
+use Rattle.line.specs.Demand.{due, lastEnd}
+use Rattle.table.specs.Grounds.{entry}
+use Rattle.line.specs.Stretch.{stretched}
+use Rattle.line.specs.Shares.{periodsIn}
+use Rattle.line.specs.Ends.{every, endsBefore, endsOf, slack, bound, greatest, anyOf, start}
+use Rattle.table.specs.Ask.{loadOf, askOf}
+use Rattle.table.specs.Cases.{running, waiting, tableOf}
+use Rattle.line.proofs.Search.{true-false}
 use Rattle.ask.specs.Agree.{Runs, Agree}
 use Rattle.ask.specs.Asked.{Asked, Admits}
 use Rattle.ask.proofs.Right.{asked, admits}

@@ -4,18 +4,18 @@ use mathlib.Core.Path.{_≡_, ap, sym, _∙_}
 use mathlib.Core.List.{List}
 use mathlib.Core.Option.{none, some}
 use lib.ListN.{set}
-use Rattle.lines.specs.declared.Held.{Held}
-use Rattle.lines.specs.declared.Slot.{Slot}
-use Rattle.lines.specs.declared.Table.{Table}
-use Rattle.lines.specs.declared.Request.{Request}
-use Rattle.lines.specs.declared.Answer.{Answer}
-use Rattle.lines.specs.declared.Answer.the-variants.{Start, Refused}
-use Rattle.lines.specs.declared.Refusal.{Refusal}
-use Rattle.lines.specs.declared.Admitted.{Admitted}
-use Rattle.lines.specs.Slots.{isNothing, lowestOf}
-use Rattle.lines.specs.Grounds.{asked}
-use Rattle.lines.specs.Ask.{askOf}
-use Rattle.lines.specs.Admit.{newLine, admittedAt, admitWith, admitOf}
+use Rattle.line.specs.declared.Held.{Held}
+use Rattle.line.specs.declared.Slot.{Slot}
+use Rattle.table.specs.declared.Table.{Table}
+use Rattle.table.specs.declared.Request.{Request}
+use Rattle.table.specs.declared.Answer.{Answer}
+use Rattle.table.specs.declared.Answer.the-variants.{Start, Refused}
+use Rattle.table.specs.declared.Refusal.{Refusal}
+use Rattle.table.specs.declared.Admitted.{Admitted}
+use Rattle.line.specs.Slots.{isNothing, lowestOf}
+use Rattle.table.specs.Grounds.{asked}
+use Rattle.table.specs.Ask.{askOf}
+use Rattle.table.specs.Admit.{newLine, admittedAt, admitWith, admitOf}
 
 abbrev table : ℕ → List Slot → Table
 table k l = record { clock = k; slots = l }

@@ -1,12 +1,12 @@
 -- The computed answer is the one that the rules fix, by the theory; and two answers that ask's or admit's contract allows are equal.
 use mathlib.Core.Path.{_≡_, refl, sym, ap, _∙_}
-use Rattle.lines.specs.declared.Table.{Table}
-use Rattle.lines.specs.declared.Request.{Request}
-use Rattle.lines.specs.declared.Answer.{Answer}
-use Rattle.lines.specs.declared.Answer.the-variants.{Start, Refused}
-use Rattle.lines.specs.declared.Admitted.{Admitted}
-use Rattle.lines.specs.Ask.{askOf}
-use Rattle.lines.specs.Admit.{admitWith, admitOf}
+use Rattle.table.specs.declared.Table.{Table}
+use Rattle.table.specs.declared.Request.{Request}
+use Rattle.table.specs.declared.Answer.{Answer}
+use Rattle.table.specs.declared.Answer.the-variants.{Start, Refused}
+use Rattle.table.specs.declared.Admitted.{Admitted}
+use Rattle.table.specs.Ask.{askOf}
+use Rattle.table.specs.Admit.{admitWith, admitOf}
 use Rattle.theory.proofs.Answers.{ask-answers}
 use Rattle.ask.specs.Asked.{Asked, Admits}
 

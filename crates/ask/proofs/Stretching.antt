@@ -6,9 +6,9 @@ use native.Mathlib.Nat.{le-of-suc-le-suc}
 use native.Mathlib.Numerals.{add-one}
 use native.Mathlib.Omega.{arith}
 use lib.ListN.{length, getD, set}
-use Rattle.lines.specs.declared.Slot.{Slot}
-use Rattle.lines.specs.Grounds.{stretch, stretched}
-use Rattle.lines.specs.declared.Held.{Held}
+use Rattle.line.specs.declared.Slot.{Slot}
+use Rattle.line.specs.Stretch.{stretch, stretched}
+use Rattle.line.specs.declared.Held.{Held}
 
 -- the first n slots stretched, the others as they are
 unfoldable pub upto : ℕ → List Slot → (ℕ → ℕ) → List Slot
@@ -47,10 +47,12 @@ pub record Stretching (p : ℕ → ℕ) (l₀ l : List Slot) (i : ℕ) : Type 0 
   pub within : i ≤ 16
   pub same : l ≡ upto i l₀ p
 
+-- before the first slot nothing is stretched
 pub stretch-start : (p : ℕ → ℕ) (l : List Slot) → length l ≡ 16 → Stretching p l l 0
 stretch-start p l e = record { long = e; within = omega arith; same = sym (upto-none l p) }
 
 module _ {p : ℕ → ℕ} {l₀ l : List Slot} {i : ℕ} (v : Stretching p l₀ l i) where
+  -- slot i, stretched and put back, takes the loop on by one
   pub stretch-on : {r : Slot} (d : Slot) → i < 16 → r .held ≡ stretch (p i) (getD l i d .held) → Stretching p l₀ (set l i r) (i + 1)
   stretch-on {r} d h e =
       let g : getD l i d ≡ getD l₀ i d = ap (λ (x : List Slot). getD x i d) (v .same) ∙ upto-at i l₀ p d in
@@ -64,5 +66,6 @@ module _ {p : ℕ → ℕ} {l₀ l : List Slot} {i : ℕ} (v : Stretching p l₀
       slot-by : {h : Held} → r .held ≡ h → r ≡ record { held = h }
       slot-by e = ap (λ (h : Held). let s : Slot = record { held = h } in s) e
 
+  -- R42: after sixteen slots every running line is at its T'
   pub stretch-end : 16 ≤ i → l ≡ stretched l₀ p
   stretch-end h = v .same ∙ upto-all i l₀ p (omega (arith, v .long))

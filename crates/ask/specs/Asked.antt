@@ -1,12 +1,12 @@
 -- What ask and admit promise: the answer that the rules fix, and the same computed, for callers.
 use mathlib.Core.Path.{_≡_}
-use Rattle.lines.specs.declared.Table.{Table}
-use Rattle.lines.specs.declared.Request.{Request}
-use Rattle.lines.specs.declared.Answer.{Answer}
-use Rattle.lines.specs.declared.Admitted.{Admitted}
-use Rattle.lines.specs.Grounds.{Answers}
-use Rattle.lines.specs.Ask.{says, askOf}
-use Rattle.lines.specs.Admit.{admitOf}
+use Rattle.table.specs.declared.Table.{Table}
+use Rattle.table.specs.declared.Request.{Request}
+use Rattle.table.specs.declared.Answer.{Answer}
+use Rattle.table.specs.declared.Admitted.{Admitted}
+use Rattle.table.specs.Grounds.{Answers}
+use Rattle.table.specs.Ask.{says, askOf}
+use Rattle.table.specs.Admit.{admitOf}
 
 -- R41: a right answer: the first ground, or the least smooth start
 pub record Asked (t : Table) (q : Request) (a : Answer) : Type 0 where

@@ -1,11 +1,11 @@
 // What admit did to a table: where the new line stands and what it is, or that nothing changed.
 use crate::Bench;
-use lines::Answer;
-use lines::Held;
-use lines::Run;
-use lines::Slot;
-use lines::Table;
-use lines::Wait;
+use line::Held;
+use line::Run;
+use line::Slot;
+use line::Wait;
+use table::Answer;
+use table::Table;
 
 fn is_run(h: Held, x: Run) -> bool {
     match h {

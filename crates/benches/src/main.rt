@@ -5,13 +5,13 @@ ghost use Prim.Native.Nat.{_<_};
 mod edges; // the edges beside the cases
 mod look; // what admit did to a table
 
-use lines::Answer;
-use lines::Held;
-use lines::Request;
-use lines::Run;
-use lines::Slot;
-use lines::Table;
-use lines::Wait;
+use line::Held;
+use line::Run;
+use line::Slot;
+use line::Wait;
+use table::Answer;
+use table::Request;
+use table::Table;
 
 // A table and what is asked of it.
 struct Bench {

@@ -3,8 +3,9 @@ use mathlib.Core.Path.{_≡_, refl}
 use mathlib.Core.List.{List, [], _∷_, _++_}
 use Prim.Native.Nat.{ℕ}
 use lib.ListN.{take}
-use Rattle.lines.specs.Cases.{caseA}
-use Rattle.lines.specs.Slots.{gives, refuses, refusal, lowest}
+use Rattle.table.specs.Cases.{caseA}
+use Rattle.table.specs.Words.{gives, refuses, refusal}
+use Rattle.line.specs.Slots.{lowest}
 use Rattle.card.specs.Bytes.{marked, TA}
 use Rattle.card.specs.Card.{cardOf}
 use Rattle.card.specs.Reading.{recordOf, recordsOf, readWith, readOf}

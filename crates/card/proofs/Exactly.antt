@@ -2,9 +2,9 @@
 use mathlib.Core.Path.{_≡_, sym, _∙_}
 use mathlib.Core.List.{List}
 use Prim.Native.Nat.{ℕ}
-use Rattle.lines.specs.declared.Table.{Table}
-use Rattle.lines.specs.declared.Request.{Request}
-use Rattle.lines.specs.Slots.{gives}
+use Rattle.table.specs.declared.Table.{Table}
+use Rattle.table.specs.declared.Request.{Request}
+use Rattle.table.specs.Words.{gives}
 use Rattle.card.specs.Bytes.{Bytes}
 use Rattle.card.specs.Card.{Card, carrying, cardOf, cleared, Fits}
 use Rattle.card.specs.Reading.{readWith}

@@ -8,7 +8,7 @@ use native.Mathlib.Nat.{le-of-suc-le-suc}
 use lib.ListN.{length, drop, getD}
 use lib.Dec.{eqb}
 use borrow.Author.Tests.{eqb-true, eq-eqb, ne-eqb}
-use Rattle.lines.specs.Slots.{both}
+use Rattle.line.specs.Slots.{both}
 use Rattle.card.specs.Bytes.{marked}
 
 pub false-true : _≡_ {A = Bool} false true → ⊥

@@ -9,8 +9,9 @@ use lib.ListN.{length, take, drop, length-take}
 use lib.Seq.{getD-take, take-nil}
 use lib.Dec.{leb, eqb}
 use borrow.Author.Tests.{leb-true, leb-false, le-leb, lt-leb, eqb-true, eqb-false, eq-eqb, ne-eqb}
-use Rattle.lines.specs.Slots.{pick, both, empty, gives}
-use Rattle.lines.specs.declared.Held.the-variants.{Running}
+use Rattle.line.specs.Slots.{pick, both, empty}
+use Rattle.table.specs.Words.{gives}
+use Rattle.line.specs.declared.Held.the-variants.{Running}
 use Rattle.card.specs.declared.Record.{Record}
 use Rattle.card.specs.declared.Record.the-variants.{Line, Free, Last, Refused}
 use Rattle.card.specs.Bytes.{value, CK, TB, TF, TA, RQ, marked}

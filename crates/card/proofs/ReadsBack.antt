@@ -5,13 +5,14 @@ use mathlib.Core.Bool.{Bool, true, false}
 use Prim.Native.Nat.{ℕ, zero, suc, _+_, _<_}
 use native.Mathlib.Omega.{arith}
 use lib.ListN.{length, replicate}
-use Rattle.lines.specs.declared.Run.{Run}
-use Rattle.lines.specs.declared.Held.{Held}
-use Rattle.lines.specs.declared.Held.the-variants.{Nothing, Running, Waiting}
-use Rattle.lines.specs.declared.Slot.{Slot}
-use Rattle.lines.specs.declared.Table.{Table}
-use Rattle.lines.specs.declared.Request.{Request}
-use Rattle.lines.specs.Slots.{empty, gives}
+use Rattle.line.specs.declared.Run.{Run}
+use Rattle.line.specs.declared.Held.{Held}
+use Rattle.line.specs.declared.Held.the-variants.{Nothing, Running, Waiting}
+use Rattle.line.specs.declared.Slot.{Slot}
+use Rattle.table.specs.declared.Table.{Table}
+use Rattle.table.specs.declared.Request.{Request}
+use Rattle.line.specs.Slots.{empty}
+use Rattle.table.specs.Words.{gives}
 use Rattle.card.specs.Bytes.{le, CK, TF}
 use Rattle.card.specs.Card.{clockRecord, lineRecord, requestRecord, slotRecords, oneMore, usedFrom, used, cardOf, Card, carrying, entryOf, entries, cleared, Carried, AllCarried, Fits}
 use Rattle.card.specs.Reading.{after, ending, recordsOf, readWith}

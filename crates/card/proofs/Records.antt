@@ -7,8 +7,8 @@ use native.Mathlib.Omega.{arith}
 use lib.ListN.{length, drop}
 use lib.Dec.{leb, ltb}
 use borrow.Author.Tests.{leb-true, ltb-true, le-leb, lt-leb, lt-ltb}
-use Rattle.lines.specs.declared.Run.{Run}
-use Rattle.lines.specs.Slots.{pick}
+use Rattle.line.specs.declared.Run.{Run}
+use Rattle.line.specs.Slots.{pick}
 use Rattle.card.specs.declared.Record.{Record}
 use Rattle.card.specs.declared.Record.the-variants.{Line, Free, Last, Refused}
 use Rattle.card.specs.Bytes.{Bytes, le, value, TB, TF, TA, RQ, marked}

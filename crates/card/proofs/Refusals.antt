@@ -9,11 +9,12 @@ use native.Mathlib.Decide.{decLt}
 use lib.ListN.{length, drop}
 use lib.Dec.{leb}
 use borrow.Author.Tests.{lt-leb, ne-eqb}
-use Rattle.lines.specs.declared.Held.{Held}
-use Rattle.lines.specs.declared.Held.the-variants.{Nothing, Running, Waiting}
-use Rattle.lines.specs.declared.Slot.{Slot}
-use Rattle.lines.specs.declared.Refusal.{Refusal}
-use Rattle.lines.specs.Slots.{pick, both, empty, isNothing, refusal, gives, refuses}
+use Rattle.line.specs.declared.Held.{Held}
+use Rattle.line.specs.declared.Held.the-variants.{Nothing, Running, Waiting}
+use Rattle.line.specs.declared.Slot.{Slot}
+use Rattle.table.specs.declared.Refusal.{Refusal}
+use Rattle.line.specs.Slots.{pick, both, empty, isNothing}
+use Rattle.table.specs.Words.{refusal, gives, refuses}
 use Rattle.card.specs.declared.Record.the-variants.{Refused}
 use Rattle.card.specs.Bytes.{value, CK, TB, TF, TA, RQ, marked}
 use Rattle.card.specs.Card.{clockRecord, lineRecord, slotRecord, slotRecords, entryOf, entries, Carried, AllCarried}

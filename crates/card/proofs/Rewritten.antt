@@ -7,11 +7,12 @@ use Prim.Native.Nat.{ℕ, zero, suc, _<_}
 use native.Mathlib.Omega.{arith}
 use lib.ListN.{length}
 use lib.Dec.{leb}
-use Rattle.lines.specs.declared.Held.{Held}
-use Rattle.lines.specs.declared.Held.the-variants.{Nothing, Running, Waiting}
-use Rattle.lines.specs.declared.Slot.{Slot}
-use Rattle.lines.specs.Slots.{pick, at, isWaiting, lowestOf, refusal, Said, gives, refuses}
-use Rattle.lines.proofs.Search.{none-found}
+use Rattle.line.specs.declared.Held.{Held}
+use Rattle.line.specs.declared.Held.the-variants.{Nothing, Running, Waiting}
+use Rattle.line.specs.declared.Slot.{Slot}
+use Rattle.line.specs.Slots.{pick, at, isWaiting, lowestOf}
+use Rattle.table.specs.Words.{refusal, Said, gives, refuses}
+use Rattle.line.proofs.Search.{none-found}
 use Rattle.card.specs.Bytes.{Bytes}
 use Rattle.card.specs.Card.{Card, cardOf, Carried, AllCarried}
 use Rattle.card.specs.Reading.{readWith}

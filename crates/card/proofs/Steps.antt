@@ -5,10 +5,11 @@ use mathlib.Core.Bool.{Bool, true, false}
 use Prim.Native.Nat.{ℕ, zero, suc, _+_, _≤_}
 use lib.ListN.{length, drop}
 use borrow.Author.Tests.{le-leb}
-use Rattle.lines.specs.declared.Run.{Run}
-use Rattle.lines.specs.declared.Held.the-variants.{Running}
-use Rattle.lines.specs.declared.Slot.{Slot}
-use Rattle.lines.specs.Slots.{pick, both, empty, refusal, Said, gives, refuses}
+use Rattle.line.specs.declared.Run.{Run}
+use Rattle.line.specs.declared.Held.the-variants.{Running}
+use Rattle.line.specs.declared.Slot.{Slot}
+use Rattle.line.specs.Slots.{pick, both, empty}
+use Rattle.table.specs.Words.{refusal, Said, gives, refuses}
 use Rattle.card.specs.declared.Record.the-variants.{Line, Free, Last, Refused}
 use Rattle.card.specs.Bytes.{value, CK, marked}
 use Rattle.card.specs.Card.{Card}

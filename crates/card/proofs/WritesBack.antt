@@ -7,9 +7,10 @@ use native.Mathlib.Omega.{arith}
 use lib.ListN.{length, drop, replicate, drop-of-length-le}
 use lib.Dec.{leb, eqb}
 use borrow.Author.Tests.{leb-true, eqb-true}
-use Rattle.lines.specs.declared.Run.{Run}
-use Rattle.lines.specs.declared.Held.the-variants.{Running}
-use Rattle.lines.specs.Slots.{pick, both, empty, Said, gives, refuses}
+use Rattle.line.specs.declared.Run.{Run}
+use Rattle.line.specs.declared.Held.the-variants.{Running}
+use Rattle.line.specs.Slots.{pick, both, empty}
+use Rattle.table.specs.Words.{Said, gives, refuses}
 use Rattle.card.specs.declared.Record.{Record}
 use Rattle.card.specs.declared.Record.the-variants.{Line, Free, Last, Refused}
 use Rattle.card.specs.Bytes.{Bytes, value, CK, TF, marked}

@@ -8,9 +8,10 @@ use native.Mathlib.Omega.{arith}
 use lib.ListN.{length, take, drop}
 use lib.Seq.{take-at}
 use lib.Dec.{leb}
-use Rattle.lines.specs.declared.Table.{Table}
-use Rattle.lines.specs.declared.Request.{Request}
-use Rattle.lines.specs.Slots.{pick, isWaiting, lowestOf, Said, gives, refuses, refusal}
+use Rattle.table.specs.declared.Table.{Table}
+use Rattle.table.specs.declared.Request.{Request}
+use Rattle.line.specs.Slots.{pick, isWaiting, lowestOf}
+use Rattle.table.specs.Words.{Said, gives, refuses, refusal}
 use Rattle.card.specs.Card.{cardOf, carrying, cleared, Fits}
 use Rattle.card.specs.Reading.{readWith}
 use Rattle.card.specs.Answers.{lengthOf, unlessWaiting, filled, writeOf, bufferOf}

@@ -4,7 +4,7 @@ use mathlib.Core.List.{List, [], _∷_}
 use mathlib.Core.Bool.{Bool, true, false}
 use lib.ListN.{getD}
 use lib.Dec.{eqb}
-use Rattle.lines.specs.Slots.{both}
+use Rattle.line.specs.Slots.{both}
 
 -- every element is a byte
 abbrev pub Bytes : List ℕ → Type 0

@@ -4,9 +4,10 @@ use mathlib.Core.List.{List, [], _∷_, _++_}
 use mathlib.Core.Bool.{Bool, true, false}
 use lib.ListN.{length, drop, replicate}
 use lib.Dec.{eqb, leb, ltb}
-use Rattle.lines.specs.declared.Held.the-variants.{Running}
-use Rattle.lines.specs.declared.Slot.{Slot}
-use Rattle.lines.specs.Slots.{pick, both, empty, refusal, Said, gives, refuses}
+use Rattle.line.specs.declared.Held.the-variants.{Running}
+use Rattle.line.specs.declared.Slot.{Slot}
+use Rattle.line.specs.Slots.{pick, both, empty}
+use Rattle.table.specs.Words.{refusal, Said, gives, refuses}
 use Rattle.card.specs.declared.Record.{Record}
 use Rattle.card.specs.declared.Record.the-variants.{Line, Free, Last, Refused}
 use Rattle.card.specs.Bytes.{value, CK, TB, TF, TA, RQ, marked}

@@ -1,8 +1,8 @@
 // The words of the card: what stands in it, and what its reader and its writer answer.
-use lines::Refusal;
-use lines::Request;
-use lines::Run;
-use lines::Table;
+use line::Run;
+use table::Refusal;
+use table::Request;
+use table::Table;
 
 // R53, R57: what stands where a slot's record or RQ may stand: a line with its T', a slot that holds nothing, the new line, or a refusal's number.
 pub enum Record {

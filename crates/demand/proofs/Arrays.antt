@@ -3,7 +3,7 @@ use Prim.Native.Nat.{ℕ, zero, suc, _+_, max}
 use mathlib.Core.Path.{_≡_, refl, ap, sym, _∙_}
 use mathlib.Core.List.{List, [], _∷_, _++_, append-assoc, append-nil}
 use native.Mathlib.Omega.{arith}
-use Rattle.lines.specs.Ask.{endsBefore}
+use Rattle.line.specs.Ends.{endsBefore}
 use Rattle.demand.specs.Lines.{Line, sumOf, sumTo, lineAt, linesTo, periodsTo}
 use Rattle.demand.specs.Pass.{lastTo, endsTo}
 use Rattle.demand.specs.Ticks.{periodsBy, lastOf, endsBy}

@@ -6,17 +6,20 @@ use mathlib.Core.Option.{none, some}
 use lib.Dec.{leb}
 use lib.ListN.{length}
 use borrow.Author.Tests.{lt-ltb, le-ltb, ltb-false, not-false}
-use Rattle.lines.specs.declared.Held.{Held}
-use Rattle.lines.specs.declared.Held.the-variants.{Nothing, Running, Waiting}
-use Rattle.lines.specs.declared.Table.{Table}
-use Rattle.lines.specs.declared.Request.{Request}
-use Rattle.lines.specs.declared.Answer.the-variants.{Refused}
-use Rattle.lines.specs.Slots.{at, both, lowest, lowestOf, isNothing, isWaiting, refusal}
-use Rattle.lines.specs.Sound.{sound}
-use Rattle.lines.specs.Grounds.{entry, asked, frame}
-use Rattle.lines.specs.Ask.{shrunk, loadOf, askOf}
-use Rattle.lines.proofs.Search.{lowest-none, true-false}
-use Rattle.lines.proofs.Sound.{sound-says}
+use Rattle.line.specs.declared.Held.{Held}
+use Rattle.line.specs.declared.Held.the-variants.{Nothing, Running, Waiting}
+use Rattle.table.specs.declared.Table.{Table}
+use Rattle.table.specs.declared.Request.{Request}
+use Rattle.table.specs.declared.Answer.the-variants.{Refused}
+use Rattle.line.specs.Slots.{at, both, lowest, lowestOf, isNothing, isWaiting}
+use Rattle.table.specs.Words.{refusal}
+use Rattle.line.specs.Sound.{sound}
+use Rattle.table.specs.Grounds.{entry, asked}
+use Rattle.line.specs.Shares.{frame}
+use Rattle.line.specs.Stretch.{shrunk}
+use Rattle.table.specs.Ask.{loadOf, askOf}
+use Rattle.line.proofs.Search.{lowest-none, true-false}
+use Rattle.line.proofs.Sound.{sound-says}
 use Rattle.demand.specs.Lines.{Fine, AllFine}
 
 fine-held : (p : ℕ) (h : Held) → sound h ≡ true → shrunk p h ≡ false → Fine p h

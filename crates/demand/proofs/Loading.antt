@@ -6,16 +6,19 @@ use mathlib.Core.List.{List, _∷_}
 use native.Mathlib.Omega.{arith}
 use borrow.Author.Tests.{lt-ltb, le-ltb}
 use Rattle.periods.specs.Multiples.{frameOf, capped}
-use Rattle.lines.specs.declared.Slot.{Slot}
-use Rattle.lines.specs.declared.Table.{Table}
-use Rattle.lines.specs.declared.Request.{Request}
-use Rattle.lines.specs.declared.Refusal.{Refusal}
-use Rattle.lines.specs.declared.Answer.{Answer}
-use Rattle.lines.specs.declared.Answer.the-variants.{Start, Refused}
-use Rattle.lines.specs.Slots.{total, refusal}
-use Rattle.lines.specs.Demand.{lastEnd}
-use Rattle.lines.specs.Grounds.{entry, asked, frame, share, owed, full}
-use Rattle.lines.specs.Ask.{endsOf, anyOf, start, shortAt, loadOf}
+use Rattle.line.specs.declared.Slot.{Slot}
+use Rattle.table.specs.declared.Table.{Table}
+use Rattle.table.specs.declared.Request.{Request}
+use Rattle.table.specs.declared.Refusal.{Refusal}
+use Rattle.table.specs.declared.Answer.{Answer}
+use Rattle.table.specs.declared.Answer.the-variants.{Start, Refused}
+use Rattle.line.specs.Slots.{total}
+use Rattle.table.specs.Words.{refusal}
+use Rattle.line.specs.Demand.{lastEnd}
+use Rattle.table.specs.Grounds.{entry, asked}
+use Rattle.line.specs.Shares.{frame, share, owed, full}
+use Rattle.line.specs.Ends.{endsOf, anyOf, start, shortAt}
+use Rattle.table.specs.Ask.{loadOf}
 use Rattle.demand.specs.declared.gather.Gathered.{Gathered}
 use Rattle.demand.specs.declared.ends.Pass.{Pass}
 use Rattle.demand.specs.Lines.{linesIn, linesOf, lineOfAt, sumTo, shareOf, owedOf, fullOf, periodsTo, AllFine}

@@ -9,11 +9,11 @@ use native.Mathlib.Omega.{arith}
 use lib.Dec.{ltb}
 use borrow.Author.Tests.{lt-ltb, le-ltb}
 use Rattle.periods.specs.Multiples.{frameOf}
-use Rattle.lines.specs.declared.Slot.{Slot}
-use Rattle.lines.specs.Slots.{total}
-use Rattle.lines.specs.Demand.{demands, lastEnd}
-use Rattle.lines.specs.Grounds.{frame, share, owed, full}
-use Rattle.lines.specs.Ask.{endsOf, slack, bound, greatest, anyOf, start, shortAt}
+use Rattle.line.specs.declared.Slot.{Slot}
+use Rattle.line.specs.Slots.{total}
+use Rattle.line.specs.Demand.{demands, lastEnd}
+use Rattle.line.specs.Shares.{frame, share, owed, full}
+use Rattle.line.specs.Ends.{endsOf, slack, bound, greatest, anyOf, start, shortAt}
 use Rattle.demand.specs.declared.gather.Gathered.{Gathered}
 use Rattle.demand.specs.Lines.{linesIn, linesOf, lineOfAt, sumOf, sumTo, shareOf, owedOf, fullOf, periodsTo, PackedIn}
 use Rattle.demand.specs.Pass.{dueBy, demandTo, lastTo, endsTo, shortBy, boundBy, passIn}

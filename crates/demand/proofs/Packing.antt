@@ -9,13 +9,13 @@ use lib.ListN.{length, getD, set, drop, length-set, drop-of-length-le}
 use lib.Seq.{getD-set-same, getD-set-other}
 use borrow.Author.Count.{below-more}
 use Rattle.periods.specs.Multiples.{All}
-use Rattle.lines.specs.declared.Run.{Run}
-use Rattle.lines.specs.declared.Held.{Held}
-use Rattle.lines.specs.declared.Held.the-variants.{Nothing, Running, Waiting}
-use Rattle.lines.specs.declared.Slot.{Slot}
-use Rattle.lines.specs.Slots.{at}
-use Rattle.lines.specs.Grounds.{stretch, stretched}
-use Rattle.lines.proofs.Read.{seen}
+use Rattle.line.specs.declared.Run.{Run}
+use Rattle.line.specs.declared.Held.{Held}
+use Rattle.line.specs.declared.Held.the-variants.{Nothing, Running, Waiting}
+use Rattle.line.specs.declared.Slot.{Slot}
+use Rattle.line.specs.Slots.{at}
+use Rattle.line.specs.Stretch.{stretch, stretched}
+use Rattle.line.proofs.Read.{seen}
 use Rattle.demand.specs.declared.gather.Gathered.{Gathered}
 use Rattle.demand.specs.Lines.{Line, lineIn, linesIn, lineAt, linesTo, linesOf, Fit, PackedIn, Fine}
 

@@ -10,9 +10,9 @@ use native.Mathlib.Omega.{arith}
 use lib.ListN.{getD}
 use lib.Dec.{ltb}
 use borrow.Author.Tests.{lt-ltb, le-ltb}
-use Rattle.lines.specs.Slots.{pick}
-use Rattle.lines.specs.Ask.{countBefore, every, endsBefore, bound, anyOf, greatest}
-use Rattle.lines.proofs.Search.{true-false}
+use Rattle.line.specs.Slots.{pick}
+use Rattle.line.specs.Ends.{countBefore, every, endsBefore, bound, anyOf, greatest}
+use Rattle.line.proofs.Search.{true-false}
 use Rattle.demand.specs.declared.ends.Pass.{Pass}
 use Rattle.demand.specs.Lines.{Packed}
 use Rattle.demand.specs.Pass.{lastTo, endsTo, passOver, shortBy, boundBy, passBy}

@@ -9,13 +9,14 @@ use native.Mathlib.Omega.{arith}
 use lib.Dec.{ltb}
 use lib.ListN.{length}
 use borrow.Author.Tests.{lt-ltb, le-ltb}
-use Rattle.lines.specs.declared.Held.{Held}
-use Rattle.lines.specs.declared.Held.the-variants.{Nothing, Running, Waiting}
-use Rattle.lines.specs.declared.Slot.{Slot}
-use Rattle.lines.specs.Slots.{at, total}
-use Rattle.lines.specs.Demand.{due, demand, endOf, lastEnd}
-use Rattle.lines.specs.Grounds.{stretch, stretched, periodIn, periodsIn, share, owed, full}
-use Rattle.lines.specs.Ask.{countBefore, every, endsBefore, endsIn, endsOf, bound, greatest, anyOf}
+use Rattle.line.specs.declared.Held.{Held}
+use Rattle.line.specs.declared.Held.the-variants.{Nothing, Running, Waiting}
+use Rattle.line.specs.declared.Slot.{Slot}
+use Rattle.line.specs.Slots.{at, total}
+use Rattle.line.specs.Demand.{due, demand, endOf, lastEnd}
+use Rattle.line.specs.Stretch.{stretch, stretched}
+use Rattle.line.specs.Shares.{periodIn, periodsIn, share, owed, full}
+use Rattle.line.specs.Ends.{countBefore, every, endsBefore, endsIn, endsOf, bound, greatest, anyOf}
 use Rattle.demand.specs.Lines.{Line, lineIn, linesIn, sumOf, Fine, shareOf, owedOf, fullOf}
 use Rattle.demand.specs.Pass.{dueBy}
 use Rattle.demand.specs.Ticks.{periodsBy, lastOf, endsBy, after, Young, AllYoung}

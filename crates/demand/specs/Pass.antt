@@ -5,11 +5,11 @@ use mathlib.Core.Bool.{Bool, true, false}
 use mathlib.Core.List.{List, [], _∷_, _++_}
 use lib.Dec.{ltb}
 use lib.ListN.{getD}
-use Rattle.lines.specs.Slots.{pick}
-use Rattle.lines.specs.Demand.{due}
-use Rattle.lines.specs.Ask.{endsBefore, bound}
-use Rattle.lines.specs.declared.Answer.{Answer}
-use Rattle.lines.specs.declared.Answer.the-variants.{Start, Refused}
+use Rattle.line.specs.Slots.{pick}
+use Rattle.line.specs.Demand.{due}
+use Rattle.line.specs.Ends.{endsBefore, bound}
+use Rattle.table.specs.declared.Answer.{Answer}
+use Rattle.table.specs.declared.Answer.the-variants.{Start, Refused}
 use Rattle.demand.specs.declared.ends.Pass.{Pass}
 use Rattle.demand.specs.declared.ends.New.{New}
 use Rattle.demand.specs.declared.gather.Gathered.{Gathered}

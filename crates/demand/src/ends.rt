@@ -4,8 +4,8 @@ ghost use mathlib.Core.Path.{_≡_};
 ghost use Prim.Native.Nat.{ℕ, _+_, _-_, _*_, _/_, _≤_, _<_};
 ghost use lib.Dec.{leb};
 ghost use lib.ListN.{getD};
-ghost use Rattle.lines.specs.Demand.{due};
-ghost use Rattle.lines.specs.Ask.{endsBefore, bound};
+ghost use Rattle.line.specs.Demand.{due};
+ghost use Rattle.line.specs.Ends.{endsBefore, bound};
 ghost use Rattle.demand.specs.Lines.{sumTo, Packed, PackedIn};
 ghost use Rattle.demand.specs.Pass.{demandTo, lastTo, passBy, passIn, FitNew};
 

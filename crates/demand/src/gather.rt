@@ -1,6 +1,6 @@
 // The running lines at their T', gathered once: in the order of the slots, and counted from the clock.
 ghost use mathlib.Core.Path.{_≡_};
-ghost use Rattle.lines.specs.Grounds.{asked};
+ghost use Rattle.table.specs.Grounds.{asked};
 ghost use Rattle.demand.specs.Lines.{linesOf, linesIn, PackedIn, AllFine};
 
 // R9: line k, for k below `count`: its first end, counted from the clock; what remains of its need, its need, its T'.
@@ -14,7 +14,7 @@ pub struct Gathered {
 
 // R6: a slot that runs no line is passed over, and its entry with it.
 // The arrays are written where they stand: a function that hands them on by value would copy all four for every slot.
-pub(crate) fn gather(t: lines::Table, q: lines::Request) -> Gathered
+pub(crate) fn gather(t: table::Table, q: table::Request) -> Gathered
     requires { ⌜ AllFine t q ⌝ }
     ensures { λ g. ⌜ (linesOf g ≡ linesIn (asked t q)) × PackedIn g ⌝ }
 {
@@ -33,15 +33,15 @@ pub(crate) fn gather(t: lines::Table, q: lines::Request) -> Gathered
         let h = s.held;
         let at = g.count;
         match h {
-            lines::Held::Nothing => {}
-            lines::Held::Running(r) => {
+            line::Held::Nothing => {}
+            line::Held::Running(r) => {
                 g.end[at] = (p - r.age) as u32;
                 g.remaining[at] = r.remaining as u32;
                 g.need[at] = r.need as u32;
                 g.period[at] = p as u32;
                 g.count = at + 1;
             }
-            lines::Held::Waiting(_) => {}
+            line::Held::Waiting(_) => {}
         }
         i = i + 1;
     }

@@ -7,10 +7,13 @@ ghost use mathlib.Core.Path.{_≡_};
 ghost use Prim.Native.Nat.{_-_, _^_, _≤_};
 ghost use lib.Dec.{leb};
 ghost use lib.ListN.{length};
-ghost use Rattle.lines.specs.declared.Answer.the-variants.{Refused};
-ghost use Rattle.lines.specs.Slots.{at, both, lowest, slotOf, refusal};
-ghost use Rattle.lines.specs.Grounds.{entry, asked, frame};
-ghost use Rattle.lines.specs.Ask.{shrunk, loadOf, askOf};
+ghost use Rattle.table.specs.declared.Answer.the-variants.{Refused};
+ghost use Rattle.line.specs.Slots.{at, both, lowest};
+ghost use Rattle.table.specs.Words.{slotOf, refusal};
+ghost use Rattle.table.specs.Grounds.{entry, asked};
+ghost use Rattle.line.specs.Shares.{frame};
+ghost use Rattle.line.specs.Stretch.{shrunk};
+ghost use Rattle.table.specs.Ask.{loadOf, askOf};
 ghost use Rattle.demand.specs.Lines.{AllFine};
 ghost use Rattle.demand.specs.Pass.{Near};
 
@@ -21,26 +24,26 @@ const LATEST: u64 = 281_474_976_645_120;
 const LIMIT: u64 = 1_000_000;
 
 // R17: a refusal is made of its number and its place
-fn refused(number: u16, place: u64) -> lines::Answer
+fn refused(number: u16, place: u64) -> table::Answer
     ensures { λ r. ⌜ r ≡ Refused (refusal number place) ⌝ }
 {
-    lines::Answer::Refused(lines::Refusal::new(number, place))
+    table::Answer::Refused(table::Refusal::new(number, place))
 }
 
 // R25: a running line is asked to a shorter period than its own
-fn is_shrunk(s: lines::Slot, p: u16) -> bool
+fn is_shrunk(s: line::Slot, p: u16) -> bool
     ensures { λ r. ⌜ r ≡ shrunk p (s .held) ⌝ }
 {
     let h = s.held;
     match h {
-        lines::Held::Nothing => false,
-        lines::Held::Running(r) => p < r.period,
-        lines::Held::Waiting(_) => false,
+        line::Held::Nothing => false,
+        line::Held::Running(r) => p < r.period,
+        line::Held::Waiting(_) => false,
     }
 }
 
 // R25, R19: the lowest slot of a line that is asked to shrink
-fn lowest_shrunk(t: lines::Table, q: lines::Request) -> lines::Which
+fn lowest_shrunk(t: table::Table, q: table::Request) -> table::Which
     ensures { λ r. ⌜ slotOf r ≡ lowest (λ i. shrunk (entry q i) (at (t .slots) i)) (length (t .slots)) ⌝ }
 {
     let mut i: usize = 0;
@@ -48,11 +51,11 @@ fn lowest_shrunk(t: lines::Table, q: lines::Request) -> lines::Which
         let s = t.slots[i];
         let p = q.stretched[i];
         if is_shrunk(s, p) {
-            return lines::Which::At(i);
+            return table::Which::At(i);
         }
         i = i + 1;
     }
-    lines::Which::None
+    table::Which::None
 }
 
 // R26: the new line's need lies from 1 to its period
@@ -66,7 +69,7 @@ fn fits(need: u16, period: u16) -> bool
 }
 
 // R27, R28, R29: the frame and the two sums; then what the pass over the ends says.
-fn load(t: lines::Table, q: lines::Request) -> lines::Answer
+fn load(t: table::Table, q: table::Request) -> table::Answer
     requires { ⌜ AllFine t q × (1 ≤ q .need) × (q .need ≤ q .period) × (t .clock ≤ 2 ^ 48 - 65536) ⌝ }
     ensures { λ r. ⌜ (r ≡ loadOf (t .clock) (frame (asked t q) (q .period)) (asked t q) (q .need) (q .period)) × Near (t .clock) r ⌝ }
 {
@@ -88,31 +91,31 @@ fn load(t: lines::Table, q: lines::Request) -> lines::Answer
     if p.short {
         return refused(10, 0);
     }
-    lines::Answer::Start(t.clock + p.start as u64)
+    table::Answer::Start(t.clock + p.start as u64)
 }
 
 // R18, R41: the first ground that holds, or the start. R21 to R26 are tested here, the others in `load`.
-pub fn decide(t: lines::Table, q: lines::Request) -> lines::Answer
+pub fn decide(t: table::Table, q: table::Request) -> table::Answer
     ensures { λ r. ⌜ (r ≡ askOf t q) × Near (t .clock) r ⌝ }
 {
     if t.clock > LATEST {
         return refused(1, 0);
     }
     match t.lowest_empty() {
-        lines::Which::None => return refused(2, 0),
-        lines::Which::At(_) => {}
+        table::Which::None => return refused(2, 0),
+        table::Which::At(_) => {}
     }
     match t.lowest_waiting() {
-        lines::Which::At(k) => return refused(3, k as u64),
-        lines::Which::None => {}
+        table::Which::At(k) => return refused(3, k as u64),
+        table::Which::None => {}
     }
     match t.lowest_unsound() {
-        lines::Which::At(k) => return refused(4, k as u64),
-        lines::Which::None => {}
+        table::Which::At(k) => return refused(4, k as u64),
+        table::Which::None => {}
     }
     match lowest_shrunk(t, q) {
-        lines::Which::At(k) => return refused(5, k as u64),
-        lines::Which::None => {}
+        table::Which::At(k) => return refused(5, k as u64),
+        table::Which::None => {}
     }
     if !fits(q.need, q.period) {
         return refused(6, 0);

@@ -2,14 +2,14 @@
 use mathlib.Core.Path.{_≡_, refl, sym, ap, ap₂, _∙_}
 use mathlib.Core.Bool.{Bool, true, false, not}
 use lib.Dec.{T as Holds}
-use Rattle.lines.specs.declared.Table.{Table}
-use Rattle.lines.specs.declared.Refusal.{Refusal}
-use Rattle.lines.specs.declared.Outcome.{Outcome}
-use Rattle.lines.specs.declared.Outcome.the-variants.{Ran, Refused}
-use Rattle.lines.specs.declared.Stepped.{Stepped}
-use Rattle.lines.specs.Slots.{pick}
-use Rattle.lines.specs.Step.{stepOf}
-use Rattle.lines.proofs.Step.{refused-keeps}
+use Rattle.table.specs.declared.Table.{Table}
+use Rattle.table.specs.declared.Refusal.{Refusal}
+use Rattle.table.specs.declared.Outcome.{Outcome}
+use Rattle.table.specs.declared.Outcome.the-variants.{Ran, Refused}
+use Rattle.table.specs.declared.Stepped.{Stepped}
+use Rattle.line.specs.Slots.{pick}
+use Rattle.table.specs.Step.{stepOf}
+use Rattle.table.proofs.Step.{refused-keeps}
 use Rattle.driver.specs.Driven.{hasRun, drivenOf}
 
 -- the branch of the code, both ways: z is what it tested, of the step s

@@ -1,10 +1,10 @@
 -- The pump driver (R51): what it holds after a step of the table that it held.
 use mathlib.Core.Bool.{Bool, true, false}
-use Rattle.lines.specs.declared.Table.{Table}
-use Rattle.lines.specs.declared.Outcome.{Outcome}
-use Rattle.lines.specs.declared.Outcome.the-variants.{Ran, Refused}
-use Rattle.lines.specs.Slots.{pick}
-use Rattle.lines.specs.Step.{stepOf}
+use Rattle.table.specs.declared.Table.{Table}
+use Rattle.table.specs.declared.Outcome.{Outcome}
+use Rattle.table.specs.declared.Outcome.the-variants.{Ran, Refused}
+use Rattle.line.specs.Slots.{pick}
+use Rattle.table.specs.Step.{stepOf}
 
 -- R48: the step was not refused
 abbrev pub hasRun : Outcome → Bool

@@ -1,10 +1,10 @@
 // The pump driver (R51): one table, lent to be stepped.
 ghost use mathlib.Core.Path.{_≡_};
-ghost use Rattle.lines.specs.Step.{stepOf};
+ghost use Rattle.table.specs.Step.{stepOf};
 ghost use Rattle.driver.specs.Driven.{hasRun, drivenOf};
-use lines::Outcome;
-use lines::Stepped;
-use lines::Table;
+use table::Outcome;
+use table::Stepped;
+use table::Table;
 
 // R48: the step was not refused
 fn has_run(o: Outcome) -> bool

@@ -4,15 +4,18 @@ use mathlib.Core.List.{List, [], _∷_}
 use Prim.Native.Nat.{ℕ}
 use lib.IntN.{pos}
 use Rattle.periods.specs.Multiples.{euclid, gcdOf, lcmOf, frameFrom}
-use Rattle.lines.specs.declared.Answer.{Answer}
-use Rattle.lines.specs.declared.Answer.the-variants.{Start}
-use Rattle.lines.specs.Slots.{total, lowest, gives}
-use Rattle.lines.specs.Demand.{due, lastEnd}
-use Rattle.lines.specs.Grounds.{stretched, periodsIn}
-use Rattle.lines.specs.Ask.{says, every, endsBefore, endsOf, slack, bound, greatest, anyOf, start, loadOf, askOf}
-use Rattle.lines.specs.Admit.{admitOf}
-use Rattle.lines.specs.Step.{chosen, advance, stepOf}
-use Rattle.lines.specs.Cases.{caseA}
+use Rattle.table.specs.declared.Answer.{Answer}
+use Rattle.table.specs.declared.Answer.the-variants.{Start}
+use Rattle.line.specs.Slots.{total, lowest}
+use Rattle.table.specs.Words.{gives}
+use Rattle.line.specs.Demand.{due, lastEnd}
+use Rattle.line.specs.Stretch.{stretched}
+use Rattle.line.specs.Shares.{periodsIn}
+use Rattle.table.specs.Ask.{says, loadOf, askOf}
+use Rattle.line.specs.Ends.{every, endsBefore, endsOf, slack, bound, greatest, anyOf, start}
+use Rattle.table.specs.Admit.{admitOf}
+use Rattle.table.specs.Step.{chosen, advance, stepOf}
+use Rattle.table.specs.Cases.{caseA}
 use Rattle.card.specs.Card.{cardOf, carrying}
 use Rattle.card.specs.Reading.{readOf}
 use Rattle.card.proofs.CaseA.{case-A-written, case-A-read}

@@ -5,14 +5,17 @@ use mathlib.Core.List.{List, [], _∷_, map}
 use mathlib.Core.Option.{none, some}
 use lib.IntN.{pos, negsuc}
 use Rattle.periods.specs.Multiples.{euclid, gcdOf, lcmOf, frameFrom}
-use Rattle.lines.specs.declared.Table.{Table}
-use Rattle.lines.specs.declared.Answer.the-variants.{Start, Refused}
-use Rattle.lines.specs.Slots.{total, lowest, refusal, gives, refuses}
-use Rattle.lines.specs.Demand.{due, lastEnd}
-use Rattle.lines.specs.Grounds.{stretched, periodsIn}
-use Rattle.lines.specs.Ask.{every, endsBefore, endsOf, slack, bound, greatest, anyOf, start, loadOf, askOf}
-use Rattle.lines.specs.Step.{chosen, advance, stepOf}
-use Rattle.lines.specs.Cases.{running, tableOf}
+use Rattle.table.specs.declared.Table.{Table}
+use Rattle.table.specs.declared.Answer.the-variants.{Start, Refused}
+use Rattle.line.specs.Slots.{total, lowest}
+use Rattle.table.specs.Words.{refusal, gives, refuses}
+use Rattle.line.specs.Demand.{due, lastEnd}
+use Rattle.line.specs.Stretch.{stretched}
+use Rattle.line.specs.Shares.{periodsIn}
+use Rattle.line.specs.Ends.{every, endsBefore, endsOf, slack, bound, greatest, anyOf, start}
+use Rattle.table.specs.Ask.{loadOf, askOf}
+use Rattle.table.specs.Step.{chosen, advance, stepOf}
+use Rattle.table.specs.Cases.{running, tableOf}
 use Rattle.card.specs.Bytes.{marked}
 use Rattle.card.specs.Reading.{recordOf, recordsOf, readWith}
 use Rattle.house.specs.House.{answerOf, numberOf, saidPut, putOf, rewriteOf, rewrittenOf, counted, ranIn, runAdmitted, runOf}

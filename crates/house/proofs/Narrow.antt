@@ -7,9 +7,10 @@ use Prim.Native.Nat.{ℕ, _≤_}
 use native.Mathlib.Omega.{arith}
 use lib.ListN.{length}
 use lib.Dec.{leb}
-use Rattle.lines.specs.declared.Table.{Table}
-use Rattle.lines.specs.declared.Request.{Request}
-use Rattle.lines.specs.Slots.{pick, isWaiting, lowestOf, refusal, gives, refuses}
+use Rattle.table.specs.declared.Table.{Table}
+use Rattle.table.specs.declared.Request.{Request}
+use Rattle.line.specs.Slots.{pick, isWaiting, lowestOf}
+use Rattle.table.specs.Words.{refusal, gives, refuses}
 use Rattle.card.specs.Card.{cardOf}
 use Rattle.card.specs.Answers.{lengthOf, unlessWaiting, writeOf}
 use Rattle.card.proofs.Length.{longest-card}

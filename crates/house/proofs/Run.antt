@@ -2,14 +2,14 @@
 use mathlib.Core.Path.{_≡_, refl, sym, ap, _∙_}
 use Prim.Native.Nat.{ℕ, suc, _+_, _-_, _≤_, _<_}
 use native.Mathlib.Omega.{arith}
-use Rattle.lines.specs.declared.Table.{Table}
-use Rattle.lines.specs.declared.Refusal.{Refusal}
-use Rattle.lines.specs.declared.Which.{Which}
-use Rattle.lines.specs.declared.Outcome.{Outcome}
-use Rattle.lines.specs.declared.Outcome.the-variants.{Ran, Refused}
-use Rattle.lines.specs.declared.Stepped.{Stepped}
-use Rattle.lines.specs.Slots.{slotOf, Said, gives, refuses}
-use Rattle.lines.specs.Step.{saysRan, stepOf}
+use Rattle.table.specs.declared.Table.{Table}
+use Rattle.table.specs.declared.Refusal.{Refusal}
+use Rattle.table.specs.declared.Which.{Which}
+use Rattle.table.specs.declared.Outcome.{Outcome}
+use Rattle.table.specs.declared.Outcome.the-variants.{Ran, Refused}
+use Rattle.table.specs.declared.Stepped.{Stepped}
+use Rattle.table.specs.Words.{slotOf, Said, gives, refuses}
+use Rattle.table.specs.Step.{saysRan, stepOf}
 use Rattle.house.specs.House.{counted, more, andThen, ranIn}
 
 more-more : (a b : ℕ) (s : Said ℕ) → more (a + b) s ≡ more a (more b s)

@@ -2,8 +2,8 @@
 use mathlib.Core.Path.{_≡_, sym, ap, _∙_}
 use mathlib.Core.List.{List}
 use Prim.Native.Nat.{ℕ}
-use Rattle.lines.specs.declared.Refusal.{Refusal}
-use Rattle.lines.specs.Slots.{gives, refuses}
+use Rattle.table.specs.declared.Refusal.{Refusal}
+use Rattle.table.specs.Words.{gives, refuses}
 use Rattle.card.specs.declared.CardAnswer.the-variants.{Read, Refused}
 use Rattle.card.specs.declared.ReadCard.{ReadCard}
 use Rattle.card.specs.Card.{carrying}

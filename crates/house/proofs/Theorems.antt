@@ -7,7 +7,7 @@ use lib.IntN.{pos, negsuc}
 use lib.ListN.{length, take, drop}
 use lib.Dec.{leb}
 use borrow.Author.Tests.{le-leb, lt-leb}
-use Rattle.lines.specs.Slots.{Said, gives}
+use Rattle.table.specs.Words.{Said, gives}
 use Rattle.card.specs.Bytes.{Bytes}
 use Rattle.card.specs.Card.{Card}
 use Rattle.card.specs.Reading.{readOf}

@@ -4,10 +4,10 @@ use native.Mathlib.Omega.{arith}
 use denote.Laws.{Is}
 use denote.Enum.Declared as declared
 use mir.Val.{Val}
-use Rattle.lines.specs.declared.Answer.{Answer}
-use Rattle.lines.specs.declared.Answer.the-variants.{Start, Refused}
-use Rattle.lines.proofs.Answer as answer
-use Rattle.lines.specs.Ask.{says}
+use Rattle.table.specs.declared.Answer.{Answer}
+use Rattle.table.specs.declared.Answer.the-variants.{Start, Refused}
+use Rattle.table.proofs.Answer as answer
+use Rattle.table.specs.Ask.{says}
 use Rattle.reply.specs.Line.{Wide}
 
 pub wide : (a : Answer) (l : List Val) → Is (declared.row answer.the-type) a l → Wide (says a)

@@ -3,14 +3,14 @@ use Prim.Native.Nat.{ℕ, zero, suc, _+_, _^_, _<_}
 use mathlib.Core.List.{List}
 use mathlib.Core.Option.{Option, none, some}
 use lib.IntN.{ℤ, pos, negℤ}
-use Rattle.lines.specs.declared.Table.{Table}
-use Rattle.lines.specs.declared.Answer.{Answer}
-use Rattle.lines.specs.declared.Answer.the-variants.{Refused}
-use Rattle.lines.specs.declared.Admitted.{Admitted}
-use Rattle.lines.specs.Slots.{refusal, Said, gives, refuses}
-use Rattle.lines.specs.Ask.{says, askOf}
-use Rattle.lines.specs.Admit.{admitOf}
-use Rattle.lines.specs.Step.{saysRan, stepOf}
+use Rattle.table.specs.declared.Table.{Table}
+use Rattle.table.specs.declared.Answer.{Answer}
+use Rattle.table.specs.declared.Answer.the-variants.{Refused}
+use Rattle.table.specs.declared.Admitted.{Admitted}
+use Rattle.table.specs.Words.{refusal, Said, gives, refuses}
+use Rattle.table.specs.Ask.{says, askOf}
+use Rattle.table.specs.Admit.{admitOf}
+use Rattle.table.specs.Step.{saysRan, stepOf}
 use Rattle.card.specs.Card.{Card}
 use Rattle.card.specs.Reading.{readOf}
 use Rattle.card.specs.Answers.{writeOf, bufferOf}

@@ -2,21 +2,21 @@
 ghost use mathlib.Core.Path.{_≡_};
 ghost use Prim.Native.Nat.{_≤_};
 ghost use lib.ListN.{length};
-ghost use Rattle.lines.specs.Slots.{slotOf};
-ghost use Rattle.lines.specs.Ask.{says};
-ghost use Rattle.lines.specs.Admit.{admitOf};
+ghost use Rattle.table.specs.Words.{slotOf};
+ghost use Rattle.table.specs.Ask.{says};
+ghost use Rattle.table.specs.Admit.{admitOf};
 ghost use Rattle.card.specs.Answers.{saidWritten, writeOf, bufferOf};
 ghost use Rattle.reply.specs.Line.{lineOf, lengthOf, heldAfter};
 ghost use Rattle.house.specs.House.{answerOf, lineFor, saidTold, numberOf, Narrow, saidPut, putOf, rewriteOf, rewrittenOf, counted, ranIn, runAdmitted, runOf};
 use card::CardAnswer;
 use card::WriteAnswer;
-use lines::Answer;
-use lines::Outcome;
-use lines::Refusal;
-use lines::Request;
-use lines::Table;
-use lines::Which;
 use reply::Written;
+use table::Answer;
+use table::Outcome;
+use table::Refusal;
+use table::Request;
+use table::Table;
+use table::Which;
 
 // R63: what stands behind the number that a caller gets: a length or a count, or a refusal.
 enum Told {

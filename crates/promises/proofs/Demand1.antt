@@ -7,22 +7,23 @@ use Prim.Native.Nat.{ℕ}
 use native.Mathlib.Omega.{arith}
 use lib.IntN.{negsuc}
 use lib.ListN.{length}
-use Rattle.lines.specs.declared.Table.{Table}
-use Rattle.lines.specs.declared.Request.{Request}
-use Rattle.lines.specs.declared.Refusal.{Refusal}
-use Rattle.lines.specs.declared.Answer.{Answer}
-use Rattle.lines.specs.declared.Answer.the-variants.{Start, Refused}
-use Rattle.lines.specs.declared.Admitted.{Admitted}
-use Rattle.lines.specs.declared.Stepped.{Stepped}
-use Rattle.lines.specs.declared.Outcome as outcome
-use Rattle.lines.specs.declared.Outcome.{Outcome}
-use Rattle.lines.specs.Slots.{pick, Said, gives, refuses}
-use Rattle.lines.specs.Grounds.{grounds, FirstOf, Answers}
-use Rattle.lines.specs.Ask.{says, askOf}
-use Rattle.lines.specs.Admit.{admitWith, admitOf}
-use Rattle.lines.specs.Step.{saysRan, stepOf}
-use Rattle.lines.proofs.Step.{refused-keeps}
-use Rattle.lines.proofs.Word.{word-unique}
+use Rattle.table.specs.declared.Table.{Table}
+use Rattle.table.specs.declared.Request.{Request}
+use Rattle.table.specs.declared.Refusal.{Refusal}
+use Rattle.table.specs.declared.Answer.{Answer}
+use Rattle.table.specs.declared.Answer.the-variants.{Start, Refused}
+use Rattle.table.specs.declared.Admitted.{Admitted}
+use Rattle.table.specs.declared.Stepped.{Stepped}
+use Rattle.table.specs.declared.Outcome as outcome
+use Rattle.table.specs.declared.Outcome.{Outcome}
+use Rattle.line.specs.Slots.{pick}
+use Rattle.table.specs.Words.{Said, gives, refuses}
+use Rattle.table.specs.Grounds.{grounds, FirstOf, Answers}
+use Rattle.table.specs.Ask.{says, askOf}
+use Rattle.table.specs.Admit.{admitWith, admitOf}
+use Rattle.table.specs.Step.{saysRan, stepOf}
+use Rattle.table.proofs.Step.{refused-keeps}
+use Rattle.board.proofs.Word.{word-unique}
 use Rattle.theory.proofs.Answers.{ask-answers}
 use Rattle.theory.proofs.Unique.{answers-unique}
 use Rattle.ask.proofs.Right.{asked-unique, admits-unique}

@@ -5,12 +5,12 @@ use mathlib.Core.List.{List, [], _∷_}
 use Prim.Native.Nat.{ℕ}
 use borrow.Author.Tests.{le-leb}
 use lib.ListN.{length}
-use Rattle.lines.specs.declared.Table.{Table}
-use Rattle.lines.specs.declared.Request.{Request}
-use Rattle.lines.specs.declared.Refusal.{Refusal}
-use Rattle.lines.specs.Slots.{Said, gives, refuses}
-use Rattle.lines.specs.Grounds.{Row, grounds, FirstOf, NoneOf, Answers}
-use Rattle.lines.specs.Ask.{says}
+use Rattle.table.specs.declared.Table.{Table}
+use Rattle.table.specs.declared.Request.{Request}
+use Rattle.table.specs.declared.Refusal.{Refusal}
+use Rattle.table.specs.Words.{Said, gives, refuses}
+use Rattle.table.specs.Grounds.{Row, grounds, FirstOf, NoneOf, Answers}
+use Rattle.table.specs.Ask.{says}
 use Rattle.card.proofs.Written.{written-reads}
 use Rattle.card.proofs.Rewritten.{write-is, buffer-is}
 use Rattle.promises.specs.Demand2.{LeastStart, SomeOf, ExactlyRefused, WrittenReadsBack, ReadWritesBack, Demand2}

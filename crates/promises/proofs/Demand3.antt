@@ -4,14 +4,15 @@ use mathlib.Core.List.{List}
 use Prim.Native.Nat.{ℕ, _+_, _-_, _^_, _≤_, _<_}
 use native.Mathlib.Omega.{arith}
 use lib.ListN.{length}
-use Rattle.lines.specs.declared.Table.{Table}
-use Rattle.lines.specs.declared.Request.{Request}
-use Rattle.lines.specs.declared.Stepped.{Stepped}
-use Rattle.lines.specs.Slots.{emptyTable, at, slotOf, refusal, gives, refuses}
-use Rattle.lines.specs.Ask.{says, askOf}
-use Rattle.lines.specs.Admit.{newLine, admitWith}
-use Rattle.lines.specs.Step.{saysRan, whichOf, stepOf, choose}
-use Rattle.lines.specs.Runs.{Act, admitting, run}
+use Rattle.table.specs.declared.Table.{Table}
+use Rattle.table.specs.declared.Request.{Request}
+use Rattle.table.specs.declared.Stepped.{Stepped}
+use Rattle.table.specs.Words.{emptyTable, slotOf, refusal, gives, refuses, whichOf}
+use Rattle.line.specs.Slots.{at}
+use Rattle.table.specs.Ask.{says, askOf}
+use Rattle.table.specs.Admit.{newLine, admitWith}
+use Rattle.table.specs.Step.{saysRan, stepOf, choose}
+use Rattle.table.specs.Runs.{Act, admitting, run}
 use Rattle.theory.proofs.Numbers.{split}
 use Rattle.theory.proofs.Start.{least-by-last}
 use Rattle.theory.proofs.Granted.{says-start, granted}

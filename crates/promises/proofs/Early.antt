@@ -8,23 +8,28 @@ use native.Mathlib.Nat.{not-suc-le-zero}
 use native.Mathlib.Numerals.{add-one}
 use native.Mathlib.Omega.{arith}
 use borrow.Author.Tests.{lt-leb}
-use Rattle.lines.specs.declared.Held.{Held}
-use Rattle.lines.specs.declared.Held.the-variants.{Nothing, Running, Waiting}
-use Rattle.lines.specs.declared.Slot.{Slot}
-use Rattle.lines.specs.declared.Table.{Table}
-use Rattle.lines.specs.declared.Request.{Request}
-use Rattle.lines.specs.declared.Stepped.{Stepped}
-use Rattle.lines.specs.Slots.{at, Each, lowestOf, slotOf, refusal, gives, refuses}
-use Rattle.lines.specs.Sound.{Sound}
-use Rattle.lines.specs.Demand.{demands, newDemand, endOf, lastEnd, Smooth}
-use Rattle.lines.specs.Grounds.{entry, stretch, stretched, asked, frame}
-use Rattle.lines.specs.Ask.{says, askOf}
-use Rattle.lines.specs.Admit.{newLine, admittedAt}
-use Rattle.lines.specs.Step.{saysRan, whichOf, short, choose, serve, refusedStep, advance, stepOf}
+use Rattle.line.specs.declared.Held.{Held}
+use Rattle.line.specs.declared.Held.the-variants.{Nothing, Running, Waiting}
+use Rattle.line.specs.declared.Slot.{Slot}
+use Rattle.table.specs.declared.Table.{Table}
+use Rattle.table.specs.declared.Request.{Request}
+use Rattle.table.specs.declared.Stepped.{Stepped}
+use Rattle.line.specs.Slots.{at, Each, lowestOf}
+use Rattle.table.specs.Words.{slotOf, refusal, gives, refuses, whichOf}
+use Rattle.line.specs.Sound.{Sound}
+use Rattle.line.specs.Demand.{demands, newDemand, endOf, lastEnd, Smooth}
+use Rattle.table.specs.Grounds.{entry, asked}
+use Rattle.line.specs.Stretch.{stretch, stretched}
+use Rattle.line.specs.Shares.{frame}
+use Rattle.table.specs.Ask.{says, askOf}
+use Rattle.table.specs.Admit.{newLine, admittedAt}
+use Rattle.table.specs.Step.{saysRan, choose, serve, refusedStep, advance, stepOf}
+use Rattle.table.proofs.Step.{slot-of-which}
+use Rattle.line.specs.Tick.{short}
 use Rattle.theory.specs.Fine.{wantedAll, May, Kept, ticked}
 use Rattle.theory.specs.Given.{Granted}
 use Rattle.theory.proofs.Numbers.{split}
-use Rattle.theory.proofs.Tail.{tail}
+use Rattle.theory.proofs.Tail.{no-excess-from-last-end}
 use Rattle.theory.proofs.Granted.{says-start, granted}
 use Rattle.theory.proofs.Stretched.{running-stretched}
 use Rattle.theory.proofs.Pump.{sound-serve, sound-pass, earliest-may, wantedAll-now, excess-kept}
@@ -44,10 +49,6 @@ short-step : (t : Table) (i : ℕ) → Each Sound (t .slots) → t .clock < 2 ^ 
     → stepOf t ≡ refusedStep t 14 i
 unfolding advance
 short-step t i s h e = sound-step t s h ∙ rw e
-
-named : (o : Option ℕ) → slotOf (whichOf o) ≡ o
-named none = refl
-named (some k) = refl
 
 -- R77: n ticks ahead there is excess: a step before that reports 14
 pub runs-short : (n last : ℕ) (t : Table) → Each Sound (t .slots) → t .clock + n < last → last ≤ 2 ^ 48
@@ -73,7 +74,7 @@ runs-short (suc n) last t s b l x = go (lowestOf short (serve o (t .slots))) ref
     }
       where
         goes : (m : ℕ) → m < suc (w .steps) → (p : Option ℕ) × (saysRan (stepOf (stepped m t) .outcome) ≡ gives p)
-        goes zero h = (o, ap (λ (s : Stepped). saysRan (s .outcome)) e ∙ ap gives (named o))
+        goes zero h = (o, ap (λ (s : Stepped). saysRan (s .outcome)) e ∙ ap gives (slot-of-which o))
         goes (suc m) h =
             subst (λ (s : Stepped). (p : Option ℕ) × (saysRan (stepOf (stepped m (s .table)) .outcome) ≡ gives p)) (sym e) (w .goes m (omega arith))
 
@@ -132,13 +133,14 @@ early-excess t q r r' g late less =
       from-clock = late;
       no-excess = λ x h.
           split last x
-          (λ b. omega (arith, tail (frame l (q .period)) t0 l (q .need) (q .period) r' (g .given) late x b))
+          (λ b. omega (arith, no-excess-from-last-end (frame l (q .period)) t0 l (q .need) (q .period) r' (g .given) late x b))
           (λ b. let z : t0 + (x - t0) ≡ x = omega arith in omega (arith, rw z at (a (x - t0) (omega arith))));
     } in
     absurd (omega (arith, g .least .least r' s)))
     (λ w. (w .0, omega (arith, w .1), w .2))
     (search-excess f (last - t0))
 
+-- R77: admitted at any start from the clock on and before the one answered, some period is missed before the last end
 pub no-earlier : (t : Table) (q : Request) (r r' : ℕ) → Sixteen q → says (askOf t q) ≡ gives r → t .clock ≤ r' → r' < r
     → Misses (admittedAt t q r') (lastEnd (t .clock) (asked t q))
 no-earlier t q r r' six e late less =

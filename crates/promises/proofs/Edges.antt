@@ -7,15 +7,17 @@ use native.Mathlib.Omega.{arith}
 use native.Mathlib.Nat.{not-suc-le-zero}
 use lib.ListN.{take, drop, replicate}
 use Rattle.periods.specs.Multiples.{euclid, gcdOf, lcmOf, frameFrom}
-use Rattle.lines.specs.declared.Table.{Table}
-use Rattle.lines.specs.declared.Request.{Request}
-use Rattle.lines.specs.Slots.{total, lowest}
-use Rattle.lines.specs.Demand.{due, lastEnd}
-use Rattle.lines.specs.Grounds.{stretched, periodsIn}
-use Rattle.lines.specs.Ask.{every, endsBefore, endsOf, slack, bound, greatest, anyOf, start, loadOf, askOf}
-use Rattle.lines.specs.Step.{chosen, advance, stepOf}
-use Rattle.lines.specs.Runs.{Act, asking, admitting, stepping, run, trace, times}
-use Rattle.lines.specs.Cases.{running, tableOf, caseA}
+use Rattle.table.specs.declared.Table.{Table}
+use Rattle.table.specs.declared.Request.{Request}
+use Rattle.line.specs.Slots.{total, lowest}
+use Rattle.line.specs.Demand.{due, lastEnd}
+use Rattle.line.specs.Stretch.{stretched}
+use Rattle.line.specs.Shares.{periodsIn}
+use Rattle.line.specs.Ends.{every, endsBefore, endsOf, slack, bound, greatest, anyOf, start}
+use Rattle.table.specs.Ask.{loadOf, askOf}
+use Rattle.table.specs.Step.{chosen, advance, stepOf}
+use Rattle.table.specs.Runs.{Act, asking, admitting, stepping, run, trace, times}
+use Rattle.table.specs.Cases.{running, tableOf, caseA}
 use Rattle.promises.specs.Demand3.{admitted-table, Unstretched, Misses, Sixteen}
 use Rattle.promises.specs.Example.{toCaseA, onFromCaseA}
 use Rattle.promises.proofs.Demand3.{has-all-its-need}

@@ -4,14 +4,17 @@ use mathlib.Core.Path.{_≡_, refl}
 use native.Mathlib.Omega.{arith}
 use lib.ListN.{getD, replicate}
 use Rattle.periods.specs.Multiples.{euclid, gcdOf, lcmOf, frameFrom}
-use Rattle.lines.specs.Slots.{emptyTable, total, lowest}
-use Rattle.lines.specs.Demand.{due, lastEnd}
-use Rattle.lines.specs.Grounds.{stretched, periodsIn}
-use Rattle.lines.specs.Ask.{every, endsBefore, endsOf, slack, bound, greatest, anyOf, start, loadOf, askOf}
-use Rattle.lines.specs.Admit.{admittedAt}
-use Rattle.lines.specs.Step.{chosen, advance, stepOf}
-use Rattle.lines.specs.Runs.{run}
-use Rattle.lines.specs.Cases.{caseA}
+use Rattle.table.specs.Words.{emptyTable}
+use Rattle.line.specs.Slots.{total, lowest}
+use Rattle.line.specs.Demand.{due, lastEnd}
+use Rattle.line.specs.Stretch.{stretched}
+use Rattle.line.specs.Shares.{periodsIn}
+use Rattle.line.specs.Ends.{every, endsBefore, endsOf, slack, bound, greatest, anyOf, start}
+use Rattle.table.specs.Ask.{loadOf, askOf}
+use Rattle.table.specs.Admit.{admittedAt}
+use Rattle.table.specs.Step.{chosen, advance, stepOf}
+use Rattle.table.specs.Runs.{run}
+use Rattle.table.specs.Cases.{caseA}
 use Rattle.promises.specs.Demand3.{Admission, admitted-table, Unstretched, Sixteen, Misses}
 use Rattle.promises.specs.Example.{toCaseA, onFromCaseA}
 use Rattle.promises.proofs.Demand3.{no-earlier-start}

@@ -4,19 +4,20 @@ use mathlib.Core.Path.{_≡_, refl, sym, ap, _∙_}
 use mathlib.Core.List.{List}
 use native.Mathlib.Omega.{arith}
 use lib.ListN.{getD, replicate}
-use Rattle.lines.specs.declared.Held.{Held}
-use Rattle.lines.specs.declared.Held.the-variants.{Nothing, Running, Waiting}
-use Rattle.lines.specs.declared.Table.{Table}
-use Rattle.lines.specs.declared.Request.{Request}
-use Rattle.lines.specs.declared.Answer.{Answer}
-use Rattle.lines.specs.declared.Stepped.{Stepped}
-use Rattle.lines.specs.Slots.{emptyTable, at, lowest, Said, gives}
-use Rattle.lines.specs.Grounds.{asked, Answers}
-use Rattle.lines.specs.Ask.{says}
-use Rattle.lines.specs.Step.{chosen, advance, stepOf}
-use Rattle.lines.specs.Cases.{Case, cases, caseA, caseB, caseC, caseD, caseM}
-use Rattle.lines.specs.Faults.{closedStart, floorStart, QuietAtEnds}
-use Rattle.lines.proofs.Faults.{closed-formula-B, floor-D, only-ends-M}
+use Rattle.line.specs.declared.Held.{Held}
+use Rattle.line.specs.declared.Held.the-variants.{Nothing, Running, Waiting}
+use Rattle.table.specs.declared.Table.{Table}
+use Rattle.table.specs.declared.Request.{Request}
+use Rattle.table.specs.declared.Answer.{Answer}
+use Rattle.table.specs.declared.Stepped.{Stepped}
+use Rattle.table.specs.Words.{emptyTable, Said, gives}
+use Rattle.line.specs.Slots.{at, lowest}
+use Rattle.table.specs.Grounds.{asked, Answers}
+use Rattle.table.specs.Ask.{says}
+use Rattle.table.specs.Step.{chosen, advance, stepOf}
+use Rattle.table.specs.Cases.{Case, cases, caseA, caseB, caseC, caseD, caseM}
+use Rattle.table.specs.Faults.{closedStart, floorStart, QuietAtEnds}
+use Rattle.table.proofs.Faults.{closed-formula-B, floor-D, only-ends-M}
 use Rattle.card.specs.declared.ReadCard.{ReadCard}
 use Rattle.card.specs.Bytes.{marked}
 use Rattle.card.specs.Card.{Card, cardOf, carrying}

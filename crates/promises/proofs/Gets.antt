@@ -6,13 +6,16 @@ use Prim.Native.Nat.{ℕ, zero, suc, _+_, _-_, _^_, _≤_, _<_}
 use native.Mathlib.Omega.{arith}
 use borrow.Author.Tests.{lt-ltb}
 use lib.ListN.{length, take, drop}
-use Rattle.lines.specs.declared.Table.{Table}
-use Rattle.lines.specs.declared.Request.{Request}
-use Rattle.lines.specs.declared.Stepped.{Stepped}
-use Rattle.lines.specs.Slots.{at, slotOf}
-use Rattle.lines.specs.Admit.{fresh, newLine}
-use Rattle.lines.specs.Step.{whichOf, Owed, choose, serve, passed, pass, stepOf}
-use Rattle.lines.specs.Runs.{Act, asking, admitting, stepping, after, run, ranIn, trace, isSlot, times}
+use Rattle.table.specs.declared.Table.{Table}
+use Rattle.table.specs.declared.Request.{Request}
+use Rattle.table.specs.declared.Stepped.{Stepped}
+use Rattle.line.specs.Slots.{at}
+use Rattle.table.specs.Words.{slotOf, whichOf}
+use Rattle.line.specs.Tick.{fresh, Owed, passed}
+use Rattle.table.specs.Admit.{newLine}
+use Rattle.table.specs.Step.{choose, serve, pass, stepOf}
+use Rattle.table.specs.Runs.{Act, asking, admitting, stepping, after, run, ranIn, trace, isSlot, times}
+use Rattle.table.proofs.Step.{slot-of-which}
 use Rattle.theory.specs.Fine.{line, May, Kept, ticked}
 use Rattle.theory.proofs.Numbers.{split}
 use Rattle.theory.proofs.Pump.{never-short, earliest-may}
@@ -22,13 +25,10 @@ use Rattle.promises.specs.Demand3.{Unstretched}
 use Rattle.promises.proofs.Good.{Good, at-last, good-after}
 use Rattle.promises.proofs.Kept.{admit-clock, admit-length, admit-running, admit-kept, admit-waiting, step-table, clock-after}
 
+-- a run never sets the clock back
 pub clock-run : (more : List Act) (t : Table) → Good t → t .clock ≤ run more t .clock
 clock-run [] t g = omega arith
 clock-run (a ∷ rest) t g = omega (arith, clock-after a t g, clock-run rest (after a t) (good-after a t g))
-
-named : (o : Option ℕ) → slotOf (whichOf o) ≡ o
-named none = refl
-named (some k) = refl
 
 -- the choice serves nobody who is not owed
 choice-may : (t : Table) → May (choose (t .slots)) (t .slots)
@@ -40,7 +40,7 @@ by-tick : (Q : Table → List (Option ℕ) → Type 0) (rest : List Act) (t : Ta
     → Q (stepOf t .table) (trace (stepping ∷ rest) t)
 by-tick Q rest t g h q =
     subst (λ (s : Stepped). Q (s .table) (ranIn (s .outcome) ++ trace rest (s .table))) (sym (step-table t g h))
-    (subst (λ (o : Option ℕ). Q (ticked (choose (t .slots)) t .table) (o ∷ trace rest (ticked (choose (t .slots)) t .table))) (sym (named (choose (t .slots)))) q)
+    (subst (λ (o : Option ℕ). Q (ticked (choose (t .slots)) t .table) (o ∷ trace rest (ticked (choose (t .slots)) t .table))) (sym (slot-of-which (choose (t .slots)))) q)
 
 -- what holds of the table and the rest of the run holds after a step at the last tick, which changes nothing
 by-last : (Q : Table → List (Option ℕ) → Type 0) (rest : List Act) (t : Table) → 2 ^ 48 ≤ t .clock

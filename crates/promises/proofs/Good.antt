@@ -6,33 +6,39 @@ use Prim.Native.Nat.{ℕ, _+_, _-_, _^_, _≤_, _<_}
 use native.Mathlib.Omega.{arith}
 use borrow.Author.Tests.{le-leb}
 use lib.ListN.{length}
-use Rattle.lines.specs.declared.Held.the-variants.{Nothing}
-use Rattle.lines.specs.declared.Table.{Table}
-use Rattle.lines.specs.declared.Request.{Request}
-use Rattle.lines.specs.declared.Answer.{Answer}
-use Rattle.lines.specs.declared.Answer.the-variants.{Start, Refused}
-use Rattle.lines.specs.declared.Stepped.{Stepped}
-use Rattle.lines.specs.Slots.{emptyTable, at, isNothing, lowestOf}
-use Rattle.lines.specs.Grounds.{entry, stretch, asked, frame}
-use Rattle.lines.specs.Ask.{askOf}
-use Rattle.lines.specs.Admit.{newLine, putAt, admittedAt, admitWith}
-use Rattle.lines.specs.Step.{refusedStep, stepOf}
-use Rattle.lines.specs.Runs.{Act, asking, admitting, stepping, after, run}
-use Rattle.lines.proofs.Search.{lowest-is}
+use Rattle.line.specs.declared.Held.the-variants.{Nothing}
+use Rattle.table.specs.declared.Table.{Table}
+use Rattle.table.specs.declared.Request.{Request}
+use Rattle.table.specs.declared.Answer.{Answer}
+use Rattle.table.specs.declared.Answer.the-variants.{Start, Refused}
+use Rattle.table.specs.declared.Stepped.{Stepped}
+use Rattle.table.specs.Words.{emptyTable}
+use Rattle.line.specs.Slots.{at, isNothing, lowestOf}
+use Rattle.table.specs.Grounds.{entry, asked}
+use Rattle.line.specs.Stretch.{stretch}
+use Rattle.line.specs.Shares.{frame}
+use Rattle.table.specs.Ask.{askOf}
+use Rattle.table.specs.Admit.{newLine, putAt, admittedAt, admitWith}
+use Rattle.table.specs.Step.{refusedStep, stepOf}
+use Rattle.table.specs.Runs.{Act, asking, admitting, stepping, after, run}
+use Rattle.line.proofs.Search.{lowest-is}
 use Rattle.theory.specs.Fine.{Fine}
 use Rattle.theory.specs.Given.{Granted}
 use Rattle.theory.proofs.Numbers.{split}
 use Rattle.theory.proofs.Tests.{nothing-says}
 use Rattle.theory.proofs.Granted.{granted}
-use Rattle.theory.proofs.Stretched.{length-stretched, at-stretched, running-stretched}
+use Rattle.line.proofs.Stretched.{length-stretched, at-stretched}
+use Rattle.theory.proofs.Stretched.{running-stretched}
 use Rattle.theory.proofs.Admitted.{admitted-fine, empty-fine}
 use Rattle.theory.proofs.Step.{fine-step, fine-stepped}
 
+-- R73: what every table that a run reaches has: it is fine for some common multiple, and its clock is no later than the last tick
 pub record Good (t : Table) : Type 0 where
   pub multiple : ℕ
   pub fine : Fine multiple (t .clock) (t .slots)
   pub clock-in : t .clock ≤ 2 ^ 48
 
+-- R4: the empty table is good
 pub good-empty : Good emptyTable
 good-empty = record { multiple = 1; fine = empty-fine 0 16; clock-in = omega arith }
 
@@ -46,10 +52,12 @@ slot-empty t q k e =
     let n = nothing-says (at (t .slots) k) (w .here) in
     (w .inside, n, rw (length-stretched (t .slots) (entry q)) (w .inside), at-stretched (t .slots) (entry q) k ∙ ap (stretch (entry q k)) n)
 
+-- R43: with an empty slot at k the new line stands there, beside the lines at their T'
 pub admitted-slots : (t : Table) (q : Request) (r k : ℕ) → lowestOf isNothing (t .slots) ≡ some k
     → admittedAt t q r .slots ≡ putAt (some k) (newLine (q .need) (q .period) (r - t .clock)) (asked t q)
 admitted-slots t q r k e = ap (λ (o : Option ℕ). putAt o (newLine (q .need) (q .period) (r - t .clock)) (asked t q)) e
 
+-- R42: a granted request makes a good table
 pub good-admitted : (t : Table) (q : Request) (r : ℕ) → Granted t q r → Good (admittedAt t q r)
 good-admitted t q r g =
     let e = slot-empty t q (g .slot) (g .lowest-empty) in
@@ -70,6 +78,7 @@ pub at-last : (t : Table) → 2 ^ 48 ≤ t .clock → stepOf t ≡ refusedStep t
 unfolding stepOf
 at-last t h = rw (le-leb (2 ^ 48) (t .clock) h)
 
+-- R73: every act keeps a table good
 pub good-after : (a : Act) (t : Table) → Good t → Good (after a t)
 good-after (asking q) t g = g
 good-after (admitting q) t g = go (askOf t q) refl
@@ -82,9 +91,11 @@ good-after stepping t g =
     (λ h. let e : stepOf t .table .clock ≡ t .clock + 1 = ap (λ (s : Stepped). s .table .clock) (fine-step t (g .fine) h) in
     record { multiple = g .multiple; fine = fine-stepped t (g .fine) h; clock-in = omega arith })
 
+-- R73: and so does every run
 pub good-run : (acts : List Act) (t : Table) → Good t → Good (run acts t)
 good-run [] t g = g
 good-run (a ∷ rest) t g = good-run rest (after a t) (good-after a t g)
 
+-- R73: so every table that a run reaches from the empty one is good
 pub good-reached : (acts : List Act) → Good (run acts emptyTable)
 good-reached acts = good-run acts emptyTable good-empty

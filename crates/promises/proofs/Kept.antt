@@ -7,25 +7,26 @@ use native.Mathlib.Omega.{arith}
 use borrow.Author.Tests.{lt-ltb}
 use lib.ListN.{length, length-set}
 use lib.Seq.{getD-set-same, getD-set-other}
-use Rattle.lines.specs.declared.Held.{Held}
-use Rattle.lines.specs.declared.Held.the-variants.{Nothing}
-use Rattle.lines.specs.declared.Slot.{Slot}
-use Rattle.lines.specs.declared.Table.{Table}
-use Rattle.lines.specs.declared.Request.{Request}
-use Rattle.lines.specs.declared.Answer.{Answer}
-use Rattle.lines.specs.declared.Answer.the-variants.{Start, Refused}
-use Rattle.lines.specs.declared.Stepped.{Stepped}
-use Rattle.lines.specs.Slots.{empty, at, isNothing, lowestOf}
-use Rattle.lines.specs.Grounds.{entry, stretch, asked}
-use Rattle.lines.specs.Ask.{says, askOf}
-use Rattle.lines.specs.Admit.{newLine, putAt, admittedAt, admitWith}
-use Rattle.lines.specs.Step.{choose, stepOf}
-use Rattle.lines.specs.Runs.{Act, asking, admitting, stepping, after}
+use Rattle.line.specs.declared.Held.{Held}
+use Rattle.line.specs.declared.Held.the-variants.{Nothing}
+use Rattle.line.specs.declared.Slot.{Slot}
+use Rattle.table.specs.declared.Table.{Table}
+use Rattle.table.specs.declared.Request.{Request}
+use Rattle.table.specs.declared.Answer.{Answer}
+use Rattle.table.specs.declared.Answer.the-variants.{Start, Refused}
+use Rattle.table.specs.declared.Stepped.{Stepped}
+use Rattle.line.specs.Slots.{empty, at, isNothing, lowestOf}
+use Rattle.table.specs.Grounds.{entry, asked}
+use Rattle.line.specs.Stretch.{stretch}
+use Rattle.table.specs.Ask.{says, askOf}
+use Rattle.table.specs.Admit.{newLine, putAt, admittedAt, admitWith}
+use Rattle.table.specs.Step.{choose, stepOf}
+use Rattle.table.specs.Runs.{Act, asking, admitting, stepping, after}
 use Rattle.theory.specs.Fine.{line, ticked}
 use Rattle.theory.specs.Given.{Granted}
 use Rattle.theory.proofs.Numbers.{split}
 use Rattle.theory.proofs.Granted.{granted}
-use Rattle.theory.proofs.Stretched.{length-stretched, at-stretched}
+use Rattle.line.proofs.Stretched.{length-stretched, at-stretched}
 use Rattle.theory.proofs.Step.{fine-step}
 use Rattle.promises.specs.Demand3.{Stretches}
 use Rattle.promises.proofs.Good.{Good, at-last, slot-empty, admitted-slots}
@@ -44,6 +45,7 @@ length-put : (o : Option ℕ) (h : Held) (l : List Slot) → length (putAt o h l
 length-put none h l = refl
 length-put (some k) h l = length-set l k (record { held = h })
 
+-- an admission leaves the number of slots as it was
 pub admit-length : (t : Table) (q : Request) → length (after (admitting q) t .slots) ≡ length (t .slots)
 admit-length t q = go (askOf t q)
   where
@@ -109,6 +111,7 @@ admit-waiting t q j C P w e b = go (askOf t q) refl
 pub step-table : (t : Table) → Good t → t .clock < 2 ^ 48 → stepOf t ≡ ticked (choose (t .slots)) t
 step-table t g h = fine-step t (g .fine) h
 
+-- an act never sets the clock back
 pub clock-after : (a : Act) (t : Table) → Good t → t .clock ≤ after a t .clock
 clock-after (asking q) t g = omega arith
 clock-after (admitting q) t g = omega (arith, admit-clock t q)

@@ -2,12 +2,15 @@
 use mathlib.Core.Path.{_≡_, refl}
 use mathlib.Core.List.{map}
 use Rattle.periods.specs.Multiples.{euclid, gcdOf, lcmOf, frameFrom}
-use Rattle.lines.specs.Slots.{total, lowest, refuses}
-use Rattle.lines.specs.Demand.{due, lastEnd}
-use Rattle.lines.specs.Grounds.{stretched, periodsIn}
-use Rattle.lines.specs.Ask.{says, every, endsBefore, endsOf, slack, bound, greatest, anyOf, start, loadOf, askOf}
-use Rattle.lines.specs.Step.{saysRan, chosen, advance, stepOf}
-use Rattle.lines.specs.Cases.{Case}
+use Rattle.line.specs.Slots.{total, lowest}
+use Rattle.table.specs.Words.{refuses}
+use Rattle.line.specs.Demand.{due, lastEnd}
+use Rattle.line.specs.Stretch.{stretched}
+use Rattle.line.specs.Shares.{periodsIn}
+use Rattle.table.specs.Ask.{says, loadOf, askOf}
+use Rattle.line.specs.Ends.{every, endsBefore, endsOf, slack, bound, greatest, anyOf, start}
+use Rattle.table.specs.Step.{saysRan, chosen, advance, stepOf}
+use Rattle.table.specs.Cases.{Case}
 use Rattle.card.specs.Bytes.{marked}
 use Rattle.card.specs.Card.{cardOf}
 use Rattle.card.specs.Reading.{recordOf, recordsOf, readWith, readOf}

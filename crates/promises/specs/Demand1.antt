@@ -4,18 +4,18 @@ use mathlib.Core.List.{List}
 use mathlib.Core.Option.{none}
 use Prim.Native.Nat.{ℕ}
 use lib.IntN.{ℤ, negsuc}
-use Rattle.lines.specs.declared.Table.{Table}
-use Rattle.lines.specs.declared.Request.{Request}
-use Rattle.lines.specs.declared.Refusal.{Refusal}
-use Rattle.lines.specs.declared.Answer.{Answer}
-use Rattle.lines.specs.declared.Admitted.{Admitted}
-use Rattle.lines.specs.declared.Stepped.{Stepped}
-use Rattle.lines.specs.declared.Outcome.{Outcome}
-use Rattle.lines.specs.Slots.{emptyTable, refuses}
-use Rattle.lines.specs.Grounds.{grounds, FirstOf, Answers}
-use Rattle.lines.specs.Ask.{says}
-use Rattle.lines.specs.Step.{saysRan}
-use Rattle.lines.specs.Board.{ReadyWord, blinks}
+use Rattle.table.specs.declared.Table.{Table}
+use Rattle.table.specs.declared.Request.{Request}
+use Rattle.table.specs.declared.Refusal.{Refusal}
+use Rattle.table.specs.declared.Answer.{Answer}
+use Rattle.table.specs.declared.Admitted.{Admitted}
+use Rattle.table.specs.declared.Stepped.{Stepped}
+use Rattle.table.specs.declared.Outcome.{Outcome}
+use Rattle.table.specs.Words.{emptyTable, refuses}
+use Rattle.table.specs.Grounds.{grounds, FirstOf, Answers}
+use Rattle.table.specs.Ask.{says}
+use Rattle.table.specs.Step.{saysRan}
+use Rattle.board.specs.Board.{ReadyWord, blinks}
 use Rattle.ask.specs.Asked.{Asked, Admits}
 use Rattle.card.specs.declared.ReadCard.{ReadCard}
 use Rattle.card.specs.declared.WriteAnswer.{WriteAnswer}

@@ -4,14 +4,14 @@ use mathlib.Core.Logic.{_⊎_}
 use mathlib.Core.List.{List, [], _∷_, _++_}
 use Prim.Native.Nat.{ℕ, _≤_}
 use lib.ListN.{length, take, drop}
-use Rattle.lines.specs.declared.Table.{Table}
-use Rattle.lines.specs.declared.Request.{Request}
-use Rattle.lines.specs.declared.Refusal.{Refusal}
-use Rattle.lines.specs.declared.Answer.{Answer}
-use Rattle.lines.specs.Slots.{gives, refuses}
-use Rattle.lines.specs.Demand.{newDemand, Least}
-use Rattle.lines.specs.Grounds.{asked, Row, grounds, FirstOf}
-use Rattle.lines.specs.Ask.{says}
+use Rattle.table.specs.declared.Table.{Table}
+use Rattle.table.specs.declared.Request.{Request}
+use Rattle.table.specs.declared.Refusal.{Refusal}
+use Rattle.table.specs.declared.Answer.{Answer}
+use Rattle.table.specs.Words.{gives, refuses}
+use Rattle.line.specs.Demand.{newDemand, Least}
+use Rattle.table.specs.Grounds.{asked, Row, grounds, FirstOf}
+use Rattle.table.specs.Ask.{says}
 use Rattle.ask.specs.Asked.{Asked}
 use Rattle.card.specs.declared.WriteAnswer.{WriteAnswer}
 use Rattle.card.specs.Bytes.{Bytes}
@@ -46,6 +46,7 @@ abbrev pub ReadWritesBack : Type 0
 ReadWritesBack = (card : List ℕ) (c : Card) (l : List ℕ) (a : WriteAnswer) (m : List ℕ) → Bytes card → readOf card ≡ gives c → length card ≤ length l
     → Writes (c .table) (c .request) l a m → (saidWritten a ≡ gives (length card)) × (m ≡ card ++ drop (length card) l)
 
+-- R72: the second demand, all of it
 pub record Demand2 : Type 0 where
   pub least-start : LeastStart
   pub exactly-refused : ExactlyRefused

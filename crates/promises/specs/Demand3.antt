@@ -4,19 +4,21 @@ use mathlib.Core.Path.{_≡_}
 use mathlib.Core.List.{List, [], _∷_}
 use mathlib.Core.Option.{Option, some}
 use lib.ListN.{take, drop, replicate}
-use Rattle.lines.specs.declared.Held.{Held}
-use Rattle.lines.specs.declared.Held.the-variants.{Nothing, Running, Waiting}
-use Rattle.lines.specs.declared.Table.{Table}
-use Rattle.lines.specs.declared.Request.{Request}
-use Rattle.lines.specs.declared.Refusal.{Refusal}
-use Rattle.lines.specs.Slots.{emptyTable, at, Each, isNothing, lowestOf, refusal, gives, refuses}
-use Rattle.lines.specs.Sound.{Sound}
-use Rattle.lines.specs.Demand.{lastEnd}
-use Rattle.lines.specs.Grounds.{entry, asked, Answers}
-use Rattle.lines.specs.Ask.{says, askOf}
-use Rattle.lines.specs.Admit.{fresh, admittedAt}
-use Rattle.lines.specs.Step.{saysRan, stepOf}
-use Rattle.lines.specs.Runs.{Act, asking, admitting, stepping, after, run, trace, times}
+use Rattle.line.specs.declared.Held.{Held}
+use Rattle.line.specs.declared.Held.the-variants.{Nothing, Running, Waiting}
+use Rattle.table.specs.declared.Table.{Table}
+use Rattle.table.specs.declared.Request.{Request}
+use Rattle.table.specs.declared.Refusal.{Refusal}
+use Rattle.table.specs.Words.{emptyTable, refusal, gives, refuses}
+use Rattle.line.specs.Slots.{at, Each, isNothing, lowestOf}
+use Rattle.line.specs.Sound.{Sound}
+use Rattle.line.specs.Demand.{lastEnd}
+use Rattle.table.specs.Grounds.{entry, asked, Answers}
+use Rattle.table.specs.Ask.{says, askOf}
+use Rattle.line.specs.Tick.{fresh}
+use Rattle.table.specs.Admit.{admittedAt}
+use Rattle.table.specs.Step.{saysRan, stepOf}
+use Rattle.table.specs.Runs.{Act, asking, admitting, stepping, after, run, trace, times}
 
 -- ---- no missed period
 
@@ -44,6 +46,7 @@ pub record Admission (acts : List Act) (q : Request) (r k : ℕ) : Type 0 where
 abbrev pub asking-table : List Act → Table
 asking-table acts = run acts emptyTable
 
+-- the table after a run from the empty one and an admission
 abbrev pub admitted-table : List Act → Request → Table
 admitted-table acts q = after (admitting q) (run acts emptyTable)
 
@@ -58,6 +61,7 @@ Lengthened p Nothing = ⊥
 Lengthened p (Running r) = r .period < p
 Lengthened p (Waiting w) = ⊥
 
+-- R76: the act makes the period of slot k longer
 abbrev pub Stretches : ℕ → Act → Table → Type 0
 Stretches k (asking q) t = ⊥
 Stretches k (admitting q) t = ((r : ℕ) × (says (askOf t q) ≡ gives r)) × Lengthened (entry q k) (at (t .slots) k)

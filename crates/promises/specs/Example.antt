@@ -1,15 +1,18 @@
 -- The run that comes to case A from the empty table: two lines are admitted at once, and eight ticks pass.
 use mathlib.Core.List.{List, _∷_}
 use lib.ListN.{replicate}
-use Rattle.lines.specs.declared.Request.{Request}
-use Rattle.lines.specs.Runs.{Act, admitting, stepping}
+use Rattle.table.specs.declared.Request.{Request}
+use Rattle.table.specs.Runs.{Act, admitting, stepping}
 
+-- the request that admits slot 0 of case A
 abbrev pub firstLine : Request
 firstLine = record { stretched = replicate 16 0; need = 8; period = 16 }
 
+-- the request that admits slot 1 of case A
 abbrev pub secondLine : Request
 secondLine = record { stretched = 16 ∷ replicate 15 0; need = 8; period = 16 }
 
+-- the run that comes to the table of case A
 abbrev pub toCaseA : List Act
 toCaseA = admitting firstLine ∷ admitting secondLine ∷ replicate 8 stepping
 

@@ -2,15 +2,15 @@
 use Prim.Native.Nat.{ℕ, _+_, _<_}
 use mathlib.Core.Path.{_≡_}
 use mathlib.Core.List.{List}
-use Rattle.lines.specs.declared.Table.{Table}
-use Rattle.lines.specs.declared.Request.{Request}
-use Rattle.lines.specs.declared.Refusal.{Refusal}
-use Rattle.lines.specs.declared.Answer.{Answer}
-use Rattle.lines.specs.declared.Stepped.{Stepped}
-use Rattle.lines.specs.Slots.{gives, refuses}
-use Rattle.lines.specs.Grounds.{Answers}
-use Rattle.lines.specs.Ask.{says}
-use Rattle.lines.specs.Step.{stepOf}
+use Rattle.table.specs.declared.Table.{Table}
+use Rattle.table.specs.declared.Request.{Request}
+use Rattle.table.specs.declared.Refusal.{Refusal}
+use Rattle.table.specs.declared.Answer.{Answer}
+use Rattle.table.specs.declared.Stepped.{Stepped}
+use Rattle.table.specs.Words.{gives, refuses}
+use Rattle.table.specs.Grounds.{Answers}
+use Rattle.table.specs.Ask.{says}
+use Rattle.table.specs.Step.{stepOf}
 use Rattle.card.specs.declared.ReadCard.{ReadCard}
 use Rattle.card.specs.Card.{Card}
 use Rattle.card.specs.Reading.{readOf}

@@ -2,11 +2,12 @@
 use Prim.Native.Nat.{ℕ, _+_, _-_, _^_}
 use mathlib.Core.List.{List, [], _∷_, _++_}
 use lib.ListN.{take, replicate}
-use Rattle.lines.specs.declared.Table.{Table}
-use Rattle.lines.specs.declared.Request.{Request}
-use Rattle.lines.specs.declared.Refusal.{Refusal}
-use Rattle.lines.specs.Slots.{empty, refusal, refuses}
-use Rattle.lines.specs.Cases.{Bench, Case, line, running, waiting, tableOf, tableFor, requestFor, case, caseA, caseG, caseI, caseJ, caseL}
+use Rattle.table.specs.declared.Table.{Table}
+use Rattle.table.specs.declared.Request.{Request}
+use Rattle.table.specs.declared.Refusal.{Refusal}
+use Rattle.line.specs.Slots.{empty}
+use Rattle.table.specs.Words.{refusal, refuses}
+use Rattle.table.specs.Cases.{CaseLine, Case, line, running, waiting, tableOf, tableFor, requestFor, case, caseA, caseG, caseI, caseJ, caseL}
 use Rattle.card.specs.Bytes.{TA}
 use Rattle.card.specs.Card.{cardOf}
 
@@ -14,14 +15,15 @@ use Rattle.card.specs.Card.{cardOf}
 abbrev pub waitingTable : Table
 waitingTable = tableOf 0 (running 1 4 0 1 ∷ empty ∷ waiting 1 4 3 ∷ [])
 
-abbrev pub fullBenches : List Bench
-fullBenches = replicate 16 (line 1 64 64 0 1)
+-- sixteen lines, so that no slot is empty
+abbrev pub sixteenLines : List CaseLine
+sixteenLines = replicate 16 (line 1 64 64 0 1)
 
 -- R20: 1 to 10
 unfoldable pub askMeets : List Case
 askMeets =
     case (2 ^ 48 - 65536 + 1) [] 1 4 (refuses (refusal 1 0))
-    ∷ case 0 fullBenches 1 64 (refuses (refusal 2 0))
+    ∷ case 0 sixteenLines 1 64 (refuses (refusal 2 0))
     ∷ record { table = waitingTable; request = requestFor [] 1 4; answer = refuses (refusal 3 2) }
     ∷ case 0 (line 1 4 4 0 1 ∷ line 5 4 4 0 0 ∷ []) 1 4 (refuses (refusal 4 1))
     ∷ case 0 (line 1 4 4 0 1 ∷ line 1 4 3 0 1 ∷ []) 1 4 (refuses (refusal 5 1))
@@ -32,6 +34,7 @@ askMeets =
     ∷ caseJ
     ∷ []
 
+-- a table, and the refusal that its step meets
 pub record Meets : Type 0 where
   pub table : Table
   pub refused : Refusal
@@ -44,10 +47,12 @@ stepMeets =
     ∷ record { table = tableFor (2 ^ 48) []; refused = refusal 15 0 }
     ∷ []
 
+-- a card, and the refusal that it meets in the reader
 pub record BrokenCard : Type 0 where
   pub bytes : List ℕ
   pub refused : Refusal
 
+-- a table, a request and a buffer, and the refusal that they meet in the writer
 pub record ShortBuffer : Type 0 where
   pub table : Table
   pub request : Request

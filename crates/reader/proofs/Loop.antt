@@ -10,10 +10,11 @@ use lib.ListN.{length, take, drop, set, getD, replicate, length-drop, length-set
 use lib.Seq.{getD-drop, take-suc-set, drop-set-lt, drop-drop, take-suc}
 use lib.Dec.{eqb}
 use borrow.Author.Tests.{eq-eqb, ne-eqb}
-use Rattle.lines.specs.declared.Run.{Run}
-use Rattle.lines.specs.declared.Held.the-variants.{Running}
-use Rattle.lines.specs.declared.Slot.{Slot}
-use Rattle.lines.specs.Slots.{pick, empty, refusal, Said, gives, refuses}
+use Rattle.line.specs.declared.Run.{Run}
+use Rattle.line.specs.declared.Held.the-variants.{Running}
+use Rattle.line.specs.declared.Slot.{Slot}
+use Rattle.line.specs.Slots.{pick, empty}
+use Rattle.table.specs.Words.{refusal, Said, gives, refuses}
 use Rattle.card.specs.declared.Record.the-variants.{Line, Free, Last, Refused}
 use Rattle.card.specs.Bytes.{value}
 use Rattle.card.specs.Card.{Card}

@@ -3,8 +3,9 @@ ghost use mathlib.Core.Path.{_≡_};
 ghost use mathlib.Core.Bool.{false};
 ghost use Prim.Native.Nat.{_+_, _-_, _≤_, _<_};
 ghost use lib.ListN.{length, drop};
-ghost use Rattle.lines.specs.declared.Held.the-variants.{Running};
-ghost use Rattle.lines.specs.Slots.{empty, refusal, refuses};
+ghost use Rattle.line.specs.declared.Held.the-variants.{Running};
+ghost use Rattle.line.specs.Slots.{empty};
+ghost use Rattle.table.specs.Words.{refusal, refuses};
 ghost use Rattle.card.specs.Bytes.{value, markOf, marked};
 ghost use Rattle.card.specs.Card.{carrying};
 ghost use Rattle.card.specs.Reading.{lineOf, lastOf, recordOf, recordsOf, closing, readOf};
@@ -12,12 +13,12 @@ ghost use Rattle.card.specs.Answers.{handed};
 use card::CardAnswer;
 use card::ReadCard;
 use card::Record;
-use lines::Held;
-use lines::Refusal;
-use lines::Request;
-use lines::Run;
-use lines::Slot;
-use lines::Table;
+use line::Held;
+use line::Run;
+use line::Slot;
+use table::Refusal;
+use table::Request;
+use table::Table;
 
 fn wide(b: u8) -> u16
     ensures { λ r. ⌜ (r ≡ b) × (r < 256) ⌝ }

@@ -6,10 +6,10 @@ use mathlib.Core.List.{List, [], _∷_, _++_, map}
 use mathlib.Core.Option.{Option, none, some}
 use native.Mathlib.Omega.{arith}
 use lib.ListN.{length, replicate}
-use Rattle.lines.specs.declared.Answer.{Answer}
-use Rattle.lines.specs.declared.Answer.the-variants.{Start, Refused}
-use Rattle.lines.specs.Slots.{gives, refuses}
-use Rattle.lines.specs.Ask.{says}
+use Rattle.table.specs.declared.Answer.{Answer}
+use Rattle.table.specs.declared.Answer.the-variants.{Start, Refused}
+use Rattle.table.specs.Words.{gives, refuses}
+use Rattle.table.specs.Ask.{says}
 use Rattle.reply.specs.declared.Written.the-variants.{Length, Short}
 use Rattle.reply.specs.Line.{digitsIn, digits, valueFrom, valueOf, AllDigits, lineOf, Wide, Replied, lengthOf, lengthFor, heldAfter}
 

@@ -6,7 +6,8 @@ use mathlib.Core.List.{List, [], _∷_, _++_}
 use mathlib.Core.Option.{Option, none, some}
 use lib.Dec.{ltb, leb}
 use lib.ListN.{length, take, drop, replicate}
-use Rattle.lines.specs.Slots.{pick, Said, gives, refuses}
+use Rattle.line.specs.Slots.{pick}
+use Rattle.table.specs.Words.{Said, gives, refuses}
 use Rattle.reply.specs.declared.Reply.{Reply}
 use Rattle.reply.specs.declared.Written.{Written}
 use Rattle.reply.specs.declared.Written.the-variants.{Length, Short}

@@ -2,11 +2,11 @@
 ghost use mathlib.Core.Path.{_≡_};
 ghost use Prim.Native.Nat.{_+_, _≤_, _<_};
 ghost use lib.ListN.{length};
-ghost use Rattle.lines.specs.Slots.{gives, refuses};
-ghost use Rattle.lines.specs.Ask.{says};
+ghost use Rattle.table.specs.Words.{gives, refuses};
+ghost use Rattle.table.specs.Ask.{says};
 ghost use Rattle.reply.specs.Line.{digits, lineOf, laid, laidFrom, Replied, lengthOf, lengthFor, heldAfter};
-use lines::Answer;
-use lines::Refusal;
+use table::Answer;
+use table::Refusal;
 
 // R61: a line in an array that is long enough for every answer: its first `len` bytes are the line, and the rest are 0.
 pub struct Reply {

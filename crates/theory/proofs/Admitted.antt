@@ -7,15 +7,15 @@ use native.Mathlib.Nat.{sub-zero}
 use native.Mathlib.Omega.{arith}
 use borrow.Author.Tests.{lt-ltb, le-ltb}
 use lib.ListN.{length, replicate}
-use Rattle.lines.specs.declared.Held.{Held}
-use Rattle.lines.specs.declared.Held.the-variants.{Nothing, Running, Waiting}
-use Rattle.lines.specs.declared.Slot.{Slot}
-use Rattle.lines.specs.Slots.{empty, at, Each, total, Waits}
-use Rattle.lines.specs.Sound.{Sound}
-use Rattle.lines.specs.Demand.{due, demand, newDemand, demands, Smooth}
-use Rattle.lines.specs.Grounds.{share, owed, full}
-use Rattle.lines.specs.Admit.{newLine, putAt}
-use Rattle.theory.specs.Fine.{wanted, wantedAll, load, Divides, Fine, Lag}
+use Rattle.line.specs.declared.Held.{Held}
+use Rattle.line.specs.declared.Held.the-variants.{Nothing, Running, Waiting}
+use Rattle.line.specs.declared.Slot.{Slot}
+use Rattle.line.specs.Slots.{empty, at, Each, total, Waits}
+use Rattle.line.specs.Sound.{Sound}
+use Rattle.line.specs.Demand.{due, demand, newDemand, demands, Smooth}
+use Rattle.line.specs.Shares.{share, owed, full}
+use Rattle.table.specs.Admit.{newLine, putAt}
+use Rattle.theory.specs.Fine.{wanted, wantedAll, shareHeld, Divides, Fine, Lag}
 use Rattle.theory.proofs.Numbers.{split, due-renew}
 use Rattle.theory.proofs.Sums.{total-eq, total-zero, total-set, each-set, each-empty}
 
@@ -25,11 +25,13 @@ wanted-running k Nothing t n = refl
 wanted-running k (Running r) t n = refl
 wanted-running k (Waiting w) t n = absurd (n tt)
 
-pub load-running : (M : ℕ) (h : Held) → (Waits h → ⊥) → load M h ≡ share M h
-load-running M Nothing n = refl
-load-running M (Running r) n = refl
-load-running M (Waiting w) n = absurd (n tt)
+-- R28: where no line waits, the share that the pump counts is the one that ask counts
+pub share-held-running : (M : ℕ) (h : Held) → (Waits h → ⊥) → shareHeld M h ≡ share M h
+share-held-running M Nothing n = refl
+share-held-running M (Running r) n = refl
+share-held-running M (Waiting w) n = absurd (n tt)
 
+-- R12: where no line waits, what the pump must give is the demand that ask counts
 pub wantedAll-running : (k : ℕ) (l : List Slot) (t : ℕ) → Each (λ h. Waits h → ⊥) l → wantedAll k l t ≡ demands k l t
 wantedAll-running k l t n = total-eq (λ h. wanted k h t) (λ h. demand k h t) l (λ i b. wanted-running k (at l i) t (n i b))
 
@@ -43,18 +45,23 @@ new-wanted k C P r t p b =
     rw (lt-ltb 0 (r - k) g) (ap (λ (n : ℕ). due n 0 C P t) e))
 
 module _ (C P w : ℕ) where
+  -- R43, R5: a new line that fits its period is sound, waiting or not
   pub new-sound : 1 ≤ C → C ≤ P → Sound (newLine C P w)
   new-sound a b = split w 0 (λ g. rw (le-ltb 0 w g) (omega arith)) (λ g. rw (lt-ltb 0 w g) (omega arith))
 
-  pub new-load : (M : ℕ) → load M (newLine C P w) ≡ C * (M / P)
-  new-load M = split w 0 (λ g. rw (le-ltb 0 w g)) (λ g. rw (lt-ltb 0 w g))
+  -- R28: its share is Cn/Tn, times M
+  pub new-share : (M : ℕ) → shareHeld M (newLine C P w) ≡ C * (M / P)
+  new-share M = split w 0 (λ g. rw (le-ltb 0 w g)) (λ g. rw (lt-ltb 0 w g))
 
+  -- R8: a common multiple of its period is one for it
   pub new-divides : {M : ℕ} → P ∣ M → Divides M (newLine C P w)
   new-divides d = split w 0 (λ g. rw (le-ltb 0 w g) d) (λ g. rw (lt-ltb 0 w g) d)
 
+  -- R29: it is not behind its share
   pub new-lag : (M : ℕ) → owed M (newLine C P w) ≤ full M (newLine C P w)
   new-lag M = split w 0 (λ g. rw (le-ltb 0 w g) (omega arith)) (λ g. rw (lt-ltb 0 w g) (omega arith))
 
+-- R11: with the new line put in, what the pump must give is the running lines' demand and the new line's
 pub admitted-wanted : (k : ℕ) (l : List Slot) (j C P r t : ℕ) → Each (λ h. Waits h → ⊥) l → j < length l → at l j ≡ Nothing → 1 ≤ P → k ≤ r
     → wantedAll k (putAt (some j) (newLine C P (r - k)) l) t ≡ demands k l t + newDemand C P r t
 admitted-wanted k l j C P r t n h e p b =
@@ -66,6 +73,7 @@ admitted-wanted k l j C P r t n h e p b =
       wantedAll-running k l t n,
     )
 
+-- R5: sound lines stay so when a new line that fits its period is put in
 pub admitted-sound : (l : List Slot) (j C P w : ℕ) → Each Sound l → 1 ≤ C → C ≤ P → Each Sound (putAt (some j) (newLine C P w) l)
 admitted-sound l j C P w a b c = each-set Sound l j (newLine C P w) a (new-sound C P w b c)
 
@@ -84,9 +92,9 @@ admitted-fine M k l j C P r a n m d p x c q h e s =
             at-most-one =
                 omega (
                   arith,
-                  total-set (load M) l j (newLine C P (r - k)) h,
-                  new-load C P (r - k) M,
-                  total-eq (load M) (share M) l (λ i b. load-running M (at l i) (n i b)),
+                  total-set (shareHeld M) l j (newLine C P (r - k)) h,
+                  new-share C P (r - k) M,
+                  total-eq (shareHeld M) (share M) l (λ i b. share-held-running M (at l i) (n i b)),
                 );
           };
       no-excess = λ t b. omega (arith, admitted-wanted k l j C P r t n h e (omega arith) (s .from-clock), s .no-excess t b);
@@ -113,10 +121,11 @@ empty-fine k n =
           record {
             some-frame = omega arith;
             common = each-empty (Divides 1) n tt;
-            at-most-one = omega (arith, total-zero (load 1) (replicate n empty) (each-empty (λ h. load 1 h ≡ 0) n refl));
+            at-most-one = omega (arith, total-zero (shareHeld 1) (replicate n empty) (each-empty (λ h. shareHeld 1 h ≡ 0) n refl));
           };
       no-excess = λ t b. omega (arith, total-zero (λ h. wanted k h t) (replicate n empty) (each-empty (λ h. wanted k h t ≡ 0) n refl));
     }
 
+-- R29: in an empty table nobody is behind
 pub empty-lag : (M n : ℕ) → Lag M (replicate n empty)
 empty-lag M n = omega (arith, total-zero (owed M) (replicate n empty) (each-empty (λ h. owed M h ≡ 0) n refl))

@@ -6,25 +6,29 @@ use mathlib.Core.List.{List, [], _∷_}
 use mathlib.Core.Option.{Option, none, some}
 use Prim.Native.Nat.{ℕ, _+_, _*_, _-_, _/_, _^_, _≤_}
 use native.Mathlib.Omega.{arith}
-use borrow.Author.Tests.{ltb-true, ltb-false}
+use borrow.Author.Tests.{not-true, not-false, ltb-true, ltb-false}
 use lib.Dec.{ltb, leb}
 use lib.ListN.{length}
-use Rattle.lines.specs.declared.Slot.{Slot}
-use Rattle.lines.specs.declared.Table.{Table}
-use Rattle.lines.specs.declared.Request.{Request}
-use Rattle.lines.specs.declared.Answer.{Answer}
-use Rattle.lines.specs.Slots.{both, at, Each, total, isNothing, isWaiting, Waits, lowest, lowestOf, Said, gives, refuses}
-use Rattle.lines.specs.Sound.{Sound, sound}
-use Rattle.lines.specs.Demand.{lastEnd}
-use Rattle.lines.specs.Grounds.{entry, asked, Shrunk, frame, share, owed, full, Late, Full, Waiters, Unsound, Shorter, Misfit, Wide, Overload, Behind, Short, Row, row, AnswersBy, Answers}
-use Rattle.lines.specs.Ask.{says, endsOf, anyOf, shortAt, shrunk, isNone, refusedAt, refusedIf, loadOf, askOf}
-use Rattle.lines.proofs.Search.{true-false, lowest-is, lowest-none}
-use Rattle.lines.proofs.Sound.{sound-says, unsound-says}
+use Rattle.line.specs.declared.Slot.{Slot}
+use Rattle.table.specs.declared.Table.{Table}
+use Rattle.table.specs.declared.Request.{Request}
+use Rattle.table.specs.declared.Answer.{Answer}
+use Rattle.line.specs.Slots.{both, at, Each, total, isNothing, isWaiting, Waits, lowest, lowestOf}
+use Rattle.table.specs.Words.{Said, gives, refuses}
+use Rattle.line.specs.Sound.{Sound, sound}
+use Rattle.line.specs.Demand.{lastEnd}
+use Rattle.table.specs.Grounds.{entry, asked, Late, Full, Waiters, Unsound, Shorter, Misfit, Wide, Overload, Behind, Short, Row, row, AnswersBy, Answers}
+use Rattle.line.specs.Stretch.{Shrunk, shrunk}
+use Rattle.line.specs.Shares.{frame, share, owed, full}
+use Rattle.table.specs.Ask.{says, isNone, refusedAt, refusedIf, loadOf, askOf}
+use Rattle.line.specs.Ends.{endsOf, anyOf, shortAt}
+use Rattle.line.proofs.Search.{true-false, lowest-is, lowest-none}
+use Rattle.line.proofs.Sound.{sound-says, unsound-says}
 use Rattle.theory.specs.Fine.{Longer}
 use Rattle.theory.proofs.Start.{start-least}
-use Rattle.theory.proofs.Ten.{quiet, found-short}
+use Rattle.theory.proofs.Ten.{alone-without-short-end, found-short}
 use Rattle.theory.proofs.Stretched.{sound-stretched, running-stretched}
-use Rattle.theory.proofs.Tests.{lowest-of, none-of, nothing-says, waits-says, waits-not, not-true, not-false, shrunk-says, shrunk-not, some-of, none-is, fits-says, fits-not}
+use Rattle.theory.proofs.Tests.{lowest-of, none-of, nothing-says, waits-says, waits-not, shrunk-says, shrunk-not, some-of, none-is, fits-says, fits-not}
 use Rattle.theory.proofs.Granted.{given}
 
 -- ---- one row of the refusals' table
@@ -61,16 +65,16 @@ module _ (t : Table) (q : Request) (sound : Each Sound (asked t q)) (none-waits 
   unfolding loadOf
   from-seven =
       row-if (row 7 Wide) _ t q (ltb 1000000 F) _ (λ e. (ltb-true 1000000 F e, refl)) (λ e k h. omega (arith, ltb-false 1000000 F e, h .0))
-      (λ e7. row-if (row 8 Overload) _ t q (ltb F load) _ (λ e. (ltb-true F load e, refl)) (λ e k h. omega (arith, ltb-false F load e, h .0))
+      (λ e7. row-if (row 8 Overload) _ t q (ltb F all-shares) _ (λ e. (ltb-true F all-shares e, refl)) (λ e k h. omega (arith, ltb-false F all-shares e, h .0))
       (λ e8. row-if (row 9 Behind) _ t q (ltb need due) _ (λ e. (ltb-true need due e, refl)) (λ e k h. omega (arith, ltb-false need due e, h .0))
-      (λ e9. let g = given t q sound none-waits some fits (ltb-false F load e8) (ltb-false need due e9) in
+      (λ e9. let g = given t q sound none-waits some fits (ltb-false F all-shares e8) (ltb-false need due e9) in
       row-if (row 10 Short) _ t q short _
       (λ e. let w = found-short (t .clock) (asked t q) sound e in ((w .0, w .1 .from-clock, w .1 .above), refl))
-      (λ e k h. omega (arith, h .0 .2, quiet F (t .clock) (asked t q) (q .need) (q .period) g e (h .0 .0) (h .0 .1)))
-      (λ e10. (tt, start-least F (t .clock) (asked t q) (q .need) (q .period) g (quiet F (t .clock) (asked t q) (q .need) (q .period) g e10))))))
+      (λ e k h. omega (arith, h .0 .2, alone-without-short-end F (t .clock) (asked t q) (q .need) (q .period) g e (h .0 .0) (h .0 .1)))
+      (λ e10. (tt, start-least F (t .clock) (asked t q) (q .need) (q .period) g (alone-without-short-end F (t .clock) (asked t q) (q .need) (q .period) g e10))))))
     where
-      load : ℕ
-      load = total (share F) (asked t q) + q .need * (F / q .period)
+      all-shares : ℕ
+      all-shares = total (share F) (asked t q) + q .need * (F / q .period)
 
       need : ℕ
       need = total (full F) (asked t q)

@@ -2,11 +2,11 @@
 use mathlib.Core.Path.{_≡_}
 use mathlib.Core.List.{List, [], _∷_, map}
 use Rattle.periods.specs.Multiples.{All}
-use Rattle.lines.specs.Demand.{newDemand, Smooth}
-use Rattle.lines.specs.Grounds.{asked, Answers}
-use Rattle.lines.specs.Ask.{says, askOf}
-use Rattle.lines.specs.Cases.{Case, cases, caseB}
-use Rattle.lines.proofs.Cases.{all-cases}
+use Rattle.line.specs.Demand.{newDemand, Smooth}
+use Rattle.table.specs.Grounds.{asked, Answers}
+use Rattle.table.specs.Ask.{says, askOf}
+use Rattle.table.specs.Cases.{Case, cases, caseB}
+use Rattle.table.proofs.Cases.{all-cases}
 use Rattle.theory.proofs.Answers.{ask-answers}
 
 answered : (cs : List Case) → map (λ (c : Case). says (askOf (c .table) (c .request))) cs ≡ map (λ (c : Case). c .answer) cs

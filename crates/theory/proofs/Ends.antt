@@ -7,13 +7,13 @@ use native.Mathlib.Nat.{not-suc-le-zero, div-eq-of-lt-le, div-add-mod, mod-lt, s
 use native.Mathlib.Decide.{ℕ-discrete, le-ind}
 use native.Mathlib.Omega.{arith}
 use Rattle.periods.specs.Multiples.{All}
-use Rattle.lines.specs.declared.Held.{Held}
-use Rattle.lines.specs.declared.Held.the-variants.{Nothing, Running, Waiting}
-use Rattle.lines.specs.declared.Slot.{Slot}
-use Rattle.lines.specs.Slots.{at, Each, total}
-use Rattle.lines.specs.Sound.{Sound}
-use Rattle.lines.specs.Demand.{due, firstEnd, demand, demands}
-use Rattle.lines.specs.Ask.{countBefore, every, endsBefore, endsIn, endsOf}
+use Rattle.line.specs.declared.Held.{Held}
+use Rattle.line.specs.declared.Held.the-variants.{Nothing, Running, Waiting}
+use Rattle.line.specs.declared.Slot.{Slot}
+use Rattle.line.specs.Slots.{at, Each, total}
+use Rattle.line.specs.Sound.{Sound}
+use Rattle.line.specs.Demand.{due, firstEnd, demand, demands}
+use Rattle.line.specs.Ends.{countBefore, every, endsBefore, endsIn, endsOf}
 use Rattle.theory.specs.Given.{IsEnd, AnyEnd}
 use Rattle.theory.proofs.Numbers.{split, due-before, due-after, due-mono}
 use Rattle.theory.proofs.Sums.{total-le, total-zero}
@@ -63,6 +63,7 @@ demand-now t0 Nothing s = refl
 demand-now t0 (Running r) s = due-before (firstEnd t0 r) (r .remaining) (r .need) (r .period) t0 (omega arith)
 demand-now t0 (Waiting w) s = refl
 
+-- R10: at the clock nothing is due
 pub demands-now : (t0 : ℕ) (l : List Slot) → Each Sound l → demands t0 l t0 ≡ 0
 demands-now t0 l s = total-zero (λ h. demand t0 h t0) l (λ i b. demand-now t0 (at l i) (s i b))
 
@@ -95,6 +96,7 @@ end-late t0 Nothing d s e = absurd e
 end-late t0 (Running r) d s e = omega (arith, e .1)
 end-late t0 (Waiting w) d s e = absurd e
 
+-- R9: every end comes after the clock
 pub any-late : (t0 : ℕ) (l : List Slot) (d : ℕ) → Each Sound l → AnyEnd t0 l d → t0 < d
 any-late t0 l d s e = end-late t0 (at l (e .0)) d (s (e .0) (e .1)) (e .2)
 
@@ -128,10 +130,12 @@ all-every Q (suc n) e P (suc k) b a =
     let y : e + suc k * P ≡ e + P + k * P = omega arith in
     rw y (all-every Q n (e + P) P k (omega arith) (a .1))
 
+-- what holds of two lists holds of both in a row
 pub append-all : (Q : ℕ → Type 0) (a b : List ℕ) → All Q a → All Q b → All Q (a ++ b)
 append-all Q [] b p q = q
 append-all Q (x ∷ a) b p q = (p .0, append-all Q a b (p .1) q)
 
+-- what holds of two lists in a row holds of each
 pub all-append : (Q : ℕ → Type 0) (a b : List ℕ) → All Q (a ++ b) → All Q a × All Q b
 all-append Q [] b p = (tt, p)
 all-append Q (x ∷ a) b p = let w = all-append Q a b (p .1) in ((p .0, w .0), w .1)

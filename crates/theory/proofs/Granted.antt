@@ -5,30 +5,31 @@ use mathlib.Core.List.{_∷_}
 use mathlib.Core.Option.{Option, none, some}
 use Prim.Native.Nat.{ℕ, _+_, _*_, _-_, _/_, _^_, _≤_}
 use native.Mathlib.Omega.{arith}
-use borrow.Author.Tests.{ltb-false}
+use borrow.Author.Tests.{not-false, ltb-false}
 use lib.Dec.{ltb, leb}
 use lib.ListN.{length}
 use Rattle.periods.proofs.Frames.{frame-is, frame-pos}
-use Rattle.lines.specs.declared.Table.{Table}
-use Rattle.lines.specs.declared.Request.{Request}
-use Rattle.lines.specs.declared.Answer.{Answer}
-use Rattle.lines.specs.declared.Answer.the-variants.{Start, Refused}
-use Rattle.lines.specs.Slots.{both, at, Each, total, isNothing, isWaiting, Waits, lowest, lowestOf, gives}
-use Rattle.lines.specs.Sound.{Sound, sound}
-use Rattle.lines.specs.Demand.{lastEnd, Least, newDemand}
-use Rattle.lines.specs.Grounds.{entry, asked, Shrunk, periodsIn, frame, share, owed, full}
-use Rattle.lines.specs.Ask.{says, start, endsOf, anyOf, shortAt, shrunk, isNone, refusedAt, refusedIf, loadOf, askOf}
-use Rattle.lines.proofs.Search.{lowest-none}
-use Rattle.lines.proofs.Sound.{sound-says}
+use Rattle.table.specs.declared.Table.{Table}
+use Rattle.table.specs.declared.Request.{Request}
+use Rattle.table.specs.declared.Answer.{Answer}
+use Rattle.table.specs.declared.Answer.the-variants.{Start, Refused}
+use Rattle.line.specs.Slots.{both, at, Each, total, isNothing, isWaiting, Waits, lowest, lowestOf}
+use Rattle.table.specs.Words.{gives}
+use Rattle.line.specs.Sound.{Sound, sound}
+use Rattle.line.specs.Demand.{lastEnd, Least, newDemand}
+use Rattle.table.specs.Grounds.{entry, asked}
+use Rattle.line.specs.Stretch.{Shrunk, shrunk}
+use Rattle.line.specs.Shares.{periodsIn, frame, share, owed, full}
+use Rattle.table.specs.Ask.{says, isNone, refusedAt, refusedIf, loadOf, askOf}
+use Rattle.line.specs.Ends.{start, endsOf, anyOf, shortAt}
+use Rattle.line.proofs.Search.{lowest-none}
+use Rattle.line.proofs.Sound.{sound-says}
 use Rattle.theory.specs.Fine.{Longer}
-use Rattle.theory.specs.Given.{Given}
+use Rattle.theory.specs.Given.{Given, Alone, Granted}
 use Rattle.theory.proofs.Start.{start-least}
-use Rattle.theory.proofs.Ten.{quiet}
+use Rattle.theory.proofs.Ten.{alone-without-short-end}
 use Rattle.theory.proofs.Stretched.{sound-stretched, running-stretched}
-use Rattle.theory.proofs.Tests.{none-of, waits-not, not-false, shrunk-not, some-of, fits-says, periods-divide, periods-pos}
-use Rattle.theory.specs.Given.{Alone, Granted}
-use Rattle.lines.specs.Grounds.{periodsIn}
-use Rattle.periods.proofs.Frames.{frame-is, frame-pos}
+use Rattle.theory.proofs.Tests.{none-of, waits-not, shrunk-not, some-of, fits-says, periods-divide, periods-pos}
 
 -- the frame is a common multiple, and with sums 8 and 9 it gives what the theory of the start asks
 pub given : (t : Table) (q : Request) → Each Sound (asked t q) → Each (λ h. Waits h → ⊥) (asked t q) → 1 ≤ q .need → q .need ≤ q .period
@@ -73,7 +74,7 @@ granted-load t q r s n c fits e =
     let p9 = past-if (ltb (total (full F) l) (total (owed F) l)) 9 _ r (p8 .1) in
     let p10 = past-if (anyOf (shortAt (t .clock) l) (endsOf (t .clock) (lastEnd (t .clock) l) l)) 10 _ r (p9 .1) in
     let g = given t q s n c fits (ltb-false F (total (share F) l + q .need * (F / q .period)) (p8 .0)) (ltb-false (total (full F) l) (total (owed F) l) (p9 .0)) in
-    let a = quiet F (t .clock) l (q .need) (q .period) g (p10 .0) in
+    let a = alone-without-short-end F (t .clock) l (q .need) (q .period) g (p10 .0) in
     (g, a, rw (← same-start (start (t .clock) l (q .need) (q .period)) r (p10 .1)) (start-least F (t .clock) l (q .need) (q .period) g a))
 
 -- an answer that says a start is that start

@@ -7,20 +7,21 @@ use native.Mathlib.Nat.{mul-le-mul-left}
 use native.Mathlib.Omega.{arith}
 use borrow.Author.Tests.{lt-ltb, le-ltb}
 use Rattle.periods.proofs.Whole.{whole}
-use Rattle.lines.specs.declared.Held.{Held}
-use Rattle.lines.specs.declared.Held.the-variants.{Nothing, Running, Waiting}
-use Rattle.lines.specs.declared.Slot.{Slot}
-use Rattle.lines.specs.Slots.{at, Each, total}
-use Rattle.lines.specs.Sound.{Sound}
-use Rattle.lines.specs.Grounds.{owed, full}
-use Rattle.lines.specs.Step.{Owed, Earliest, served, serve, passed, pass}
-use Rattle.theory.specs.Fine.{load, Divides, Shares, Busy, Kept, Lag}
+use Rattle.line.specs.declared.Held.{Held}
+use Rattle.line.specs.declared.Held.the-variants.{Nothing, Running, Waiting}
+use Rattle.line.specs.declared.Slot.{Slot}
+use Rattle.line.specs.Slots.{at, Each, total}
+use Rattle.line.specs.Sound.{Sound}
+use Rattle.line.specs.Shares.{owed, full}
+use Rattle.line.specs.Tick.{Owed, served, passed}
+use Rattle.table.specs.Step.{Earliest, serve, pass}
+use Rattle.theory.specs.Fine.{shareHeld, Divides, Shares, Busy, Kept, Lag}
 use Rattle.theory.proofs.Numbers.{split}
 use Rattle.theory.proofs.Sums.{total-le, total-add, total-set, total-pass}
 use Rattle.theory.proofs.Pump.{sound-serve, shares-serve}
 
 -- the lag of one slot over a tick: it rises by the share at most
-lag-passed : (M : ℕ) (h : Held) → Sound h → Divides M h → Kept h → owed M (passed h) + full M h ≤ owed M h + load M h + full M (passed h)
+lag-passed : (M : ℕ) (h : Held) → Sound h → Divides M h → Kept h → owed M (passed h) + full M h ≤ owed M h + shareHeld M h + full M (passed h)
 lag-passed M Nothing s d v = omega arith
 lag-passed M (Running r) s d v =
     split (r .period) (r .age + 1)
@@ -61,15 +62,16 @@ pub lag-pass : {M : ℕ} {l : List Slot} → Each Sound l → Shares M l → Eac
 lag-pass {M} {l} a v k =
     omega (
       arith,
-      total-le (λ h. owed M (passed h) + full M h) (λ h. owed M h + load M h + full M (passed h)) l (λ i b. lag-passed M (at l i) (a i b) (v .common i b) (k i b)),
+      total-le (λ h. owed M (passed h) + full M h) (λ h. owed M h + shareHeld M h + full M (passed h)) l (λ i b. lag-passed M (at l i) (a i b) (v .common i b) (k i b)),
       total-add (λ h. owed M (passed h)) (full M) l,
-      total-add (λ h. owed M h + load M h) (λ h. full M (passed h)) l,
-      total-add (owed M) (load M) l,
+      total-add (λ h. owed M h + shareHeld M h) (λ h. full M (passed h)) l,
+      total-add (owed M) (shareHeld M) l,
       total-pass (owed M) l,
       total-pass (full M) l,
       v .at-most-one,
     )
 
+-- R44: who serves an earliest end wastes no tick that somebody is owed
 pub earliest-busy : (o : Option ℕ) (l : List Slot) → Earliest o l → Busy o l
 earliest-busy none l e = e
 earliest-busy (some j) l e = (e .0, e .1)

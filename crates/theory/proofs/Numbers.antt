@@ -6,7 +6,7 @@ use native.Mathlib.Decide.{decLe}
 use native.Mathlib.Omega.{arith}
 use borrow.Author.Tests.{lt-ltb, le-ltb}
 use Rattle.periods.proofs.Whole.{whole, div-mono, div-anti, share-of-time}
-use Rattle.lines.specs.Demand.{due}
+use Rattle.line.specs.Demand.{due}
 
 by-le : {G : Type 0} (a b : ℕ) → Dec (a ≤ b) → (a ≤ b → G) → (b < a → G) → G
 by-le a b (yes h) f g = f h
@@ -16,10 +16,12 @@ by-le a b (no n) f g = g (omega arith)
 pub split : {G : Type 0} (a b : ℕ) → (a ≤ b → G) → (b < a → G) → G
 split a b f g = by-le a b (decLe a b) f g
 
+-- R10: nothing is due before e
 pub due-before : (e x C P t : ℕ) → t < e → due e x C P t ≡ 0
 unfolding due
 due-before e x C P t h = rw (lt-ltb t e h)
 
+-- R10: from e on x, and C more for each whole period since
 pub due-after : (e x C P t : ℕ) → e ≤ t → due e x C P t ≡ x + C * ((t - e) / P)
 unfolding due
 due-after e x C P t h = rw (le-ltb t e h)

@@ -5,32 +5,33 @@ use mathlib.Core.List.{List}
 use Prim.Native.Nat.{ℕ, zero, suc, _+_, _*_, _-_, _≤_, _<_}
 use native.Mathlib.Nat.{le-of-mul-le-mul-left, mul-le-mul-right}
 use native.Mathlib.Omega.{arith}
-use Rattle.lines.specs.declared.Slot.{Slot}
-use Rattle.lines.specs.Slots.{at, Each}
-use Rattle.lines.specs.Sound.{Sound}
-use Rattle.lines.specs.Demand.{endOf}
-use Rattle.lines.specs.Step.{Owed, Earliest, served, serve, passed, pass}
-use Rattle.theory.specs.Fine.{wanted, wantedAll, load, Divides, Shares, Fine, May, Kept, Reach, Safe}
+use Rattle.line.specs.declared.Slot.{Slot}
+use Rattle.line.specs.Slots.{at, Each}
+use Rattle.line.specs.Sound.{Sound}
+use Rattle.line.specs.Demand.{endOf}
+use Rattle.line.specs.Tick.{Owed, served, passed}
+use Rattle.table.specs.Step.{Earliest, serve, pass}
+use Rattle.theory.specs.Fine.{wanted, wantedAll, shareHeld, Divides, Shares, Fine, May, Kept, Reach, Safe}
 use Rattle.theory.proofs.Numbers.{split}
 use Rattle.theory.proofs.Sums.{total-le, total-eq, total-zero, total-mul, total-mulr, total-set, total-pass, one-le, each-pass, each-set}
-use Rattle.theory.proofs.Slotwise.{wanted-pass, served-late, served-early, served-any, end-of-owed, quiet, wanted-now, none-wanted, sound-passed, sound-served, load-passed, load-served, divides-passed, divides-served}
+use Rattle.theory.proofs.Slotwise.{wanted-pass, served-late, served-early, served-any, end-of-owed, wanted-within-share, wanted-now, none-wanted, sound-passed, sound-served, share-passed, share-served, divides-passed, divides-served}
 
 -- where nobody who is owed ends up to t, all demand is at most the time after the coming tick
-pub quiet-all : {M : ℕ} {l : List Slot} (k t : ℕ) → Each Sound l → Shares M l → Each (λ h. Owed h → t < endOf k h) l → wantedAll k l t ≤ t - suc k
-quiet-all {M} {l} k t a v q =
+pub wanted-all-within-shares : {M : ℕ} {l : List Slot} (k t : ℕ) → Each Sound l → Shares M l → Each (λ h. Owed h → t < endOf k h) l → wantedAll k l t ≤ t - suc k
+wanted-all-within-shares {M} {l} k t a v q =
     le-of-mul-le-mul-left
     (omega (
       arith,
-      total-le (λ h. M * wanted k h t) (λ h. load M h * (t - suc k)) l (λ i b. quiet M k (at l i) t (a i b) (v .common i b) (q i b)),
+      total-le (λ h. M * wanted k h t) (λ h. shareHeld M h * (t - suc k)) l (λ i b. wanted-within-share M k (at l i) t (a i b) (v .common i b) (q i b)),
       total-mul M (λ h. wanted k h t) l,
-      total-mulr (t - suc k) (load M) l,
+      total-mulr (t - suc k) (shareHeld M) l,
       mul-le-mul-right (t - suc k) (v .at-most-one),
     ))
     (v .some-frame)
 
 -- the tick that the earliest end gets is enough
 pub earliest-enough : {M k : ℕ} {l : List Slot} (o : Option ℕ) → Fine M k l → Earliest o l → (t : ℕ) → k < t → wantedAll k (serve o l) t ≤ t - suc k
-earliest-enough {M} {k} {l} none f e t b = quiet-all k t (f .sound) (f .shares) (λ i h v. absurd (e i h v))
+earliest-enough {M} {k} {l} none f e t b = wanted-all-within-shares k t (f .sound) (f .shares) (λ i h v. absurd (e i h v))
 earliest-enough {M} {k} {l} (some j) f e t b =
     let s = total-set (λ h. wanted k h t) l j (served (at l j)) (e .0) in
     let z = end-of-owed k (at l j) (f .sound j (e .0)) (e .1) in
@@ -40,31 +41,35 @@ earliest-enough {M} {k} {l} (some j) f e t b =
       arith,
       s,
       served-early k (at l j) t (e .1) g,
-      quiet-all k t (f .sound) (f .shares) (λ i h v. omega (arith, z, end-of-owed k (at l i) (f .sound i h) v, e .2 i h v)),
+      wanted-all-within-shares k t (f .sound) (f .shares) (λ i h v. omega (arith, z, end-of-owed k (at l i) (f .sound i h) v, e .2 i h v)),
     ))
 
+-- R45: sound lines stay so when one of them is served
 pub sound-serve : (o : Option ℕ) (l : List Slot) → May o l → Each Sound l → Each Sound (serve o l)
 sound-serve none l m a = a
 sound-serve (some j) l m a = each-set Sound l j (served (at l j)) a (sound-served (at l j) (a j (m .0)))
 
+-- R45 to R47: and when the tick has passed
 pub sound-pass : (l : List Slot) → Each Sound l → Each Sound (pass l)
 sound-pass l a = each-pass Sound l (λ i h. sound-passed (at l i) (a i h))
 
+-- R28: a served line has the same share
 pub shares-serve : {M : ℕ} {l : List Slot} (o : Option ℕ) → May o l → Shares M l → Shares M (serve o l)
 shares-serve {M} {l} none m v = v
 shares-serve {M} {l} (some j) m v =
     record {
       some-frame = v .some-frame;
       common = each-set (Divides M) l j (served (at l j)) (v .common) (divides-served M (at l j) (v .common j (m .0)));
-      at-most-one = omega (arith, total-set (load M) l j (served (at l j)) (m .0), load-served M (at l j), v .at-most-one);
+      at-most-one = omega (arith, total-set (shareHeld M) l j (served (at l j)) (m .0), share-served M (at l j), v .at-most-one);
     }
 
+-- R28: and no line has more of it a tick later
 pub shares-pass : {M : ℕ} {l : List Slot} → Shares M l → Shares M (pass l)
 shares-pass {M} {l} v =
     record {
       some-frame = v .some-frame;
       common = each-pass (Divides M) l (λ i h. divides-passed M (at l i) (v .common i h));
-      at-most-one = omega (arith, total-pass (load M) l, total-le (λ h. load M (passed h)) (load M) l (λ i h. load-passed M (at l i)), v .at-most-one);
+      at-most-one = omega (arith, total-pass (shareHeld M) l, total-le (λ h. shareHeld M (passed h)) (shareHeld M) l (λ i h. share-passed M (at l i)), v .at-most-one);
     }
 
 -- a tick of the clock in which no line is short changes no demand
@@ -73,6 +78,7 @@ wantedAll-pass k l t a v =
     total-pass (λ h. wanted (suc k) h t) l
     ∙ total-eq (λ h. wanted (suc k) (passed h) t) (λ h. wanted k h t) l (λ i b. wanted-pass k (at l i) t (a i b) (v i b))
 
+-- R44: who has an earliest end may be served
 pub earliest-may : (o : Option ℕ) (l : List Slot) → Earliest o l → May o l
 earliest-may none l e = tt
 earliest-may (some j) l e = (e .0, e .1)
@@ -104,6 +110,7 @@ pub serve-pays : (k : ℕ) (o : Option ℕ) (l : List Slot) (t : ℕ) → May o 
 serve-pays k none l t m = omega arith
 serve-pays k (some j) l t m = omega (arith, total-set (λ h. wanted k h t) l j (served (at l j)) (m .0), served-any k (at l j) t (m .1))
 
+-- R10: at the clock nothing is wanted yet
 pub wantedAll-now : (k : ℕ) (l : List Slot) → Each Sound l → wantedAll k l k ≡ 0
 wantedAll-now k l a = total-zero (λ h. wanted k h k) l (λ i b. wanted-now k (at l i) (a i b))
 

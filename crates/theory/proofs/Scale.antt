@@ -5,11 +5,11 @@ use Prim.Native.Nat.{ℕ, _+_, _*_, _/_, _∣_, _≤_}
 use native.Mathlib.Nat.{le-of-mul-le-mul-left, mul-le-mul-left}
 use native.Mathlib.Omega.{arith}
 use Rattle.periods.proofs.Whole.{share-scale}
-use Rattle.lines.specs.declared.Held.{Held}
-use Rattle.lines.specs.declared.Held.the-variants.{Nothing, Running, Waiting}
-use Rattle.lines.specs.declared.Slot.{Slot}
-use Rattle.lines.specs.Slots.{at, Each, total}
-use Rattle.lines.specs.Grounds.{share, owed, full}
+use Rattle.line.specs.declared.Held.{Held}
+use Rattle.line.specs.declared.Held.the-variants.{Nothing, Running, Waiting}
+use Rattle.line.specs.declared.Slot.{Slot}
+use Rattle.line.specs.Slots.{at, Each, total}
+use Rattle.line.specs.Shares.{share, owed, full}
 use Rattle.theory.specs.Fine.{Divides}
 use Rattle.theory.proofs.Sums.{total-eq, total-mul}
 

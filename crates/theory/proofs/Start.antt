@@ -8,12 +8,12 @@ use native.Mathlib.Decide.{decLt}
 use native.Mathlib.Omega.{arith}
 use Rattle.periods.specs.Multiples.{All}
 use Rattle.periods.proofs.Whole.{share-le}
-use Rattle.lines.specs.declared.Slot.{Slot}
-use Rattle.lines.specs.Demand.{newDemand, demands, Smooth, Least, lastEnd}
-use Rattle.lines.specs.Ask.{slack, bound, greatest, start, endsOf}
+use Rattle.line.specs.declared.Slot.{Slot}
+use Rattle.line.specs.Demand.{newDemand, demands, Smooth, Least, lastEnd}
+use Rattle.line.specs.Ends.{slack, bound, greatest, start, endsOf}
 use Rattle.theory.specs.Given.{Given, Alone, AnyEnd}
 use Rattle.theory.proofs.Numbers.{split, due-before, due-after}
-use Rattle.theory.proofs.Tail.{last-late, tail}
+use Rattle.theory.proofs.Tail.{last-late, no-excess-from-last-end}
 use Rattle.theory.proofs.Ends.{latest, demands-mono, any-late, ends-all, all-ends}
 
 -- ---- one end, on numbers alone
@@ -23,10 +23,10 @@ abbrev pub FitsAt : (Cn Tn last r d s : ℕ) → Type 0
 FitsAt Cn Tn last r d s = (t : ℕ) → d ≤ t → t < last → Cn * ((t - r) / Tn) ≤ s + (t - d)
 
 -- more periods than the slack pays for: the time since d pays for the others
-many : (Cn Tn last r d s t j : ℕ) → 1 ≤ Cn → Cn ≤ Tn → bound Cn Tn last d s ≤ r → d ≤ t → t < last
+time-pays-the-rest : (Cn Tn last r d s t j : ℕ) → 1 ≤ Cn → Cn ≤ Tn → bound Cn Tn last d s ≤ r → d ≤ t → t < last
     → s / Cn + 1 + j ≡ (t - r) / Tn → Cn * ((t - r) / Tn) ≤ s + (t - d)
 unfolding bound
-many Cn Tn last r d s t j h g b p q e =
+time-pays-the-rest Cn Tn last r d s t j h g b p q e =
     let k = (t - r) / Tn in
     let paid = div-add-mod s Cn in
     let part = mod-lt s h in
@@ -43,7 +43,7 @@ bound-enough Cn Tn last r d s h g b t p q =
       | yes l ↦
           let w : s / Cn + 1 ≤ (t - r) / Tn = omega arith in
           let j = le-dest w in
-          many Cn Tn last r d s t (j .0) h g b p q (j .1)
+          time-pays-the-rest Cn Tn last r d s t (j .0) h g b p q (j .1)
       | no n ↦
           let u : (t - r) / Tn ≤ s / Cn = omega arith in
           le-trans (le-trans (mul-le-mul-left Cn u) (mul-div-le s Cn)) (omega arith)
@@ -81,9 +81,9 @@ unfolding slack
 slack-is t0 l d a h = omega (arith, a d h)
 
 -- R13: every smooth start is at or after the bound of every tick before the last end
-pub needed : (F t0 : ℕ) (l : List Slot) (Cn Tn r : ℕ) → Given F l Cn Tn → Alone t0 l → Smooth t0 l (newDemand Cn Tn) r
+pub smooth-keeps-bounds : (F t0 : ℕ) (l : List Slot) (Cn Tn r : ℕ) → Given F l Cn Tn → Alone t0 l → Smooth t0 l (newDemand Cn Tn) r
     → (d : ℕ) → t0 ≤ d → d < lastEnd t0 l → bound Cn Tn (lastEnd t0 l) d (slack t0 l d) ≤ r
-needed F t0 l Cn Tn r g a sm d h b =
+smooth-keeps-bounds F t0 l Cn Tn r g a sm d h b =
     bound-needed Cn Tn (lastEnd t0 l) r d (slack t0 l d) (g .new-some) (omega (arith, g .new-some, g .new-fits)) b
     (λ t p q. omega (arith, slack-is t0 l d a h, demands-mono t0 l d t (g .sound) p, sm .no-excess t (omega arith), new-is Cn Tn r t))
 
@@ -111,11 +111,11 @@ before F t0 l Cn Tn r g a late b t h last =
     (latest t0 l (g .sound) t h)
 
 -- R13: a start that keeps every bound is smooth
-pub enough : (F t0 : ℕ) (l : List Slot) (Cn Tn r : ℕ) → Given F l Cn Tn → Alone t0 l → t0 ≤ r → Bounded t0 l Cn Tn r → Smooth t0 l (newDemand Cn Tn) r
-enough F t0 l Cn Tn r g a late b = record {
+pub bounds-make-smooth : (F t0 : ℕ) (l : List Slot) (Cn Tn r : ℕ) → Given F l Cn Tn → Alone t0 l → t0 ≤ r → Bounded t0 l Cn Tn r → Smooth t0 l (newDemand Cn Tn) r
+bounds-make-smooth F t0 l Cn Tn r g a late b = record {
   from-clock = late;
   no-excess = λ t h.
-      split (lastEnd t0 l) t (λ e. omega (arith, tail F t0 l Cn Tn r g late t e)) (λ e. omega (arith, before F t0 l Cn Tn r g a late b t h e));
+      split (lastEnd t0 l) t (λ e. omega (arith, no-excess-from-last-end F t0 l Cn Tn r g late t e)) (λ e. omega (arith, before F t0 l Cn Tn r g a late b t h e));
 }
 
 -- ---- the least smooth start
@@ -143,10 +143,10 @@ start-least F t0 l Cn Tn g a =
     let f : ℕ → ℕ = λ d. bound Cn Tn last d (slack t0 l d) in
     let ds = endsOf t0 last l in
     record {
-      smooth = enough F t0 l Cn Tn (greatest f t0 ds) g a (greatest-from f t0 ds)
+      smooth = bounds-make-smooth F t0 l Cn Tn (greatest f t0 ds) g a (greatest-from f t0 ds)
           (all-ends (λ d. f d ≤ greatest f t0 ds) t0 last l (g .sound) (greatest-all f t0 ds));
       least = λ u sm. greatest-least f t0 u ds (sm .from-clock)
-          (ends-all (λ d. f d ≤ u) t0 last l (g .sound) (λ d e b. needed F t0 l Cn Tn u g a sm d (omega (arith, any-late t0 l d (g .sound) e)) b));
+          (ends-all (λ d. f d ≤ u) t0 last l (g .sound) (λ d e b. smooth-keeps-bounds F t0 l Cn Tn u g a sm d (omega (arith, any-late t0 l d (g .sound) e)) b));
     }
 
 -- R14: there is only one
@@ -159,7 +159,7 @@ last-smooth F t0 l Cn Tn g a = record {
   from-clock = last-late t0 l;
   no-excess = λ t h.
       split (lastEnd t0 l) t
-      (λ e. omega (arith, tail F t0 l Cn Tn (lastEnd t0 l) g (last-late t0 l) t e))
+      (λ e. omega (arith, no-excess-from-last-end F t0 l Cn Tn (lastEnd t0 l) g (last-late t0 l) t e))
       (λ e. omega (arith, a t h, due-before (lastEnd t0 l) 0 Cn Tn t e));
 }
 

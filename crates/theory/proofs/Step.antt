@@ -8,21 +8,23 @@ use native.Mathlib.Numerals.{add-one}
 use native.Mathlib.Omega.{arith}
 use borrow.Author.Tests.{lt-ltb, le-ltb, lt-leb}
 use lib.ListN.{length}
-use Rattle.lines.specs.declared.Held.{Held}
-use Rattle.lines.specs.declared.Held.the-variants.{Nothing, Running, Waiting}
-use Rattle.lines.specs.declared.Slot.{Slot}
-use Rattle.lines.specs.declared.Table.{Table}
-use Rattle.lines.specs.Slots.{at, Each, lowestOf}
-use Rattle.lines.specs.Sound.{Sound, sound}
-use Rattle.lines.specs.Step.{Earliest, choose, serve, short, advance, stepOf}
-use Rattle.lines.proofs.Search.{true-false, none-found, lowest-none}
-use Rattle.lines.proofs.Sound.{says-sound}
-use Rattle.lines.proofs.Choice.{chosen-is, chosen-earliest}
+use Rattle.line.specs.declared.Held.{Held}
+use Rattle.line.specs.declared.Held.the-variants.{Nothing, Running, Waiting}
+use Rattle.line.specs.declared.Slot.{Slot}
+use Rattle.table.specs.declared.Table.{Table}
+use Rattle.line.specs.Slots.{at, Each, lowestOf}
+use Rattle.line.specs.Sound.{Sound, sound}
+use Rattle.table.specs.Step.{Earliest, choose, serve, advance, stepOf}
+use Rattle.line.specs.Tick.{short}
+use Rattle.line.proofs.Search.{true-false, none-found, lowest-none}
+use Rattle.line.proofs.Sound.{says-sound}
+use Rattle.table.proofs.Choice.{chosen-is, chosen-earliest}
 use Rattle.theory.specs.Fine.{Fine, Kept, Lag, ticked}
 use Rattle.theory.proofs.Numbers.{split}
 use Rattle.theory.proofs.Pump.{never-short, fine-kept}
 use Rattle.theory.proofs.Lagging.{earliest-busy, lag-kept}
 
+-- R34: a period that is kept does not end short
 pub kept-short : (h : Held) → Kept h → short h ≡ false
 kept-short Nothing v = refl
 kept-short (Running r) v =
@@ -31,6 +33,7 @@ kept-short (Running r) v =
     (λ g. rw (lt-ltb (r .age + 1) (r .period) g))
 kept-short (Waiting w) v = refl
 
+-- R34: and one that does not end short is kept
 pub short-kept : (h : Held) → short h ≡ false → Kept h
 short-kept Nothing e = tt
 short-kept (Running r) e = λ g.
@@ -39,12 +42,15 @@ short-kept (Running r) e = λ g.
     (λ b. omega arith)
 short-kept (Waiting w) e = tt
 
+-- R34: where every period is kept the step finds none that ends short
 pub none-short : (l : List Slot) → Each Kept l → lowestOf short l ≡ none
 none-short l v = none-found (λ i. short (at l i)) (length l) (λ i b. kept-short (at l i) (v i b))
 
+-- R34: where the step finds none, every period is kept
 pub short-none : (l : List Slot) → lowestOf short l ≡ none → Each Kept l
 short-none l e i b = short-kept (at l i) (lowest-none (λ n. short (at l n)) (length l) e i b)
 
+-- R24: where every line is sound none is found that is not
 pub none-unsound : (l : List Slot) → Each Sound l → lowestOf (λ h. not (sound h)) l ≡ none
 none-unsound l a = none-found (λ i. not (sound (at l i))) (length l) (λ i b. ap not (says-sound (at l i) (a i b)))
 
@@ -69,6 +75,7 @@ pub fine-stepped : {M : ℕ} (t : Table) → Fine M (t .clock) (t .slots) → t 
 fine-stepped {M} t f b =
     rw (fine-step t f b, add-one) (fine-kept (choose (t .slots)) f (choose-earliest (t .slots)))
 
+-- R29, R48: a step of a fine table leaves nobody further behind
 pub lag-stepped : {M : ℕ} (t : Table) → Fine M (t .clock) (t .slots) → Lag M (t .slots) → t .clock < 2 ^ 48 → Lag M (stepOf t .table .slots)
 lag-stepped {M} t f g b =
     let o = choose (t .slots) in

@@ -6,27 +6,18 @@ use native.Mathlib.Nat.{le-of-mul-le-mul-left, mul-le-mul-left, mul-le-mul-right
 use native.Mathlib.Omega.{arith}
 use lib.ListN.{length}
 use Rattle.periods.proofs.Whole.{whole}
-use Rattle.lines.specs.declared.Held.{Held}
-use Rattle.lines.specs.declared.Held.the-variants.{Nothing, Running, Waiting}
-use Rattle.lines.specs.declared.Slot.{Slot}
-use Rattle.lines.specs.Slots.{at, Each, Waits}
-use Rattle.lines.specs.Sound.{Sound}
-use Rattle.lines.specs.Demand.{demand, demands}
-use Rattle.lines.specs.Grounds.{stretch, stretched, Shrunk, owed, full}
+use Rattle.line.specs.declared.Held.{Held}
+use Rattle.line.specs.declared.Held.the-variants.{Nothing, Running, Waiting}
+use Rattle.line.specs.declared.Slot.{Slot}
+use Rattle.line.specs.Slots.{at, Each, Waits}
+use Rattle.line.specs.Sound.{Sound}
+use Rattle.line.specs.Demand.{demand, demands}
+use Rattle.line.specs.Stretch.{stretch, stretched, Shrunk}
+use Rattle.line.specs.Shares.{owed, full}
+use Rattle.line.proofs.Stretched.{length-stretched, at-stretched}
 use Rattle.theory.specs.Fine.{wanted, wantedAll, Divides, Shares, Fine, Lag, Longer}
 use Rattle.theory.proofs.Numbers.{split, due-longer}
 use Rattle.theory.proofs.Sums.{total-le, total-mul, total-le-two}
-
-pub length-stretched : (l : List Slot) (p : ℕ → ℕ) → length (stretched l p) ≡ length l
-unfolding stretched
-length-stretched [] p = refl
-length-stretched (s ∷ l) p = ap suc (length-stretched l (λ i. p (suc i)))
-
-pub at-stretched : (l : List Slot) (p : ℕ → ℕ) (i : ℕ) → at (stretched l p) i ≡ stretch (p i) (at l i)
-unfolding stretched
-at-stretched [] p i = refl
-at-stretched (s ∷ l) p zero = refl
-at-stretched (s ∷ l) p (suc i) = at-stretched l (λ k. p (suc k)) i
 
 not-shrunk : (p q : ℕ) → (p < q → ⊥) → q ≤ p
 not-shrunk p q n = split q p (λ g. g) (λ g. absurd (n g))
@@ -37,11 +28,13 @@ each-stretched Q R l p f n a i b =
     let c : i < length l = rw (← length-stretched l p) b in
     rw (at-stretched l p i) (f (p i) (at l i) (n i c) (a i c))
 
+-- R5, R25: a sound line is sound at a period that is not shorter
 pub stretch-sound : (p : ℕ) (h : Held) → (Shrunk p h → ⊥) → Sound h → Sound (stretch p h)
 stretch-sound p Nothing n s = s
 stretch-sound p (Running r) n s = let g = not-shrunk p (r .period) n in omega arith
 stretch-sound p (Waiting w) n s = s
 
+-- R5, R25: and so are all of them
 pub sound-stretched : (l : List Slot) (p : ℕ → ℕ) → Longer l p → Each Sound l → Each Sound (stretched l p)
 sound-stretched l p n a = each-stretched Sound Sound l p stretch-sound n a
 
@@ -50,6 +43,7 @@ stretch-waits p Nothing n v = v
 stretch-waits p (Running r) n v = v
 stretch-waits p (Waiting w) n v = v
 
+-- R23: where no line waits none does after stretching
 pub running-stretched : (l : List Slot) (p : ℕ → ℕ) → Longer l p → Each (λ h. Waits h → ⊥) l → Each (λ h. Waits h → ⊥) (stretched l p)
 running-stretched l p n a = each-stretched (λ h. Waits h → ⊥) (λ h. Waits h → ⊥) l p stretch-waits n a
 
@@ -59,6 +53,7 @@ wanted-longer k p Nothing t s n = omega arith
 wanted-longer k p (Running r) t s n = due-longer k (r .age) (r .remaining) (r .need) (r .period) p t (omega arith) (not-shrunk p (r .period) n)
 wanted-longer k p (Waiting w) t s n = omega arith
 
+-- R42: at longer periods no more is wanted by t
 pub wantedAll-longer : (k : ℕ) (l : List Slot) (p : ℕ → ℕ) (t : ℕ) → Each Sound l → Longer l p → wantedAll k (stretched l p) t ≤ wantedAll k l t
 wantedAll-longer k l p t a n =
     total-le-two (λ h. wanted k h t) (λ h. wanted k h t) (stretched l p) l (length-stretched l p)

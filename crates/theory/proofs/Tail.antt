@@ -4,13 +4,13 @@ use mathlib.Core.List.{List, [], _∷_}
 use Prim.Native.Nat.{ℕ, zero, suc, _+_, _*_, _-_, _≤_}
 use native.Mathlib.Nat.{le-of-mul-le-mul-left, mul-le-mul-right, not-suc-le-zero}
 use native.Mathlib.Omega.{arith}
-use Rattle.lines.specs.declared.Held.{Held}
-use Rattle.lines.specs.declared.Held.the-variants.{Nothing, Running, Waiting}
-use Rattle.lines.specs.declared.Slot.{Slot}
-use Rattle.lines.specs.Slots.{at, Each, total}
-use Rattle.lines.specs.Sound.{Sound}
-use Rattle.lines.specs.Demand.{demand, newDemand, demands, endOf, lastEnd}
-use Rattle.lines.specs.Grounds.{share, owed, full}
+use Rattle.line.specs.declared.Held.{Held}
+use Rattle.line.specs.declared.Held.the-variants.{Nothing, Running, Waiting}
+use Rattle.line.specs.declared.Slot.{Slot}
+use Rattle.line.specs.Slots.{at, Each, total}
+use Rattle.line.specs.Sound.{Sound}
+use Rattle.line.specs.Demand.{demand, newDemand, demands, endOf, lastEnd}
+use Rattle.line.specs.Shares.{share, owed, full}
 use Rattle.theory.specs.Fine.{Divides}
 use Rattle.theory.specs.Given.{Given}
 use Rattle.theory.proofs.Numbers.{due-share, due-late}
@@ -22,6 +22,7 @@ unfolding lastEnd
 last-late t0 [] = omega arith
 last-late t0 (s ∷ l) = omega (arith, last-late t0 l)
 
+-- R15: no first end comes after the last end
 pub last-each : (t0 : ℕ) (l : List Slot) → Each (λ h. endOf t0 h ≤ lastEnd t0 l) l
 unfolding lastEnd
 last-each t0 [] i b = absurd (not-suc-le-zero b)
@@ -35,6 +36,7 @@ one-late F t0 Nothing t s d b = omega arith
 one-late F t0 (Running r) t s d b = due-late F t0 (r .age) (r .remaining) (r .need) (r .period) t d (omega arith) b
 one-late F t0 (Waiting w) t s d b = omega arith
 
+-- R28, R29: from the last end on, F times the demand is at most what the sum of R29 leaves and the shares of the time
 pub all-late : (F t0 : ℕ) (l : List Slot) (t : ℕ) → Each Sound l → Each (Divides F) l → lastEnd t0 l ≤ t
     → F * demands t0 l t + total (full F) l ≤ total (owed F) l + total (share F) l * (t - t0)
 all-late F t0 l t s d b =
@@ -49,9 +51,9 @@ all-late F t0 l t s d b =
     )
 
 -- R13, R15: from the last end on there is no excess, wherever the new line starts
-pub tail : (F t0 : ℕ) (l : List Slot) (Cn Tn r : ℕ) → Given F l Cn Tn → t0 ≤ r
+pub no-excess-from-last-end : (F t0 : ℕ) (l : List Slot) (Cn Tn r : ℕ) → Given F l Cn Tn → t0 ≤ r
     → (t : ℕ) → lastEnd t0 l ≤ t → demands t0 l t + newDemand Cn Tn r t ≤ t - t0
-tail F t0 l Cn Tn r g late t h =
+no-excess-from-last-end F t0 l Cn Tn r g late t h =
     le-of-mul-le-mul-left
     (omega (
       arith,

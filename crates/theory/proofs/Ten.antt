@@ -7,15 +7,15 @@ use Prim.Native.Nat.{ℕ, _-_, _≤_, _<_}
 use native.Mathlib.Omega.{arith}
 use borrow.Author.Tests.{ltb-false, ltb-true}
 use Rattle.periods.specs.Multiples.{All}
-use Rattle.lines.specs.declared.Slot.{Slot}
-use Rattle.lines.specs.Slots.{Each, pick}
-use Rattle.lines.specs.Sound.{Sound}
-use Rattle.lines.specs.Demand.{demands, excess, lastEnd}
-use Rattle.lines.specs.Ask.{anyOf, shortAt, endsOf}
-use Rattle.lines.proofs.Search.{true-false}
+use Rattle.line.specs.declared.Slot.{Slot}
+use Rattle.line.specs.Slots.{Each, pick}
+use Rattle.line.specs.Sound.{Sound}
+use Rattle.line.specs.Demand.{demands, excess, lastEnd}
+use Rattle.line.specs.Ends.{anyOf, shortAt, endsOf}
+use Rattle.line.proofs.Search.{true-false}
 use Rattle.theory.specs.Given.{Given, Alone, AnyEnd}
 use Rattle.theory.proofs.Numbers.{split}
-use Rattle.theory.proofs.Tail.{tail}
+use Rattle.theory.proofs.Tail.{no-excess-from-last-end}
 use Rattle.theory.proofs.Ends.{latest, any-late, ends-all, all-ends}
 
 -- the running lines alone have excess at t
@@ -28,7 +28,7 @@ pub ten-at-ends : (F t0 : ℕ) (l : List Slot) (Cn Tn t : ℕ) → Given F l Cn 
     → (d : ℕ) × (d ≤ t) × (d < lastEnd t0 l) × AnyEnd t0 l d × Excess t0 l d
 ten-at-ends F t0 l Cn Tn t g x =
     split (lastEnd t0 l) t
-    (λ h. absurd (omega (arith, tail F t0 l Cn Tn t0 g (omega arith) t h, x .above)))
+    (λ h. absurd (omega (arith, no-excess-from-last-end F t0 l Cn Tn t0 g (omega arith) t h, x .above)))
     (λ h. ⊎-elim
     (λ z. absurd (omega (arith, z, x .above)))
     (λ z. let n = any-late t0 l (z .0) (g .sound) (z .2) in
@@ -64,8 +64,8 @@ any-some P test (d ∷ ds) e a = go (test d) refl e (any-some P test ds)
     go false b e rest = rest e (a .1)
 
 -- it finds no end: nowhere any excess
-pub quiet : (F t0 : ℕ) (l : List Slot) (Cn Tn : ℕ) → Given F l Cn Tn → anyOf (shortAt t0 l) (endsOf t0 (lastEnd t0 l) l) ≡ false → Alone t0 l
-quiet F t0 l Cn Tn g e =
+pub alone-without-short-end : (F t0 : ℕ) (l : List Slot) (Cn Tn : ℕ) → Given F l Cn Tn → anyOf (shortAt t0 l) (endsOf t0 (lastEnd t0 l) l) ≡ false → Alone t0 l
+alone-without-short-end F t0 l Cn Tn g e =
     alone-by-ends F t0 l Cn Tn g
     (λ d a b. omega (arith, ltb-false 0 (excess (demands t0 l d) t0 d) (all-ends (λ d. shortAt t0 l d ≡ false) t0 (lastEnd t0 l) l (g .sound) (any-none (shortAt t0 l) _ e) d a b)))
 

@@ -9,17 +9,19 @@ use native.Mathlib.Omega.{arith}
 use borrow.Author.Tests.{ltb-true, leb-true, leb-false, lt-ltb}
 use lib.Dec.{leb}
 use Rattle.periods.specs.Multiples.{All}
-use Rattle.lines.specs.declared.Held.{Held}
-use Rattle.lines.specs.declared.Held.the-variants.{Nothing, Running, Waiting}
-use Rattle.lines.specs.declared.Slot.{Slot}
-use Rattle.lines.specs.Slots.{both, Each, isNothing, isWaiting, Waits, Lowest, lowest}
-use Rattle.lines.specs.Sound.{Sound}
-use Rattle.lines.specs.Grounds.{Shrunk, periodIn, periodsIn}
-use Rattle.lines.specs.Ask.{shrunk, isNone}
-use Rattle.lines.proofs.Search.{true-false, lowest-is, lowest-none}
+use Rattle.line.specs.declared.Held.{Held}
+use Rattle.line.specs.declared.Held.the-variants.{Nothing, Running, Waiting}
+use Rattle.line.specs.declared.Slot.{Slot}
+use Rattle.line.specs.Slots.{both, Each, isNothing, isWaiting, Waits, Lowest, lowest}
+use Rattle.line.specs.Sound.{Sound}
+use Rattle.line.specs.Stretch.{Shrunk, shrunk}
+use Rattle.line.specs.Shares.{periodIn, periodsIn}
+use Rattle.table.specs.Ask.{isNone}
+use Rattle.line.proofs.Search.{true-false, lowest-is, lowest-none}
 use Rattle.theory.specs.Fine.{Divides}
 use Rattle.theory.proofs.Ends.{append-all, all-append}
 
+-- R19: a search finds the lowest of which P holds, where its test says P
 pub lowest-of : (P : ℕ → Type 0) (test : ℕ → Bool) (n k : ℕ) → ((i : ℕ) → test i ≡ true → P i) → ((i : ℕ) → P i → test i ≡ false → ⊥)
     → lowest test n ≡ some k → Lowest P n k
 lowest-of P test n k yes-is no-not e =
@@ -30,51 +32,52 @@ lowest-of P test n k yes-is no-not e =
     by-bool true f g = f refl
     by-bool false f g = g refl
 
+-- R19: a search that finds nothing leaves none of which P holds
 pub none-of : (P : ℕ → Type 0) (test : ℕ → Bool) (n : ℕ) → ((i : ℕ) → P i → test i ≡ false → ⊥)
     → lowest test n ≡ none → (i : ℕ) → i < n → P i → ⊥
 none-of P test n no-not e i b p = no-not i p (lowest-none test n e i b)
 
+-- R22: the test says that a slot is empty
 pub nothing-says : (h : Held) → isNothing h ≡ true → h ≡ Nothing
 nothing-says Nothing e = refl
 nothing-says (Running r) e = absurd (true-false e refl)
 nothing-says (Waiting w) e = absurd (true-false e refl)
 
+-- R23: the test says that a line waits
 pub waits-says : (h : Held) → isWaiting h ≡ true → Waits h
 waits-says Nothing e = true-false e refl
 waits-says (Running r) e = true-false e refl
 waits-says (Waiting w) e = tt
 
+-- R23: and a line that waits passes it
 pub waits-not : (h : Held) → Waits h → isWaiting h ≡ false → ⊥
 waits-not Nothing v e = v
 waits-not (Running r) v e = v
 waits-not (Waiting w) v e = true-false refl e
 
-pub not-true : (b : Bool) → not b ≡ true → b ≡ false
-not-true true e = absurd (true-false e refl)
-not-true false e = refl
-
-pub not-false : (b : Bool) → not b ≡ false → b ≡ true
-not-false true e = refl
-not-false false e = absurd (true-false refl e)
-
+-- R25: the test says that a period would be shortened
 pub shrunk-says : (p : ℕ) (h : Held) → shrunk p h ≡ true → Shrunk p h
 shrunk-says p Nothing e = true-false e refl
 shrunk-says p (Running r) e = ltb-true _ _ e
 shrunk-says p (Waiting w) e = true-false e refl
 
+-- R25: and a period that would be passes it
 pub shrunk-not : (p : ℕ) (h : Held) → Shrunk p h → shrunk p h ≡ false → ⊥
 shrunk-not p Nothing v e = v
 shrunk-not p (Running r) v e = true-false (lt-ltb _ _ v) e
 shrunk-not p (Waiting w) v e = v
 
+-- what is not none is some slot
 pub some-of : (o : Option ℕ) → isNone o ≡ false → (k : ℕ) × (o ≡ some k)
 some-of none e = absurd (true-false refl e)
 some-of (some k) e = (k, refl)
 
+-- the test says that there is none
 pub none-is : (o : Option ℕ) → isNone o ≡ true → o ≡ none
 none-is none e = refl
 none-is (some k) e = absurd (true-false e refl)
 
+-- R26: the test says that the new line fits its period
 pub fits-says : (C P : ℕ) → both (leb 1 C) (leb C P) ≡ true → (1 ≤ C) × (C ≤ P)
 fits-says C P e = go (leb 1 C) refl e
   where
@@ -82,6 +85,7 @@ fits-says C P e = go (leb 1 C) refl e
     go true a e = (leb-true _ _ a, leb-true _ _ e)
     go false a e = absurd (true-false e refl)
 
+-- R26: and a new line that fits passes it
 pub fits-not : (C P : ℕ) → both (leb 1 C) (leb C P) ≡ false → (1 ≤ C) × (C ≤ P) → ⊥
 fits-not C P e h = go (leb 1 C) refl e
   where
@@ -91,6 +95,7 @@ fits-not C P e h = go (leb 1 C) refl e
 
 -- ---- the frame divides by every period
 
+-- R8: a common multiple of the running lines' periods is one for every slot, where no line waits
 pub periods-divide : (F : ℕ) (l : List Slot) → Each (λ h. Waits h → ⊥) l → All (λ p. p ∣ F) (periodsIn l) → Each (Divides F) l
 unfolding periodsIn
 periods-divide F [] n a i b = absurd (not-suc-le-zero b)
@@ -103,6 +108,7 @@ periods-divide F (s ∷ l) n a zero b = one (s .held) (n 0 b) (all-append (λ p.
 periods-divide F (s ∷ l) n a (suc i) b =
     periods-divide F l (λ j c. n (suc j) (omega arith)) (all-append (λ p. p ∣ F) (periodIn (s .held)) (periodsIn l) a .1) i (omega arith)
 
+-- R5: the periods of sound lines are at least 1
 pub periods-pos : (l : List Slot) → Each Sound l → All (λ p. 1 ≤ p) (periodsIn l)
 unfolding periodsIn
 periods-pos [] s = tt

@@ -8,28 +8,34 @@ use native.Mathlib.Omega.{arith}
 use borrow.Author.Tests.{lt-ltb, le-ltb, eq-eqb, ne-eqb}
 use lib.ListN.{length, length-set, length-map, List·getD-map}
 use lib.Seq.{getD-set-same, getD-set-other}
-use Rattle.lines.specs.declared.Held.the-variants.{Waiting}
-use Rattle.lines.specs.declared.Slot.{Slot}
-use Rattle.lines.specs.Slots.{empty, at}
-use Rattle.lines.specs.Admit.{newLine}
-use Rattle.lines.specs.Step.{Owed, served, serve, passed, passedSlot, pass}
-use Rattle.lines.specs.Runs.{isSlot}
+use Rattle.line.specs.declared.Held.the-variants.{Waiting}
+use Rattle.line.specs.declared.Slot.{Slot}
+use Rattle.line.specs.Slots.{empty, at}
+use Rattle.table.specs.Admit.{newLine}
+use Rattle.line.specs.Tick.{Owed, served, passed, passedSlot}
+use Rattle.table.specs.Step.{serve, pass}
+use Rattle.table.specs.Runs.{isSlot}
 use Rattle.theory.specs.Fine.{line, May}
 use Rattle.theory.proofs.Numbers.{split}
 
+-- R45 to R47: what slot i holds a tick later
 pub at-pass : (l : List Slot) (i : ℕ) → at (pass l) i ≡ passed (at l i)
 at-pass l i = ap (λ (s : Slot). s .held) (List·getD-map passedSlot l i empty)
 
+-- serving leaves the number of slots as it was
 pub length-serve : (o : Option ℕ) (l : List Slot) → length (serve o l) ≡ length l
 length-serve none l = refl
 length-serve (some k) l = length-set l k (record { held = served (at l k) })
 
+-- a tick leaves the number of slots as it was
 pub length-tick : (o : Option ℕ) (l : List Slot) → length (pass (serve o l)) ≡ length l
 length-tick o l = length-map (serve o l) passedSlot ∙ length-serve o l
 
+-- R45: the slot named is served
 pub at-served : (l : List Slot) (j : ℕ) → j < length l → at (serve (some j) l) j ≡ served (at l j)
 at-served l j h = ap (λ (s : Slot). s .held) (getD-set-same l j (record { held = served (at l j) }) empty h)
 
+-- R45: and no other is touched
 pub at-others : (l : List Slot) (k j : ℕ) → (k ≡ j → ⊥) → at (serve (some k) l) j ≡ at l j
 at-others l k j n = ap (λ (s : Slot). s .held) (getD-set-other l k j (record { held = served (at l k) }) empty (λ z. n (sym z)))
 
@@ -66,5 +72,6 @@ nearer C P w =
     (λ g. let e : suc w - 1 ≡ w = omega arith in
     rw (lt-ltb 1 (suc w) (omega arith), lt-ltb 0 w g, e)))
 
+-- R43: a line that waits is owed nothing
 pub not-yet : (C P w : ℕ) → Owed (newLine C P (suc w)) → ⊥
 not-yet C P w v = let z : Owed (Waiting (record { need = C; period = P; wait = suc w })) = rw waiting at v in z

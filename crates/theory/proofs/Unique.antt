@@ -4,15 +4,16 @@ use mathlib.Core.Logic.{inl, inr}
 use mathlib.Core.List.{List, [], _∷_}
 use Prim.Native.Nat.{ℕ}
 use native.Mathlib.Omega.{arith}
-use Rattle.lines.specs.declared.Table.{Table}
-use Rattle.lines.specs.declared.Request.{Request}
-use Rattle.lines.specs.declared.Refusal.{Refusal}
-use Rattle.lines.specs.declared.Answer.{Answer}
-use Rattle.lines.specs.declared.Answer.the-variants.{Start, Refused}
-use Rattle.lines.specs.Slots.{Lowest, refusal, Said, gives, refuses}
-use Rattle.lines.specs.Demand.{newDemand}
-use Rattle.lines.specs.Grounds.{asked, Row, grounds, FirstOf, NoneOf, Answers}
-use Rattle.lines.specs.Ask.{says, askOf}
+use Rattle.table.specs.declared.Table.{Table}
+use Rattle.table.specs.declared.Request.{Request}
+use Rattle.table.specs.declared.Refusal.{Refusal}
+use Rattle.table.specs.declared.Answer.{Answer}
+use Rattle.table.specs.declared.Answer.the-variants.{Start, Refused}
+use Rattle.line.specs.Slots.{Lowest}
+use Rattle.table.specs.Words.{refusal, Said, gives, refuses}
+use Rattle.line.specs.Demand.{newDemand}
+use Rattle.table.specs.Grounds.{asked, Row, grounds, FirstOf, NoneOf, Answers}
+use Rattle.table.specs.Ask.{says, askOf}
 use Rattle.theory.proofs.Numbers.{split}
 use Rattle.theory.proofs.Start.{least-unique}
 use Rattle.theory.proofs.Answers.{ask-answers}

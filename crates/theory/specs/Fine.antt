@@ -4,17 +4,20 @@ use mathlib.Core.Path.{_≡_}
 use mathlib.Core.List.{List}
 use mathlib.Core.Option.{Option, none, some}
 use lib.ListN.{length}
-use Rattle.lines.specs.declared.Held.{Held}
-use Rattle.lines.specs.declared.Held.the-variants.{Nothing, Running, Waiting}
-use Rattle.lines.specs.declared.Slot.{Slot}
-use Rattle.lines.specs.declared.Table.{Table}
-use Rattle.lines.specs.declared.Outcome.the-variants.{Ran}
-use Rattle.lines.specs.declared.Stepped.{Stepped}
-use Rattle.lines.specs.Slots.{at, Each, total}
-use Rattle.lines.specs.Sound.{Sound}
-use Rattle.lines.specs.Demand.{demand, newDemand}
-use Rattle.lines.specs.Grounds.{Shrunk, share, owed, full}
-use Rattle.lines.specs.Step.{whichOf, Owed, Earliest, serve, pass}
+use Rattle.line.specs.declared.Held.{Held}
+use Rattle.line.specs.declared.Held.the-variants.{Nothing, Running, Waiting}
+use Rattle.line.specs.declared.Slot.{Slot}
+use Rattle.table.specs.declared.Table.{Table}
+use Rattle.table.specs.declared.Outcome.the-variants.{Ran}
+use Rattle.table.specs.declared.Stepped.{Stepped}
+use Rattle.line.specs.Slots.{at, Each, total}
+use Rattle.line.specs.Sound.{Sound}
+use Rattle.line.specs.Demand.{demand, newDemand}
+use Rattle.line.specs.Stretch.{Shrunk}
+use Rattle.line.specs.Shares.{share, owed, full}
+use Rattle.table.specs.Words.{whichOf}
+use Rattle.line.specs.Tick.{Owed}
+use Rattle.table.specs.Step.{Earliest, serve, pass}
 
 -- a running line by its four numbers
 abbrev pub line : (C T a c : ℕ) → Held
@@ -31,10 +34,10 @@ abbrev pub wantedAll : ℕ → List Slot → ℕ → ℕ
 wantedAll k l t = total (λ h. wanted k h t) l
 
 -- R16: C/T times M, of waiting lines too
-abbrev pub load : ℕ → Held → ℕ
-load M Nothing = 0
-load M (Running r) = share M (Running r)
-load M (Waiting w) = w .need * (M / w .period)
+abbrev pub shareHeld : ℕ → Held → ℕ
+shareHeld M Nothing = 0
+shareHeld M (Running r) = share M (Running r)
+shareHeld M (Waiting w) = w .need * (M / w .period)
 
 -- M is a multiple of the line's period
 abbrev pub Divides : ℕ → Held → Type 0
@@ -46,7 +49,7 @@ Divides M (Waiting w) = w .period ∣ M
 pub record Shares (M : ℕ) (l : List Slot) : Type 0 where
   pub some-frame : 0 < M
   pub common : Each (Divides M) l
-  pub at-most-one : total (load M) l ≤ M
+  pub at-most-one : total (shareHeld M) l ≤ M
 
 -- what a step keeps: at the clock k every line is sound, the shares fit, and no t has excess
 pub record Fine (M k : ℕ) (l : List Slot) : Type 0 where

@@ -4,15 +4,16 @@ use mathlib.Core.Path.{_≡_}
 use mathlib.Core.List.{List}
 use mathlib.Core.Option.{some}
 use lib.ListN.{length}
-use Rattle.lines.specs.declared.Held.{Held}
-use Rattle.lines.specs.declared.Held.the-variants.{Nothing, Running, Waiting}
-use Rattle.lines.specs.declared.Slot.{Slot}
-use Rattle.lines.specs.declared.Table.{Table}
-use Rattle.lines.specs.declared.Request.{Request}
-use Rattle.lines.specs.Slots.{at, Each, total, isNothing, Waits, lowestOf}
-use Rattle.lines.specs.Sound.{Sound}
-use Rattle.lines.specs.Demand.{firstEnd, demands, newDemand, Least}
-use Rattle.lines.specs.Grounds.{entry, asked, frame, share, owed, full}
+use Rattle.line.specs.declared.Held.{Held}
+use Rattle.line.specs.declared.Held.the-variants.{Nothing, Running, Waiting}
+use Rattle.line.specs.declared.Slot.{Slot}
+use Rattle.table.specs.declared.Table.{Table}
+use Rattle.table.specs.declared.Request.{Request}
+use Rattle.line.specs.Slots.{at, Each, total, isNothing, Waits, lowestOf}
+use Rattle.line.specs.Sound.{Sound}
+use Rattle.line.specs.Demand.{firstEnd, demands, newDemand, Least}
+use Rattle.table.specs.Grounds.{entry, asked}
+use Rattle.line.specs.Shares.{frame, share, owed, full}
 use Rattle.theory.specs.Fine.{Divides, Longer}
 
 -- R24, R26, R28, R29: none of these grounds holds of the lines l at their T' and the new line (Cn, Tn), the sums taken times a common multiple F

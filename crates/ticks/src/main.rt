@@ -1,12 +1,12 @@
 // The pump driver (R51) at work, held to what the independent program, `oracle stored`, writes from the step rule (R48) alone:
 // case A's admitted table to tick 64, the last tick and beyond, an unsound line, and a period that ends short.
-use lines::Held;
-use lines::Outcome;
-use lines::Run;
-use lines::Slot;
-use lines::Table;
-use lines::Wait;
-use lines::Which;
+use line::Held;
+use line::Run;
+use line::Slot;
+use line::Wait;
+use table::Outcome;
+use table::Table;
+use table::Which;
 
 fn running(need: u16, period: u16, age: u16, remaining: u16) -> Slot {
     Slot {

@@ -3,7 +3,7 @@
 ghost use mathlib.Core.Path.{_≡_};
 ghost use Prim.Native.Nat.{_+_, _≤_};
 ghost use lib.ListN.{length, take};
-use lines::Answer;
+use table::Answer;
 
 fn wide(b: u8) -> usize
     ensures { λ r. ⌜ r ≤ 255 ⌝ }

@@ -18,8 +18,8 @@ use crate::spoil::Way;
 use card::CardAnswer;
 use card::ReadCard;
 use card::WriteAnswer;
-use lines::Request;
-use lines::Table;
+use table::Request;
+use table::Table;
 
 // The digest after a write, and its answer.
 struct Written {

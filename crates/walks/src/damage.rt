@@ -6,11 +6,11 @@ use crate::generator::below;
 use crate::numbers::low;
 use crate::spoil;
 use crate::spoil::Way;
-use lines::Held;
-use lines::Request;
-use lines::Run;
-use lines::Slot;
-use lines::Table;
+use line::Held;
+use line::Run;
+use line::Slot;
+use table::Request;
+use table::Table;
 
 // A slot, and the generator after its numbers were drawn.
 struct Redrawn {

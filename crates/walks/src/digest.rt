@@ -1,9 +1,9 @@
 // WALKS.md, "The digest".
 use crate::Said;
-use lines::Held;
-use lines::Request;
-use lines::Slot;
-use lines::Table;
+use line::Held;
+use line::Slot;
+use table::Request;
+use table::Table;
 
 // v × 1099511628211 (mod 2^64), of halves of 32 bits as in the generator.
 fn multiplied(v: u64) -> u64 {

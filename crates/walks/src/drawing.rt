@@ -13,11 +13,11 @@ use crate::numbers::quotient;
 use crate::numbers::smaller;
 use crate::numbers::times;
 use crate::numbers::unused;
-use lines::Held;
-use lines::Request;
-use lines::Run;
-use lines::Slot;
-use lines::Table;
+use line::Held;
+use line::Run;
+use line::Slot;
+use table::Request;
+use table::Table;
 
 // One stretched period, and what its line uses of the base.
 struct Entry {

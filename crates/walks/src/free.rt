@@ -3,12 +3,12 @@ use crate::Scene;
 use crate::generator::Drawn;
 use crate::generator::below;
 use crate::numbers::low;
-use lines::Held;
-use lines::Request;
-use lines::Run;
-use lines::Slot;
-use lines::Table;
-use lines::Wait;
+use line::Held;
+use line::Run;
+use line::Slot;
+use line::Wait;
+use table::Request;
+use table::Table;
 
 // A slot and the request's entry of it, and the generator after both.
 struct FreeSlot {

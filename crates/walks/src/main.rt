@@ -1,7 +1,7 @@
 // The walks: a long deterministic run of all operations, held to a file that an independent program wrote
 // (oracle/WALKS.md, whose headings the comments cite).
-use lines::Request;
-use lines::Table;
+use table::Request;
+use table::Table;
 
 mod cards; // write and read
 mod damage; // a damaged table

@@ -8,11 +8,11 @@ use crate::generator::below;
 use crate::generator::draw;
 use crate::numbers::low;
 use crate::numbers::plus;
-use lines::Answer;
-use lines::Outcome;
-use lines::Refusal;
-use lines::Table;
-use lines::Which;
+use table::Answer;
+use table::Outcome;
+use table::Refusal;
+use table::Table;
+use table::Which;
 
 // The digest, the table and the answer after a run of ticks.
 struct Ran {
@@ -151,7 +151,7 @@ pub(crate) fn run_aside(w: Walk, s: Scene, ticks: u64) -> Walk {
 }
 
 pub(crate) fn ready(w: Walk, x: u64, t: Table) -> Walk {
-    let word = t.ready_word() as u64;
+    let word = board::ready_word(t) as u64;
     let h = digest::fold(digest::fold(w.h, 7), word);
     w.done(x, h, fine(7, word))
 }
@@ -186,7 +186,7 @@ fn lamp_range(few: u64) -> u64 {
 pub(crate) fn lamp(w: Walk) -> Walk {
     let few = below(w.x, 4);
     let number = below(few.x, lamp_range(few.value));
-    let blinks = lines::lamp(low(number.value)) as u64;
+    let blinks = board::lamp(low(number.value)) as u64;
     let h = digest::fold(digest::fold(w.h, 8), blinks);
     w.done(number.x, h, fine(8, blinks))
 }

@@ -3,12 +3,12 @@ use crate::numbers::low;
 use crate::numbers::minus;
 use crate::numbers::plus;
 use crate::numbers::rest;
-use lines::Held;
-use lines::Request;
-use lines::Run;
-use lines::Slot;
-use lines::Table;
-use lines::Wait;
+use line::Held;
+use line::Run;
+use line::Slot;
+use line::Wait;
+use table::Request;
+use table::Table;
 
 // A change to every slot: c of a running line ← 0 (changes 12 and 13); a slot that holds nothing gets a running line
 // of this period (change 18); a waiting line becomes an empty slot ("An operation", read).

@@ -8,10 +8,10 @@ use native.Mathlib.Nat.{le-of-suc-le-suc, add-comm}
 use native.Mathlib.Numerals.{add-one}
 use lib.ListN.{length, take, drop, getD, length-append, length-drop}
 use lib.Seq.{drop-cons, getD-drop}
-use Rattle.lines.specs.declared.Held.{Held}
-use Rattle.lines.specs.declared.Held.the-variants.{Nothing, Running, Waiting}
-use Rattle.lines.specs.declared.Slot.{Slot}
-use Rattle.lines.specs.Slots.{empty, isNothing}
+use Rattle.line.specs.declared.Held.{Held}
+use Rattle.line.specs.declared.Held.the-variants.{Nothing, Running, Waiting}
+use Rattle.line.specs.declared.Slot.{Slot}
+use Rattle.line.specs.Slots.{empty, isNothing}
 use Rattle.card.specs.Card.{slotRecord, slotRecords, oneMore, usedFrom, used}
 use Rattle.card.proofs.Marks.{false-true}
 use Rattle.card.proofs.Length.{records-length}

@@ -7,12 +7,13 @@ use native.Mathlib.Omega.{arith}
 use native.Mathlib.Nat.{mul-add-mod-self-left, mod-eq-of-lt}
 use lib.ListN.{length, drop, replicate}
 use borrow.Author.Tests.{le-leb, lt-leb}
-use Rattle.lines.specs.declared.Table.{Table}
-use Rattle.lines.specs.declared.Request.{Request}
-use Rattle.lines.specs.declared.Refusal.{Refusal}
-use Rattle.lines.specs.declared.Which.{Which}
-use Rattle.lines.specs.declared.Which.the-variants.{None, At}
-use Rattle.lines.specs.Slots.{pick, isWaiting, lowestOf, slotOf, refusal, Said, gives, refuses}
+use Rattle.table.specs.declared.Table.{Table}
+use Rattle.table.specs.declared.Request.{Request}
+use Rattle.table.specs.declared.Refusal.{Refusal}
+use Rattle.table.specs.declared.Which.{Which}
+use Rattle.table.specs.declared.Which.the-variants.{None, At}
+use Rattle.line.specs.Slots.{pick, isWaiting, lowestOf}
+use Rattle.table.specs.Words.{slotOf, refusal, Said, gives, refuses}
 use Rattle.card.specs.Bytes.{le}
 use Rattle.card.specs.Card.{clockRecord, slotRecords, requestRecord, used, cardOf}
 use Rattle.card.specs.Answers.{lengthOf, filled, writeOf, bufferOf}

@@ -3,18 +3,18 @@ ghost use mathlib.Core.Path.{_≡_};
 ghost use mathlib.Core.List.{_++_};
 ghost use Prim.Native.Nat.{_+_, _≤_, _<_};
 ghost use lib.ListN.{length, drop, replicate};
-ghost use Rattle.lines.specs.Slots.{isNothing};
+ghost use Rattle.line.specs.Slots.{isNothing};
 ghost use Rattle.card.specs.Bytes.{le, markOf};
 ghost use Rattle.card.specs.Card.{clockRecord, lineRecord, requestRecord, slotRecord, slotRecords, used};
 ghost use Rattle.card.specs.Answers.{saidWritten, writeOf, bufferOf};
 use card::WriteAnswer;
-use lines::Held;
-use lines::Refusal;
-use lines::Request;
-use lines::Run;
-use lines::Slot;
-use lines::Table;
-use lines::Which;
+use line::Held;
+use line::Run;
+use line::Slot;
+use table::Refusal;
+use table::Request;
+use table::Table;
+use table::Which;
 
 // R52: the lower byte comes first.
 fn put16(out: &mut [u8], v: u16)

@@ -6,20 +6,8 @@ use Rattle.ask.proofs.Right.{admits}
 use Rattle.ask.proofs.admit.Statement.{statement}
 use Rattle.ask.proofs.admit.Tie as tie
 
-decide-requires : tie.Need-decide-requires
-decide-requires c κs = search needs
-
-enum-known-a : tie.Need-enum-known-a
-enum-known-a c = search needs
-
 admitted-requires : tie.Need-admitted-requires
 admitted-requires c κs = rw (c .before .a .given .1) at (c .before .before .before .decide .ensures .1)
-
-enum-known-a-2 : tie.Need-enum-known-a-2
-enum-known-a-2 c = search needs
-
-untouched-requires : tie.Need-untouched-requires
-untouched-requires c κs = search needs
 
 returns : tie.Need-returns
 returns c =
@@ -39,12 +27,4 @@ returns-2 c =
 
 pub admit-spec : {M : Type 1} → statement M
 admit-spec =
-    tie.close
-    (tie.spec
-    decide-requires
-    enum-known-a
-    admitted-requires
-    enum-known-a-2
-    untouched-requires
-    returns
-    returns-2)
+    tie.close (tie.spec (λ c κs. search needs) (λ c. search needs) admitted-requires (λ c. search needs) (λ c κs. search needs) returns returns-2)

@@ -4,11 +4,9 @@ use Rattle.ask.proofs.Right.{asked}
 use Rattle.ask.proofs.ask.Statement.{statement}
 use Rattle.ask.proofs.ask.Tie as tie
 
-decide-requires : tie.Need-decide-requires
-decide-requires c κs = search needs
-
 returns : tie.Need-returns
 returns c = asked (c .before .args .t) (c .before .args .q) (c .decide .ensures .0)
 
 pub ask-spec : {M : Type 1} → statement M
-ask-spec = tie.close (tie.spec decide-requires returns)
+ask-spec =
+    tie.close (tie.spec (λ c κs. search needs) returns)

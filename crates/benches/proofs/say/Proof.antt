@@ -16,21 +16,6 @@ long l r h = (h .long) ∙ sym (ap length (h .first))
 within : (l : List ℕ) (r : Reply) → Replied l r → r .len ≤ length (r .bytes)
 within l r h = omega (arith, length-take (r .len) (r .bytes), long l r h)
 
-asked-requires : tie.Need-asked-requires
-asked-requires c κs = search needs
-
-reply-to-requires : tie.Need-reply-to-requires
-reply-to-requires c κs = search needs
-
-write-all-requires : tie.Need-write-all-requires
-write-all-requires c κs = search needs
-
-slice-aggregate-write-all : tie.Need-slice-aggregate-write-all
-slice-aggregate-write-all c = search needs
-
-write-all-requires-2 : tie.Need-write-all-requires-2
-write-all-requires-2 c κs = search needs
-
 array-share-prefix-line : tie.Need-array-share-prefix-line
 array-share-prefix-line c =
     let at = c .before .before .before .before .reply-to in within _ (at .result) (at .ensures)
@@ -39,22 +24,8 @@ slice-aggregate-write-all-2 : tie.Need-slice-aggregate-write-all-2
 slice-aggregate-write-all-2 c =
     let at = c .before .before .before .before .before .reply-to in long _ (at .result) (at .ensures)
 
-write-all-requires-3 : tie.Need-write-all-requires-3
-write-all-requires-3 c κs = search needs
-
-returns : tie.Need-returns
-returns c = search needs
-
 pub say-spec : {M : Type 1} → statement M
 say-spec =
     tie.close
-    (tie.spec
-    asked-requires
-    reply-to-requires
-    write-all-requires
-    slice-aggregate-write-all
-    write-all-requires-2
-    array-share-prefix-line
-    slice-aggregate-write-all-2
-    write-all-requires-3
-    returns)
+    (tie.spec (λ c κs. search needs) (λ c κs. search needs) (λ c κs. search needs) (λ c. search needs) (λ c κs. search needs) array-share-prefix-line
+    slice-aggregate-write-all-2 (λ c κs. search needs) (λ c. search needs))

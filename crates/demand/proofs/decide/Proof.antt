@@ -2,7 +2,7 @@
 use mathlib.Core.Path.{ap, sym, _∙_}
 use borrow.Author.Needs.{needs}
 use borrow.Author.Tests.{not-true, not-false, leb-true}
-use Rattle.lines.specs.Slots.{slotOf}
+use Rattle.table.specs.Words.{slotOf}
 use Rattle.demand.proofs.Loading.{refuses}
 use Rattle.demand.proofs.Deciding.{ask-1, ask-2, ask-3, ask-4, ask-5, ask-6, ask-load, fine-all, both-true}
 use Rattle.demand.proofs.decide.Statement.{statement}
@@ -181,31 +181,6 @@ returns-7 c =
 pub decide-spec : {M : Type 1} → statement M
 decide-spec =
     tie.close
-    (tie.spec
-    refused-requires
-    returns
-    lowest-empty-requires
-    enum-told
-    refused-requires-2
-    returns-2
-    enum-told-2
-    lowest-waiting-requires
-    enum-known-k
-    refused-requires-3
-    returns-3
-    enum-told-3
-    lowest-unsound-requires
-    enum-known-k-2
-    refused-requires-4
-    returns-4
-    enum-told-4
-    lowest-shrunk-requires
-    enum-known-k-3
-    refused-requires-5
-    returns-5
-    enum-told-5
-    fits-requires
-    refused-requires-6
-    returns-6
-    load-requires
-    returns-7)
+    (tie.spec refused-requires returns lowest-empty-requires enum-told refused-requires-2 returns-2 enum-told-2 lowest-waiting-requires enum-known-k
+    refused-requires-3 returns-3 enum-told-3 lowest-unsound-requires enum-known-k-2 refused-requires-4 returns-4 enum-told-4 lowest-shrunk-requires
+    enum-known-k-3 refused-requires-5 returns-5 enum-told-5 fits-requires refused-requires-6 returns-6 load-requires returns-7)

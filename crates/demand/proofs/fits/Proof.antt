@@ -10,4 +10,5 @@ returns-2 : tie.Need-returns-2
 returns-2 c = simp (le-leb _ _ (c .if1 .left))
 
 pub fits-spec : {M : Type 1} → statement M
-fits-spec = tie.close (tie.spec returns returns-2)
+fits-spec =
+    tie.close (tie.spec returns returns-2)

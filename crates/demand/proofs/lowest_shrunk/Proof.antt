@@ -4,11 +4,11 @@ use mathlib.Core.Path.{_≡_, sym}
 use native.Mathlib.Omega.{arith}
 use lib.ListN.{length, length-map}
 use borrow.Author.Needs.{needs}
-use Rattle.lines.specs.Slots.{at}
-use Rattle.lines.specs.Grounds.{entry}
-use Rattle.lines.specs.Ask.{shrunk}
-use Rattle.lines.proofs.Read.{seen}
-use Rattle.lines.proofs.Search.{Looking, look-start, look-on, look-stop, look-end}
+use Rattle.line.specs.Slots.{at}
+use Rattle.table.specs.Grounds.{entry}
+use Rattle.line.specs.Stretch.{shrunk}
+use Rattle.line.proofs.Read.{seen}
+use Rattle.line.proofs.Search.{Looking, look-start, look-on, look-stop, look-end}
 use Rattle.demand.proofs.lowest_shrunk.Statement.{statement}
 use Rattle.demand.proofs.lowest_shrunk.Tie as tie
 
@@ -21,21 +21,6 @@ abbrev μ-loop : tie.MeasureT-loop
 loop-holds : tie.Need-loop-holds Inv-loop μ-loop
 loop-holds c = (simp length-map at (c .good .0 .1 .1 .1 .0 .1 .0 .1), look-start _ _)
 
-mul-s : tie.Need-mul-s Inv-loop μ-loop
-mul-s c = search needs
-
-element-copy-out-s : tie.Need-element-copy-out-s Inv-loop μ-loop
-element-copy-out-s c = search needs
-
-mul-p : tie.Need-mul-p Inv-loop μ-loop
-mul-p c = search needs
-
-element-copy-out-p : tie.Need-element-copy-out-p Inv-loop μ-loop
-element-copy-out-p c = search needs
-
-is-shrunk-requires : tie.Need-is-shrunk-requires Inv-loop μ-loop
-is-shrunk-requires c κs = search needs
-
 returns : tie.Need-returns Inv-loop μ-loop
 returns c =
     let x = c .before .before .before .before .before .before .args in
@@ -43,12 +28,6 @@ returns c =
     let h : v .i < length (x .t1 .slots) = omega (arith, v .inv .0, c .before .before .before .before .loop-test .taken) in
     let e = seen (shrunk (entry (x .t2) (v .i))) (x .t1 .slots) (v .i) _ (c .before .is-shrunk .ensures) (c .if1 .taken) h in
     sym (look-stop (v .inv .1) h e)
-
-add-i : tie.Need-add-i Inv-loop μ-loop
-add-i c = search needs
-
-loop-less : tie.Need-loop-less Inv-loop μ-loop
-loop-less c = search needs
 
 loop-again : tie.Need-loop-again Inv-loop μ-loop
 loop-again c =
@@ -64,17 +43,5 @@ returns-2 c = sym (look-end (c .before .loop .inv .1) (omega (arith, c .before .
 pub lowest-shrunk-spec : {M : Type 1} → statement M
 lowest-shrunk-spec =
     tie.close
-    (tie.spec
-    Inv-loop
-    μ-loop
-    loop-holds
-    mul-s
-    element-copy-out-s
-    mul-p
-    element-copy-out-p
-    is-shrunk-requires
-    returns
-    add-i
-    loop-less
-    loop-again
-    returns-2)
+    (tie.spec Inv-loop μ-loop loop-holds (λ c. search needs) (λ c. search needs) (λ c. search needs) (λ c. search needs) (λ c κs. search needs)
+    returns (λ c. search needs) (λ c. search needs) loop-again returns-2)

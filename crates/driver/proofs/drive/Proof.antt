@@ -38,20 +38,20 @@ use denote.Triple.Entry.{onEntry}
 use denote.Triple.Spec.{Meets, tripleOf}
 use denote.Triple.Table.{entered, cited}
 use denote.Triple.Walked.{says, Stays, stay-ref, walkOf, AllGo, goes-ref, Walks, ends-at, walked, walk-meets}
-use Rattle.lines.specs.declared.Table.{Table}
-use Rattle.lines.specs.declared.Outcome.{Outcome}
-use Rattle.lines.specs.declared.Stepped.{Stepped}
-use Rattle.lines.specs.Step.{stepOf}
-use Rattle.lines.proofs.Table as T
-use Rattle.lines.proofs.Table.Laws as T′
-use Rattle.lines.proofs.Outcome as O
-use Rattle.lines.proofs.Outcome.Laws as O′
-use Rattle.lines.proofs.Stepped as S
-use Rattle.lines.proofs.Stepped.Laws as S′
-use Rattle.lines.proofs.Table.step as step
-use Rattle.lines.proofs.Table.step.Symbol as step-def
-use Rattle.lines.proofs.Table.step.Symbol.{name as #step}
-use Rattle.lines.proofs.Table.step.Met as step-thm
+use Rattle.table.specs.declared.Table.{Table}
+use Rattle.table.specs.declared.Outcome.{Outcome}
+use Rattle.table.specs.declared.Stepped.{Stepped}
+use Rattle.table.specs.Step.{stepOf}
+use Rattle.table.proofs.Table as T
+use Rattle.table.proofs.Table.Laws as T′
+use Rattle.table.proofs.Outcome as O
+use Rattle.table.proofs.Outcome.Laws as O′
+use Rattle.table.proofs.Stepped as S
+use Rattle.table.proofs.Stepped.Laws as S′
+use Rattle.table.proofs.Table.step as step
+use Rattle.table.proofs.Table.step.Symbol as step-def
+use Rattle.table.proofs.Table.step.Symbol.{name as #step}
+use Rattle.table.proofs.Table.step.Met as step-thm
 use Rattle.driver.specs.Driven.{hasRun, drivenOf}
 use Rattle.driver.proofs.Keeps.{stored, left}
 use Rattle.driver.proofs.table_of as table-of
@@ -246,7 +246,7 @@ drive-spec 𝓤 H 𝓜 𝓖 𝓡 =
     entered 𝓤 H (tripleOf 𝓤 H (𝓖 .A) drive.signature (drive.spec 𝓤 H (𝓖 .A) (𝓜 .mem) (𝓡 .run)))
     (tables 𝓤 H 𝓜 𝓡 code.env .C) (tables 𝓤 H 𝓜 𝓡 code.env .Λ) #drive code.function (code.unfolded 𝓤 H 𝓜 𝓡)
     (drive-meets 𝓤 H (𝓖 .A) (givenOf 𝓤 H 𝓜 𝓖) (𝓜 .mem) (𝓡 .run) (tablesOf 𝓤 H 𝓜 (tables 𝓤 H 𝓜 𝓡 code.env)) (
-      cited 𝓤 H (Step 𝓤 H (𝓖 .A) (𝓜 .mem) (𝓡 .run)) 𝓜 𝓡 code.env #step step-def.routine code.calls-lines·Table·step (step-thm.met 𝓤 H 𝓜 𝓖 𝓡),
+      cited 𝓤 H (Step 𝓤 H (𝓖 .A) (𝓜 .mem) (𝓡 .run)) 𝓜 𝓡 code.env #step step-def.routine code.calls-table·Table·step (step-thm.met 𝓤 H 𝓜 𝓖 𝓡),
       cited 𝓤 H (Take 𝓤 H (𝓖 .A) (𝓜 .mem) (𝓡 .run)) 𝓜 𝓡 code.env #table-of table-of-def.routine code.calls-driver·table-of (table-of-thm.met 𝓤 H 𝓜 𝓖 𝓡),
       cited 𝓤 H (Tell 𝓤 H (𝓖 .A) (𝓜 .mem) (𝓡 .run)) 𝓜 𝓡 code.env #outcome-of outcome-of-def.routine code.calls-driver·outcome-of (outcome-of-thm.met 𝓤 H 𝓜 𝓖 𝓡),
       cited 𝓤 H (Test 𝓤 H (𝓖 .A) (𝓜 .mem) (𝓡 .run)) 𝓜 𝓡 code.env #has-run has-run-def.routine code.calls-driver·has-run (has-run-thm.met 𝓤 H 𝓜 𝓖 𝓡),

@@ -38,16 +38,16 @@ use denote.Triple.Spec.{Meets, tripleOf}
 use denote.Triple.Table.{entered, cited}
 use denote.Triple.Walked.{says, Stays, stay-none, walkOf, goes-none, Walks, ends-at, walked, walk-meets}
 use denote.Exit.{yes}
-use Rattle.lines.specs.declared.Table.{Table}
-use Rattle.lines.specs.declared.Outcome.{Outcome}
-use Rattle.lines.specs.declared.Stepped.{Stepped}
-use Rattle.lines.specs.Step.{stepOf}
-use Rattle.lines.proofs.Table as T
-use Rattle.lines.proofs.Table.Laws as T′
-use Rattle.lines.proofs.Outcome as O
-use Rattle.lines.proofs.Outcome.Laws as O′
-use Rattle.lines.proofs.Stepped as S
-use Rattle.lines.proofs.Stepped.Laws as S′
+use Rattle.table.specs.declared.Table.{Table}
+use Rattle.table.specs.declared.Outcome.{Outcome}
+use Rattle.table.specs.declared.Stepped.{Stepped}
+use Rattle.table.specs.Step.{stepOf}
+use Rattle.table.proofs.Table as T
+use Rattle.table.proofs.Table.Laws as T′
+use Rattle.table.proofs.Outcome as O
+use Rattle.table.proofs.Outcome.Laws as O′
+use Rattle.table.proofs.Stepped as S
+use Rattle.table.proofs.Stepped.Laws as S′
 use Rattle.driver.specs.Driven.{drivenOf}
 use Rattle.driver.proofs.Keeps.{driven-with-answer}
 use Rattle.driver.proofs.drive as drive

@@ -3,8 +3,6 @@ use borrow.Author.Needs.{needs}
 use Rattle.driver.proofs.outcome_of.Statement.{statement}
 use Rattle.driver.proofs.outcome_of.Tie as tie
 
-returns : tie.Need-returns
-returns c = search needs
-
 pub outcome-of-spec : {M : Type 1} → statement M
-outcome-of-spec = tie.close (tie.spec returns)
+outcome-of-spec =
+    tie.close (tie.spec (λ c. search needs))

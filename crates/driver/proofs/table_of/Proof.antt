@@ -3,8 +3,6 @@ use borrow.Author.Needs.{needs}
 use Rattle.driver.proofs.table_of.Statement.{statement}
 use Rattle.driver.proofs.table_of.Tie as tie
 
-returns : tie.Need-returns
-returns c = search needs
-
 pub table-of-spec : {M : Type 1} → statement M
-table-of-spec = tie.close (tie.spec returns)
+table-of-spec =
+    tie.close (tie.spec (λ c. search needs))

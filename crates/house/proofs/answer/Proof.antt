@@ -6,18 +6,6 @@ use borrow.Author.Needs.{needs}
 use Rattle.house.proofs.answer.Statement.{statement}
 use Rattle.house.proofs.answer.Tie as tie
 
-read-requires : tie.Need-read-requires
-read-requires c κs = search needs
-
-enum-told : tie.Need-enum-told
-enum-told c = search needs
-
-ask-requires : tie.Need-ask-requires
-ask-requires c κs = search needs
-
-enum-known-said : tie.Need-enum-known-said
-enum-known-said c = search needs
-
 returns : tie.Need-returns
 returns c = c .ask .ensures .computed ∙ ap answerFor (sym (was-read (c .before .before .before .before .before .args .card .now) (c .before .before .before .read .ensures) (c .before .enum-told .given .1)))
 
@@ -26,4 +14,4 @@ returns-2 c = ap answerFor (sym (was-refused (c .before .before .before .before 
 
 pub answer-spec : {M : Type 1} → statement M
 answer-spec =
-    tie.close (tie.spec read-requires enum-told ask-requires enum-known-said returns returns-2)
+    tie.close (tie.spec (λ c κs. search needs) (λ c. search needs) (λ c κs. search needs) (λ c. search needs) returns returns-2)

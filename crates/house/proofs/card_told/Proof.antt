@@ -5,14 +5,8 @@ use borrow.Author.Needs.{needs}
 use Rattle.house.proofs.card_told.Statement.{statement}
 use Rattle.house.proofs.card_told.Tie as tie
 
-enum-known-w : tie.Need-enum-known-w
-enum-known-w c = search needs
-
 cast-t5 : tie.Need-cast-t5
 cast-t5 c = record { fits = rw (c .before .w .given .1) at (c .before .before .before .pre) }
-
-enum-known-w-2 : tie.Need-enum-known-w-2
-enum-known-w-2 c = search needs
 
 returns : tie.Need-returns
 returns c = ap saidWritten (sym (c .before .w .given .1))
@@ -21,4 +15,5 @@ returns-2 : tie.Need-returns-2
 returns-2 c = ap saidWritten (sym (c .before .w2 .given .1))
 
 pub card-told-spec : {M : Type 1} → statement M
-card-told-spec = tie.close (tie.spec enum-known-w cast-t5 enum-known-w-2 returns returns-2)
+card-told-spec =
+    tie.close (tie.spec (λ c. search needs) cast-t5 (λ c. search needs) returns returns-2)

@@ -10,18 +10,6 @@ use borrow.Author.Needs.{needs}
 use Rattle.house.proofs.number.Statement.{statement}
 use Rattle.house.proofs.number.Tie as tie
 
-enum-known-s : tie.Need-enum-known-s
-enum-known-s c = search needs
-
-cast-result : tie.Need-cast-result
-cast-result c = search needs
-
-enum-known-s-2 : tie.Need-enum-known-s-2
-enum-known-s-2 c = search needs
-
-cast-n : tie.Need-cast-n
-cast-n c = search needs
-
 sub-result : tie.Need-sub-result
 sub-result c = difference-fits (c .before .before .s2 .given .0 .0 .number) (omega arith)
 
@@ -33,5 +21,4 @@ returns-2 c = minus-is (c .before .before .s2 .given .0 .0 .number) (omega arith
 
 pub number-spec : {M : Type 1} → statement M
 number-spec =
-    tie.close
-    (tie.spec enum-known-s cast-result enum-known-s-2 cast-n sub-result returns returns-2)
+    tie.close (tie.spec (λ c. search needs) (λ c. search needs) (λ c. search needs) (λ c. search needs) sub-result returns returns-2)

@@ -6,19 +6,14 @@ use borrow.Author.Needs.{needs}
 use Rattle.house.proofs.put_card.Statement.{statement}
 use Rattle.house.proofs.put_card.Tie as tie
 
-write-requires : tie.Need-write-requires
-write-requires c κs = search needs
-
 card-told-requires : tie.Need-card-told-requires
 card-told-requires c κs =
     let a = c .before .before .before .before .before in
     rw (c .before .before .write .ensures .0) (card-narrow (a .args .t) (a .args .q) _ (simp length-map at (a .good .0 .1 .1 .1 .0 .1 .0 .1)))
 
-same-length : tie.Need-same-length
-same-length c = search needs
-
 returns : tie.Need-returns
 returns c = (c .card-told .ensures ∙ c .before .before .before .write .ensures .0, c .before .before .before .write .ensures .1)
 
 pub put-card-spec : {M : Type 1} → statement M
-put-card-spec = tie.close (tie.spec write-requires card-told-requires same-length returns)
+put-card-spec =
+    tie.close (tie.spec (λ c κs. search needs) card-told-requires (λ c. search needs) returns)

@@ -1,6 +1,6 @@
 -- The line of an answer has at most 40 bytes, so that its length has 32 bits.
 use mathlib.Core.Path.{ap, _∙_}
-use Rattle.lines.specs.Ask.{says}
+use Rattle.table.specs.Ask.{says}
 use Rattle.reply.specs.Line.{lineOf}
 use Rattle.reply.proofs.Line.{line-length}
 use Rattle.house.specs.House.{saidPut}
@@ -10,9 +10,6 @@ use borrow.Author.Needs.{needs}
 use Rattle.house.proofs.put_line.Statement.{statement}
 use Rattle.house.proofs.put_line.Tie as tie
 
-put-reply-requires : tie.Need-put-reply-requires
-put-reply-requires c κs = search needs
-
 line-told-requires : tie.Need-line-told-requires
 line-told-requires c κs =
     let x = c .before .before .before .before .before in
@@ -20,11 +17,9 @@ line-told-requires c κs =
     rw (c .before .before .put-reply .ensures .0)
     (line-narrow line (x .args .out .now) (line-length (says (x .args .a)) (wide (x .args .a) _ (x .good .0))))
 
-same-length : tie.Need-same-length
-same-length c = search needs
-
 returns : tie.Need-returns
 returns c = (c .line-told .ensures ∙ ap saidPut (c .before .before .before .put-reply .ensures .0), c .before .before .before .put-reply .ensures .1)
 
 pub put-line-spec : {M : Type 1} → statement M
-put-line-spec = tie.close (tie.spec put-reply-requires line-told-requires same-length returns)
+put-line-spec =
+    tie.close (tie.spec (λ c κs. search needs) line-told-requires (λ c. search needs) returns)

@@ -1,23 +1,11 @@
 -- A start is the admitted table's, which is stepped; ask's refusal stands.
 use mathlib.Core.Path.{sym, ap, _∙_}
-use Rattle.lines.specs.declared.Answer.{Answer}
-use Rattle.lines.specs.Ask.{says}
+use Rattle.table.specs.declared.Answer.{Answer}
+use Rattle.table.specs.Ask.{says}
 use Rattle.house.specs.House.{ranIn, unlessRefused, runAdmitted}
 use borrow.Author.Needs.{needs}
 use Rattle.house.proofs.run_admitted.Statement.{statement}
 use Rattle.house.proofs.run_admitted.Tie as tie
-
-admit-requires : tie.Need-admit-requires
-admit-requires c κs = search needs
-
-enum-told : tie.Need-enum-told
-enum-told c = search needs
-
-run-table-requires : tie.Need-run-table-requires
-run-table-requires c κs = search needs
-
-enum-known-a : tie.Need-enum-known-a
-enum-known-a c = search needs
 
 returns : tie.Need-returns
 returns c =
@@ -36,4 +24,4 @@ returns-2 c =
 
 pub run-admitted-spec : {M : Type 1} → statement M
 run-admitted-spec =
-    tie.close (tie.spec admit-requires enum-told run-table-requires enum-known-a returns returns-2)
+    tie.close (tie.spec (λ c κs. search needs) (λ c. search needs) (λ c κs. search needs) (λ c. search needs) returns returns-2)

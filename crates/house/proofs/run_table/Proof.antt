@@ -16,32 +16,11 @@ abbrev μ-loop : tie.MeasureT-loop
 loop-holds : tie.Need-loop-holds Inv-loop μ-loop
 loop-holds c = (search needs, search needs, run-start (c .args .ticks) (c .args .start))
 
-driven-requires : tie.Need-driven-requires Inv-loop μ-loop
-driven-requires c κs = search needs
-
-enum-known-o : tie.Need-enum-known-o Inv-loop μ-loop
-enum-known-o c = search needs
-
-count-of-requires : tie.Need-count-of-requires Inv-loop μ-loop
-count-of-requires c κs = search needs
-
-add-ran : tie.Need-add-ran Inv-loop μ-loop
-add-ran c = search needs
-
-enum-known-o-2 : tie.Need-enum-known-o-2 Inv-loop μ-loop
-enum-known-o-2 c = search needs
-
 returns : tie.Need-returns Inv-loop μ-loop
 returns c =
     let l = c .before .before .before .before .before in
     run-stop (c .before .before .before .before .before .before .args .ticks) (l .loop .i) (l .loop .ran) (l .loop .t) (c .before .before .before .before .loop-test .taken) (c .before .before .before .driven .ensures) _ (c .before .o2 .given .1)
     ∙ l .loop .inv .2
-
-add-i : tie.Need-add-i Inv-loop μ-loop
-add-i c = search needs
-
-loop-less : tie.Need-loop-less Inv-loop μ-loop
-loop-less c = search needs
 
 loop-again : tie.Need-loop-again Inv-loop μ-loop
 loop-again c =
@@ -60,17 +39,5 @@ returns-2 c =
 pub run-table-spec : {M : Type 1} → statement M
 run-table-spec =
     tie.close
-    (tie.spec
-    Inv-loop
-    μ-loop
-    loop-holds
-    driven-requires
-    enum-known-o
-    count-of-requires
-    add-ran
-    enum-known-o-2
-    returns
-    add-i
-    loop-less
-    loop-again
-    returns-2)
+    (tie.spec Inv-loop μ-loop loop-holds (λ c κs. search needs) (λ c. search needs) (λ c κs. search needs) (λ c. search needs) (λ c. search needs)
+    returns (λ c. search needs) (λ c. search needs) loop-again returns-2)

@@ -2,25 +2,13 @@
 use mathlib.Core.Path.{ap, _∙_}
 use mir.Syntax.{w64}
 use mir.Facts.{toZ-ofZ}
-use Rattle.lines.specs.declared.Answer.{Answer}
-use Rattle.lines.specs.Ask.{says}
+use Rattle.table.specs.declared.Answer.{Answer}
+use Rattle.table.specs.Ask.{says}
 use Rattle.reply.specs.Line.{lineOf, heldAfter}
 use Rattle.house.specs.House.{numberOf, putOf}
 use borrow.Author.Needs.{needs}
 use Rattle.house.proofs.trimthuel_answer.Statement.{statement}
 use Rattle.house.proofs.trimthuel_answer.Tie as tie
-
-answer-requires : tie.Need-answer-requires
-answer-requires c κs = search needs
-
-put-line-requires : tie.Need-put-line-requires
-put-line-requires c κs = search needs
-
-number-requires : tie.Need-number-requires
-number-requires c κs = search needs
-
-same-length : tie.Need-same-length
-same-length c = search needs
 
 returns : tie.Need-returns
 returns c =
@@ -33,4 +21,4 @@ returns c =
 
 pub trimthuel-answer-spec : {M : Type 1} → statement M
 trimthuel-answer-spec =
-    tie.close (tie.spec answer-requires put-line-requires number-requires same-length returns)
+    tie.close (tie.spec (λ c κs. search needs) (λ c κs. search needs) (λ c κs. search needs) (λ c. search needs) returns)

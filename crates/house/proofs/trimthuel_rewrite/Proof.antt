@@ -3,34 +3,13 @@ use mathlib.Core.Path.{sym, ap, _∙_}
 use lib.ListN.{length}
 use mir.Syntax.{w64}
 use mir.Facts.{toZ-ofZ}
-use Rattle.lines.specs.Slots.{Said}
+use Rattle.table.specs.Words.{Said}
 use Rattle.card.specs.Card.{Card}
 use Rattle.house.specs.House.{numberOf, rewriteFor, rewrittenFor}
 use Rattle.house.proofs.Said.{was-read, was-refused}
 use borrow.Author.Needs.{needs}
 use Rattle.house.proofs.trimthuel_rewrite.Statement.{statement}
 use Rattle.house.proofs.trimthuel_rewrite.Tie as tie
-
-read-requires : tie.Need-read-requires
-read-requires c κs = search needs
-
-enum-told : tie.Need-enum-told
-enum-told c = search needs
-
-put-card-requires : tie.Need-put-card-requires
-put-card-requires c κs = search needs
-
-number-requires : tie.Need-number-requires
-number-requires c κs = search needs
-
-enum-known-said : tie.Need-enum-known-said
-enum-known-said c = search needs
-
-number-requires-2 : tie.Need-number-requires-2
-number-requires-2 c κs = search needs
-
-same-length : tie.Need-same-length
-same-length c = search needs
 
 returns : tie.Need-returns
 returns c =
@@ -54,13 +33,5 @@ returns-2 c =
 pub trimthuel-rewrite-spec : {M : Type 1} → statement M
 trimthuel-rewrite-spec =
     tie.close
-    (tie.spec
-    read-requires
-    enum-told
-    put-card-requires
-    number-requires
-    enum-known-said
-    number-requires-2
-    same-length
-    returns
-    returns-2)
+    (tie.spec (λ c κs. search needs) (λ c. search needs) (λ c κs. search needs) (λ c κs. search needs) (λ c. search needs) (λ c κs. search needs)
+    (λ c. search needs) returns returns-2)

@@ -7,20 +7,8 @@ use Rattle.reader.proofs.Loop.{closing-gap, closing-more, closing-good}
 use Rattle.reader.proofs.closed.Statement.{statement}
 use Rattle.reader.proofs.closed.Tie as tie
 
-refused-requires : tie.Need-refused-requires
-refused-requires c κs = search needs
-
 returns : tie.Need-returns
 returns c = c .refused .ensures ∙ ap handed (sym (closing-gap _ _ _ _ (c .before .if1 .taken)))
-
-add-if2 : tie.Need-add-if2
-add-if2 c = search needs
-
-add-refused : tie.Need-add-refused
-add-refused c = search needs
-
-refused-requires-2 : tie.Need-refused-requires-2
-refused-requires-2 c κs = search needs
 
 returns-2 : tie.Need-returns-2
 returns-2 c =
@@ -34,5 +22,4 @@ returns-3 c =
 
 pub closed-spec : {M : Type 1} → statement M
 closed-spec =
-    tie.close
-    (tie.spec refused-requires returns add-if2 add-refused refused-requires-2 returns-2 returns-3)
+    tie.close (tie.spec (λ c κs. search needs) returns (λ c. search needs) (λ c. search needs) (λ c κs. search needs) returns-2 returns-3)

@@ -6,12 +6,6 @@ use Rattle.card.proofs.Records.{at-last, at-end, at-line, at-free, at-old, at-u
 use Rattle.reader.proofs.front.Statement.{statement}
 use Rattle.reader.proofs.front.Tie as tie
 
-opens-requires : tie.Need-opens-requires
-opens-requires c κs = search needs
-
-last-requires : tie.Need-last-requires
-last-requires c κs = search needs
-
 returns : tie.Need-returns
 returns c =
     c .last .ensures ∙ sym (at-last _ _ (sym (c .before .before .opens .ensures) ∙ c .before .if1 .taken))
@@ -21,29 +15,17 @@ returns-2 c =
     let e1 = c .before in
     sym (at-end _ _ (sym (e1 .before .opens .ensures) ∙ e1 .if1 .left) (c .if2 .taken))
 
-opens-requires-2 : tie.Need-opens-requires-2
-opens-requires-2 c κs = search needs
-
-line-requires : tie.Need-line-requires
-line-requires c κs = search needs
-
 returns-3 : tie.Need-returns-3
 returns-3 c =
     let e1 = c .before .before .before .before .before in
     c .line .ensures
     ∙ sym (at-line (e1 .before .before .before .before .args .left) (e1 .before .before .before .before .args .s .now) (sym (e1 .before .opens .ensures) ∙ e1 .if1 .left) (omega arith) (sym (c .before .before .opens2 .ensures) ∙ c .before .if3 .taken))
 
-opens-requires-3 : tie.Need-opens-requires-3
-opens-requires-3 c κs = search needs
-
 returns-4 : tie.Need-returns-4
 returns-4 c =
     let e3 = c .before .before .before in
     let e1 = e3 .before .before .before .before in
     sym (at-free (e1 .before .before .before .before .args .left) (e1 .before .before .before .before .args .s .now) (sym (e1 .before .opens .ensures) ∙ e1 .if1 .left) (omega arith) (sym (e3 .before .opens2 .ensures) ∙ e3 .if3 .left) (sym (c .before .opens3 .ensures) ∙ c .if4 .taken))
-
-opens-requires-4 : tie.Need-opens-requires-4
-opens-requires-4 c κs = search needs
 
 returns-5 : tie.Need-returns-5
 returns-5 c =
@@ -62,16 +44,5 @@ returns-6 c =
 pub front-spec : {M : Type 1} → statement M
 front-spec =
     tie.close
-    (tie.spec
-    opens-requires
-    last-requires
-    returns
-    returns-2
-    opens-requires-2
-    line-requires
-    returns-3
-    opens-requires-3
-    returns-4
-    opens-requires-4
-    returns-5
-    returns-6)
+    (tie.spec (λ c κs. search needs) (λ c κs. search needs) returns returns-2 (λ c κs. search needs) (λ c κs. search needs) returns-3
+    (λ c κs. search needs) returns-4 (λ c κs. search needs) returns-5 returns-6)

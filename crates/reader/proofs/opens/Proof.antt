@@ -9,32 +9,12 @@ use Rattle.reader.proofs.opens.Tie as tie
 returns : tie.Need-returns
 returns c = sym (marked-short _ _ (omega arith))
 
-shared-slice-read-if2 : tie.Need-shared-slice-read-if2
-shared-slice-read-if2 c = search needs
-
-element-copy-out-if2 : tie.Need-element-copy-out-if2
-element-copy-out-if2 c = search needs
-
 returns-2 : tie.Need-returns-2
 returns-2 c = sym (marked-not _ _ (omega arith) (c .if2 .taken))
-
-shared-slice-read-result : tie.Need-shared-slice-read-result
-shared-slice-read-result c = search needs
-
-element-copy-out-result : tie.Need-element-copy-out-result
-element-copy-out-result c = search needs
 
 returns-3 : tie.Need-returns-3
 returns-3 c = sym (marked-first _ _ _ (omega arith) (c .before .before .if2 .left))
 
 pub opens-spec : {M : Type 1} → statement M
 opens-spec =
-    tie.close
-    (tie.spec
-    returns
-    shared-slice-read-if2
-    element-copy-out-if2
-    returns-2
-    shared-slice-read-result
-    element-copy-out-result
-    returns-3)
+    tie.close (tie.spec returns (λ c. search needs) (λ c. search needs) returns-2 (λ c. search needs) (λ c. search needs) returns-3)

@@ -9,27 +9,15 @@ use Rattle.card.proofs.Steps.{reads-clock}
 use Rattle.reader.proofs.read.Statement.{statement}
 use Rattle.reader.proofs.read.Tie as tie
 
-refused-requires : tie.Need-refused-requires
-refused-requires c κs = search needs
-
 returns : tie.Need-returns
 returns c =
     let l = c .before .before .before .args .card .now in
     c .refused .ensures ∙ ap handed (sym (cut-clock 16 l (omega arith)))
 
-opens-requires : tie.Need-opens-requires
-opens-requires c κs = search needs
-
-refused-requires-2 : tie.Need-refused-requires-2
-refused-requires-2 c κs = search needs
-
 returns-2 : tie.Need-returns-2
 returns-2 c =
     let l = c .before .before .before .before .before .before .args .card .now in
     c .refused2 .ensures ∙ ap handed (sym (no-clock 16 l (sym (c .before .before .opens .ensures) ∙ not-true _ (c .before .if2 .taken))))
-
-records-requires : tie.Need-records-requires
-records-requires c κs = search needs
 
 returns-3 : tie.Need-returns-3
 returns-3 c =
@@ -39,12 +27,4 @@ returns-3 c =
 
 pub read-spec : {M : Type 1} → statement M
 read-spec =
-    tie.close
-    (tie.spec
-    refused-requires
-    returns
-    opens-requires
-    refused-requires-2
-    returns-2
-    records-requires
-    returns-3)
+    tie.close (tie.spec (λ c κs. search needs) returns (λ c κs. search needs) (λ c κs. search needs) returns-2 (λ c κs. search needs) returns-3)

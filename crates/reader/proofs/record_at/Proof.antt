@@ -6,18 +6,6 @@ use Rattle.card.proofs.Parts.{part-all}
 use Rattle.reader.proofs.record_at.Statement.{statement}
 use Rattle.reader.proofs.record_at.Tie as tie
 
-sub-front : tie.Need-sub-front
-sub-front c = search needs
-
-part-front-start : tie.Need-part-front-start
-part-front-start c = search needs
-
-part-front-end : tie.Need-part-front-end
-part-front-end c = search needs
-
-front-requires : tie.Need-front-requires
-front-requires c κs = search needs
-
 returns : tie.Need-returns
 returns c =
     let a = c .before .before .before .args in
@@ -25,4 +13,4 @@ returns c =
 
 pub record-at-spec : {M : Type 1} → statement M
 record-at-spec =
-    tie.close (tie.spec sub-front part-front-start part-front-end front-requires returns)
+    tie.close (tie.spec (λ c. search needs) (λ c. search needs) (λ c. search needs) (λ c κs. search needs) returns)

@@ -20,15 +20,6 @@ free-requires c κs = tt
 loop-holds : tie.Need-loop-holds Inv-loop μ-loop
 loop-holds c = rw (c .free .ensures) (mid-start (c .before .before .args .card .now) (omega arith))
 
-sub-record-at : tie.Need-sub-record-at Inv-loop μ-loop
-sub-record-at c = omega arith
-
-record-at-requires : tie.Need-record-at-requires Inv-loop μ-loop
-record-at-requires c κs = omega arith
-
-enum-known-r : tie.Need-enum-known-r Inv-loop μ-loop
-enum-known-r c = search needs
-
 running-requires : tie.Need-running-requires Inv-loop μ-loop
 running-requires c κs = tt
 
@@ -65,9 +56,6 @@ loop-again c =
     let e = sym (c .before .before .before .before .record-at .ensures) ∙ c .before .before .r .given .1 in
     rw (c .running .ensures) (mid-line (q .inv) _ _ e)
 
-enum-told : tie.Need-enum-told Inv-loop μ-loop
-enum-told c = search needs
-
 loop-less-2 : tie.Need-loop-less-2 Inv-loop μ-loop
 loop-less-2 c =
     let q = c .before .before .before .loop in
@@ -89,12 +77,6 @@ loop-again-2 c =
     let e = sym (c .before .before .record-at .ensures) ∙ c .enum-told .given .1 in
     mid-free (q .inv) e
 
-enum-known-r-2 : tie.Need-enum-known-r-2 Inv-loop μ-loop
-enum-known-r-2 c = search needs
-
-clock-requires : tie.Need-clock-requires Inv-loop μ-loop
-clock-requires c κs = omega arith
-
 request-of-requires : tie.Need-request-of-requires Inv-loop μ-loop
 request-of-requires c κs = tt
 
@@ -112,9 +94,6 @@ returns c =
     (rw (c .before .request-of .ensures) at (c .closed .ensures))
     ∙ ap handed (sym (mid-last (q .inv) _ _ e (k .result) (k .ensures)))
 
-enum-known-r-3 : tie.Need-enum-known-r-3 Inv-loop μ-loop
-enum-known-r-3 c = search needs
-
 refused-requires : tie.Need-refused-requires Inv-loop μ-loop
 refused-requires c κs = tt
 
@@ -127,33 +106,6 @@ returns-2 c =
 pub records-spec : {M : Type 1} → statement M
 records-spec =
     tie.close
-    (tie.spec
-    Inv-loop
-    μ-loop
-    free-requires
-    loop-holds
-    sub-record-at
-    record-at-requires
-    enum-known-r
-    running-requires
-    mul-slots
-    array-set-from-slots
-    mul-stretched
-    array-write-stretched
-    add-at
-    add-i
-    loop-less
-    loop-again
-    enum-told
-    add-at-2
-    add-i-2
-    loop-less-2
-    loop-again-2
-    enum-known-r-2
-    clock-requires
-    request-of-requires
-    closed-requires
-    returns
-    enum-known-r-3
-    refused-requires
-    returns-2)
+    (tie.spec Inv-loop μ-loop free-requires loop-holds (λ c. omega arith) (λ c κs. omega arith) (λ c. search needs) running-requires mul-slots
+    array-set-from-slots mul-stretched array-write-stretched add-at add-i loop-less loop-again (λ c. search needs) add-at-2 add-i-2 loop-less-2
+    loop-again-2 (λ c. search needs) (λ c κs. omega arith) request-of-requires closed-requires returns (λ c. search needs) refused-requires returns-2)

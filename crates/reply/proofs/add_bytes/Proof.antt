@@ -6,24 +6,6 @@ use borrow.Author.Needs.{needs}
 use Rattle.reply.proofs.add_bytes.Statement.{statement}
 use Rattle.reply.proofs.add_bytes.Tie as tie
 
-sub-put : tie.Need-sub-put
-sub-put c = search needs
-
-part-put-start : tie.Need-part-put-start
-part-put-start c = search needs
-
-part-put-end : tie.Need-part-put-end
-part-put-end c = search needs
-
-put-requires : tie.Need-put-requires
-put-requires c κs = search needs
-
-add-result : tie.Need-add-result
-add-result c = search needs
-
-same-length : tie.Need-same-length
-same-length c = search needs
-
 returns : tie.Need-returns
 returns c =
     let a = c .before .before .before .before .before .before .args in
@@ -33,4 +15,4 @@ returns c =
 pub add-bytes-spec : {M : Type 1} → statement M
 add-bytes-spec =
     tie.close
-    (tie.spec sub-put part-put-start part-put-end put-requires add-result same-length returns)
+    (tie.spec (λ c. search needs) (λ c. search needs) (λ c. search needs) (λ c κs. search needs) (λ c. search needs) (λ c. search needs) returns)

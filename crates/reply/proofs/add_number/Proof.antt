@@ -7,24 +7,6 @@ use borrow.Author.Needs.{needs}
 use Rattle.reply.proofs.add_number.Statement.{statement}
 use Rattle.reply.proofs.add_number.Tie as tie
 
-sub-put-digits : tie.Need-sub-put-digits
-sub-put-digits c = search needs
-
-part-put-digits-start : tie.Need-part-put-digits-start
-part-put-digits-start c = search needs
-
-part-put-digits-end : tie.Need-part-put-digits-end
-part-put-digits-end c = search needs
-
-put-digits-requires : tie.Need-put-digits-requires
-put-digits-requires c κs = search needs
-
-add-result : tie.Need-add-result
-add-result c = search needs
-
-same-length : tie.Need-same-length
-same-length c = search needs
-
 returns : tie.Need-returns
 returns c =
     let a = c .before .before .before .before .before .args in
@@ -34,11 +16,4 @@ returns c =
 pub add-number-spec : {M : Type 1} → statement M
 add-number-spec =
     tie.close
-    (tie.spec
-    sub-put-digits
-    part-put-digits-start
-    part-put-digits-end
-    put-digits-requires
-    add-result
-    same-length
-    returns)
+    (tie.spec (λ c. search needs) (λ c. search needs) (λ c. search needs) (λ c κs. search needs) (λ c. search needs) (λ c. search needs) returns)

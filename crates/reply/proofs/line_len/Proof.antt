@@ -10,33 +10,6 @@ use Rattle.reply.proofs.Line.{start-length, refused-length}
 use Rattle.reply.proofs.line_len.Statement.{statement}
 use Rattle.reply.proofs.line_len.Tie as tie
 
-enum-known-a : tie.Need-enum-known-a
-enum-known-a c = search needs
-
-places-requires : tie.Need-places-requires
-places-requires c κs = search needs
-
-add-result : tie.Need-add-result
-add-result c = search needs
-
-enum-known-a-2 : tie.Need-enum-known-a-2
-enum-known-a-2 c = search needs
-
-wide-requires : tie.Need-wide-requires
-wide-requires c κs = search needs
-
-places-requires-2 : tie.Need-places-requires-2
-places-requires-2 c κs = search needs
-
-add-result-2 : tie.Need-add-result-2
-add-result-2 c = search needs
-
-places-requires-3 : tie.Need-places-requires-3
-places-requires-3 c κs = search needs
-
-add-result-3 : tie.Need-add-result-3
-add-result-3 c = search needs
-
 returns : tie.Need-returns
 returns c =
     let b = c .before .before .a .given in
@@ -52,15 +25,5 @@ returns-2 c =
 pub line-len-spec : {M : Type 1} → statement M
 line-len-spec =
     tie.close
-    (tie.spec
-    enum-known-a
-    places-requires
-    add-result
-    enum-known-a-2
-    wide-requires
-    places-requires-2
-    add-result-2
-    places-requires-3
-    add-result-3
-    returns
-    returns-2)
+    (tie.spec (λ c. search needs) (λ c κs. search needs) (λ c. search needs) (λ c. search needs) (λ c κs. search needs) (λ c κs. search needs)
+    (λ c. search needs) (λ c κs. search needs) (λ c. search needs) returns returns-2)

@@ -17,9 +17,6 @@ loop-holds c = count-start (c .args .n) (omega arith)
 add-count : tie.Need-add-count Inv-loop μ-loop
 add-count c = omega (arith, count-small (c .before .loop .inv))
 
-loop-less : tie.Need-loop-less Inv-loop μ-loop
-loop-less c = omega arith
-
 loop-again : tie.Need-loop-again Inv-loop μ-loop
 loop-again c = count-on (c .before .loop .inv) (omega arith)
 
@@ -30,4 +27,4 @@ returns c =
 
 pub places-spec : {M : Type 1} → statement M
 places-spec =
-    tie.close (tie.spec Inv-loop μ-loop loop-holds add-count loop-less loop-again returns)
+    tie.close (tie.spec Inv-loop μ-loop loop-holds add-count (λ c. omega arith) loop-again returns)

@@ -14,38 +14,14 @@ Inv-loop out₀ n count left₀ rest₀ out left rest = (count ≡ length (digit
 abbrev μ-loop : tie.MeasureT-loop
 μ-loop out₀ n count left₀ rest₀ out left rest = left
 
-places-requires : tie.Need-places-requires Inv-loop μ-loop
-places-requires c κs = search needs
-
 loop-holds : tie.Need-loop-holds Inv-loop μ-loop
 loop-holds c = (c .places .ensures .0, spell-start _ _ (c .places .ensures .0) (c .before .before .pre))
-
-digit-requires : tie.Need-digit-requires Inv-loop μ-loop
-digit-requires c κs = omega arith
-
-sub-out : tie.Need-sub-out Inv-loop μ-loop
-sub-out c = omega arith
-
-slice-write-out : tie.Need-slice-write-out Inv-loop μ-loop
-slice-write-out c = omega arith
-
-sub-left : tie.Need-sub-left Inv-loop μ-loop
-sub-left c = omega arith
-
-loop-less : tie.Need-loop-less Inv-loop μ-loop
-loop-less c = omega arith
 
 loop-again : tie.Need-loop-again Inv-loop μ-loop
 loop-again c = (c .before .before .loop .inv .0, spell-on (c .before .before .loop .inv .1) (c .before .loop-test .taken) (c .digit .ensures))
 
 digit-requires-2 : tie.Need-digit-requires-2 Inv-loop μ-loop
 digit-requires-2 c κs = spell-last (c .before .loop .inv .1) (c .loop-test .left)
-
-sub-out-2 : tie.Need-sub-out-2 Inv-loop μ-loop
-sub-out-2 c = omega arith
-
-slice-write-out-2 : tie.Need-slice-write-out-2 Inv-loop μ-loop
-slice-write-out-2 c = omega arith
 
 same-length : tie.Need-same-length Inv-loop μ-loop
 same-length c = simp length-set (c .before .before .loop .inv .1 .long)
@@ -56,19 +32,5 @@ returns c = (c .before .before .loop .inv .0, spell-end (c .before .before .loop
 pub put-digits-spec : {M : Type 1} → statement M
 put-digits-spec =
     tie.close
-    (tie.spec
-    Inv-loop
-    μ-loop
-    places-requires
-    loop-holds
-    digit-requires
-    sub-out
-    slice-write-out
-    sub-left
-    loop-less
-    loop-again
-    digit-requires-2
-    sub-out-2
-    slice-write-out-2
-    same-length
-    returns)
+    (tie.spec Inv-loop μ-loop (λ c κs. search needs) loop-holds (λ c κs. omega arith) (λ c. omega arith) (λ c. omega arith) (λ c. omega arith)
+    (λ c. omega arith) loop-again digit-requires-2 (λ c. omega arith) (λ c. omega arith) same-length returns)

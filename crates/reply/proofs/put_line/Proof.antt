@@ -3,26 +3,14 @@ use borrow.Author.Needs.{needs}
 use Rattle.reply.proofs.put_line.Statement.{statement}
 use Rattle.reply.proofs.put_line.Tie as tie
 
-enum-known-a : tie.Need-enum-known-a
-enum-known-a c = search needs
-
 put-release-requires : tie.Need-put-release-requires
 put-release-requires c κs = rw (c .before .before .a .given .1) at (c .before .before .before .before .before .pre)
-
-enum-known-a-2 : tie.Need-enum-known-a-2
-enum-known-a-2 c = search needs
 
 put-refused-requires : tie.Need-put-refused-requires
 put-refused-requires c κs = rw (c .before .before .a2 .given .1) at (c .before .before .before .before .before .pre)
 
-same-length : tie.Need-same-length
-same-length c = search needs
-
 returns : tie.Need-returns
 returns c = rw (c .before .before .before .before .before .a .given .1) (c .before .before .put-release .ensures)
-
-same-length-2 : tie.Need-same-length-2
-same-length-2 c = search needs
 
 returns-2 : tie.Need-returns-2
 returns-2 c = rw (c .before .before .before .before .before .a2 .given .1) (c .before .before .put-refused .ensures)
@@ -30,12 +18,5 @@ returns-2 c = rw (c .before .before .before .before .before .a2 .given .1) (c .b
 pub put-line-spec : {M : Type 1} → statement M
 put-line-spec =
     tie.close
-    (tie.spec
-    enum-known-a
-    put-release-requires
-    enum-known-a-2
-    put-refused-requires
-    same-length
-    returns
-    same-length-2
+    (tie.spec (λ c. search needs) put-release-requires (λ c. search needs) put-refused-requires (λ c. search needs) returns (λ c. search needs)
     returns-2)

@@ -17,20 +17,11 @@ room c =
     let x = c .before .before .args .x in
     omega (arith, refuses-length (x .number) (x .place), ap (λ (n : ℕ). length (digits n)) (c .wide .ensures .0), c .before .before .pre)
 
-wide-requires : tie.Need-wide-requires
-wide-requires c κs = search needs
-
-slice-aggregate-add-bytes : tie.Need-slice-aggregate-add-bytes
-slice-aggregate-add-bytes c = search needs
-
 add-bytes-requires : tie.Need-add-bytes-requires
 add-bytes-requires c κs = omega (arith, room (c .before .before))
 
 add-number-requires : tie.Need-add-number-requires
 add-number-requires c κs = omega (arith, room (c .before .before .before .before .before .before))
-
-slice-aggregate-add-bytes-2 : tie.Need-slice-aggregate-add-bytes-2
-slice-aggregate-add-bytes-2 c = search needs
 
 add-bytes-requires-2 : tie.Need-add-bytes-requires-2
 add-bytes-requires-2 c κs = omega (arith, room (c .before .before .before .before .before .before .before .before .before .before .before))
@@ -38,14 +29,8 @@ add-bytes-requires-2 c κs = omega (arith, room (c .before .before .before .befo
 add-number-requires-2 : tie.Need-add-number-requires-2
 add-number-requires-2 c κs = omega (arith, room (c .before .before .before .before .before .before .before .before .before .before .before .before .before .before .before))
 
-slice-aggregate-add-bytes-3 : tie.Need-slice-aggregate-add-bytes-3
-slice-aggregate-add-bytes-3 c = search needs
-
 add-bytes-requires-3 : tie.Need-add-bytes-requires-3
 add-bytes-requires-3 c κs = omega (arith, room (c .before .before .before .before .before .before .before .before .before .before .before .before .before .before .before .before .before .before .before .before))
-
-same-length : tie.Need-same-length
-same-length c = search needs
 
 returns : tie.Need-returns
 unfolding lineOf
@@ -61,15 +46,5 @@ returns c =
 pub put-refused-spec : {M : Type 1} → statement M
 put-refused-spec =
     tie.close
-    (tie.spec
-    wide-requires
-    slice-aggregate-add-bytes
-    add-bytes-requires
-    add-number-requires
-    slice-aggregate-add-bytes-2
-    add-bytes-requires-2
-    add-number-requires-2
-    slice-aggregate-add-bytes-3
-    add-bytes-requires-3
-    same-length
-    returns)
+    (tie.spec (λ c κs. search needs) (λ c. search needs) add-bytes-requires add-number-requires (λ c. search needs) add-bytes-requires-2
+    add-number-requires-2 (λ c. search needs) add-bytes-requires-3 (λ c. search needs) returns)

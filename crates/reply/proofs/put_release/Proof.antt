@@ -7,23 +7,14 @@ use borrow.Author.Needs.{needs}
 use Rattle.reply.proofs.put_release.Statement.{statement}
 use Rattle.reply.proofs.put_release.Tie as tie
 
-slice-aggregate-add-bytes : tie.Need-slice-aggregate-add-bytes
-slice-aggregate-add-bytes c = search needs
-
 add-bytes-requires : tie.Need-add-bytes-requires
 add-bytes-requires c κs = omega (arith, gives-length (c .before .before .before .args .start))
 
 add-number-requires : tie.Need-add-number-requires
 add-number-requires c κs = omega (arith, gives-length (c .before .before .before .before .before .before .before .args .start))
 
-slice-aggregate-add-bytes-2 : tie.Need-slice-aggregate-add-bytes-2
-slice-aggregate-add-bytes-2 c = search needs
-
 add-bytes-requires-2 : tie.Need-add-bytes-requires-2
 add-bytes-requires-2 c κs = omega (arith, gives-length (c .before .before .before .before .before .before .before .before .before .before .before .before .args .start))
-
-same-length : tie.Need-same-length
-same-length c = search needs
 
 returns : tie.Need-returns
 unfolding lineOf
@@ -36,11 +27,4 @@ returns c =
 pub put-release-spec : {M : Type 1} → statement M
 put-release-spec =
     tie.close
-    (tie.spec
-    slice-aggregate-add-bytes
-    add-bytes-requires
-    add-number-requires
-    slice-aggregate-add-bytes-2
-    add-bytes-requires-2
-    same-length
-    returns)
+    (tie.spec (λ c. search needs) add-bytes-requires add-number-requires (λ c. search needs) add-bytes-requires-2 (λ c. search needs) returns)

@@ -2,26 +2,17 @@
 use mathlib.Core.Path.{ap, _∙_}
 use mathlib.Core.Option.{some}
 use native.Mathlib.Omega.{arith}
-use Rattle.lines.specs.Ask.{says}
+use Rattle.table.specs.Ask.{says}
 use Rattle.reply.specs.Line.{lineOf}
 use Rattle.reply.proofs.Laid.{too-short, fitting}
 use borrow.Author.Needs.{needs}
 use Rattle.reply.proofs.put_reply.Statement.{statement}
 use Rattle.reply.proofs.put_reply.Tie as tie
 
-line-len-requires : tie.Need-line-len-requires
-line-len-requires c κs = search needs
-
-put-line-requires : tie.Need-put-line-requires
-put-line-requires c κs = omega arith
-
 returns : tie.Need-returns
 returns c =
     let a = c .before .before .before .args in
     too-short (lineOf (says (a .a))) (a .out .now) (omega arith)
-
-same-length : tie.Need-same-length
-same-length c = search needs
 
 returns-2 : tie.Need-returns-2
 returns-2 c =
@@ -32,4 +23,4 @@ returns-2 c =
 
 pub put-reply-spec : {M : Type 1} → statement M
 put-reply-spec =
-    tie.close (tie.spec line-len-requires returns put-line-requires same-length returns-2)
+    tie.close (tie.spec (λ c κs. search needs) returns (λ c κs. omega arith) (λ c. search needs) returns-2)

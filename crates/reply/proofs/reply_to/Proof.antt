@@ -1,19 +1,10 @@
 -- `reply::reply_to` meets its contract: the line is laid on 40 bytes that are 0.
-use Rattle.lines.specs.Ask.{says}
+use Rattle.table.specs.Ask.{says}
 use Rattle.reply.specs.Line.{lineOf}
 use Rattle.reply.proofs.Laid.{replied}
 use borrow.Author.Needs.{needs}
 use Rattle.reply.proofs.reply_to.Statement.{statement}
 use Rattle.reply.proofs.reply_to.Tie as tie
-
-line-len-requires : tie.Need-line-len-requires
-line-len-requires c κs = search needs
-
-slice-aggregate-put-line : tie.Need-slice-aggregate-put-line
-slice-aggregate-put-line c = search needs
-
-put-line-requires : tie.Need-put-line-requires
-put-line-requires c κs = search needs
 
 returns : tie.Need-returns
 returns c =
@@ -22,4 +13,4 @@ returns c =
 
 pub reply-to-spec : {M : Type 1} → statement M
 reply-to-spec =
-    tie.close (tie.spec line-len-requires slice-aggregate-put-line put-line-requires returns)
+    tie.close (tie.spec (λ c κs. search needs) (λ c. search needs) (λ c κs. search needs) returns)

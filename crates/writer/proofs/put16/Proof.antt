@@ -9,21 +9,6 @@ use lib.Seq.{sets-eq}
 use Rattle.writer.proofs.put16.Statement.{statement}
 use Rattle.writer.proofs.put16.Tie as tie
 
-cast-out : tie.Need-cast-out
-cast-out c = search needs
-
-slice-write-out : tie.Need-slice-write-out
-slice-write-out c = search needs
-
-cast-out-2 : tie.Need-cast-out-2
-cast-out-2 c = search needs
-
-slice-write-out-2 : tie.Need-slice-write-out-2
-slice-write-out-2 c = search needs
-
-same-length : tie.Need-same-length
-same-length c = search needs
-
 returns : tie.Need-returns
 returns c =
     let v = c .args .v in
@@ -33,4 +18,4 @@ returns c =
 
 pub put16-spec : {M : Type 1} → statement M
 put16-spec =
-    tie.close (tie.spec cast-out slice-write-out cast-out-2 slice-write-out-2 same-length returns)
+    tie.close (tie.spec (λ c. search needs) (λ c. search needs) (λ c. search needs) (λ c. search needs) (λ c. search needs) returns)

@@ -10,48 +10,6 @@ use Rattle.writer.proofs.Whole.{by-twos}
 use Rattle.writer.proofs.put_clock.Statement.{statement}
 use Rattle.writer.proofs.put_clock.Tie as tie
 
-put-mark-requires : tie.Need-put-mark-requires
-put-mark-requires c κs = omega arith
-
-sub-put-two : tie.Need-sub-put-two
-sub-put-two c = omega arith
-
-part-put-two-start : tie.Need-part-put-two-start
-part-put-two-start c = omega arith
-
-part-put-two-end : tie.Need-part-put-two-end
-part-put-two-end c = omega arith
-
-cast-put-two : tie.Need-cast-put-two
-cast-put-two c = omega arith
-
-cast-put-two-2 : tie.Need-cast-put-two-2
-cast-put-two-2 c = omega arith
-
-put-two-requires : tie.Need-put-two-requires
-put-two-requires c κs = omega arith
-
-sub-put-two-2 : tie.Need-sub-put-two-2
-sub-put-two-2 c = omega arith
-
-part-put-two-start-2 : tie.Need-part-put-two-start-2
-part-put-two-start-2 c = omega arith
-
-part-put-two-end-2 : tie.Need-part-put-two-end-2
-part-put-two-end-2 c = omega arith
-
-cast-put-two-3 : tie.Need-cast-put-two-3
-cast-put-two-3 c = omega arith
-
-cast-put-two-4 : tie.Need-cast-put-two-4
-cast-put-two-4 c = omega arith
-
-put-two-requires-2 : tie.Need-put-two-requires-2
-put-two-requires-2 c κs = omega arith
-
-same-length : tie.Need-same-length
-same-length c = omega arith
-
 returns : tie.Need-returns
 returns c =
     let d = c .before .before .before .before .before .before in
@@ -70,19 +28,6 @@ returns c =
 pub put-clock-spec : {M : Type 1} → statement M
 put-clock-spec =
     tie.close
-    (tie.spec
-    put-mark-requires
-    sub-put-two
-    part-put-two-start
-    part-put-two-end
-    cast-put-two
-    cast-put-two-2
-    put-two-requires
-    sub-put-two-2
-    part-put-two-start-2
-    part-put-two-end-2
-    cast-put-two-3
-    cast-put-two-4
-    put-two-requires-2
-    same-length
-    returns)
+    (tie.spec (λ c κs. omega arith) (λ c. omega arith) (λ c. omega arith) (λ c. omega arith) (λ c. omega arith) (λ c. omega arith)
+    (λ c κs. omega arith) (λ c. omega arith) (λ c. omega arith) (λ c. omega arith) (λ c. omega arith) (λ c. omega arith) (λ c κs. omega arith)
+    (λ c. omega arith) returns)

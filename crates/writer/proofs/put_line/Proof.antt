@@ -7,48 +7,6 @@ use Rattle.writer.proofs.Parts.{put-at}
 use Rattle.writer.proofs.put_line.Statement.{statement}
 use Rattle.writer.proofs.put_line.Tie as tie
 
-put-mark-requires : tie.Need-put-mark-requires
-put-mark-requires c κs = omega arith
-
-sub-put-two : tie.Need-sub-put-two
-sub-put-two c = omega arith
-
-part-put-two-start : tie.Need-part-put-two-start
-part-put-two-start c = omega arith
-
-part-put-two-end : tie.Need-part-put-two-end
-part-put-two-end c = omega arith
-
-put-two-requires : tie.Need-put-two-requires
-put-two-requires c κs = omega arith
-
-sub-put-two-2 : tie.Need-sub-put-two-2
-sub-put-two-2 c = omega arith
-
-part-put-two-start-2 : tie.Need-part-put-two-start-2
-part-put-two-start-2 c = omega arith
-
-part-put-two-end-2 : tie.Need-part-put-two-end-2
-part-put-two-end-2 c = omega arith
-
-put-two-requires-2 : tie.Need-put-two-requires-2
-put-two-requires-2 c κs = omega arith
-
-sub-put16 : tie.Need-sub-put16
-sub-put16 c = omega arith
-
-part-put16-start : tie.Need-part-put16-start
-part-put16-start c = omega arith
-
-part-put16-end : tie.Need-part-put16-end
-part-put16-end c = omega arith
-
-put16-requires : tie.Need-put16-requires
-put16-requires c κs = omega arith
-
-same-length : tie.Need-same-length
-same-length c = omega arith
-
 returns : tie.Need-returns
 returns c =
     let e = c .before .before .before .before .before .before in
@@ -66,19 +24,6 @@ returns c =
 pub put-line-spec : {M : Type 1} → statement M
 put-line-spec =
     tie.close
-    (tie.spec
-    put-mark-requires
-    sub-put-two
-    part-put-two-start
-    part-put-two-end
-    put-two-requires
-    sub-put-two-2
-    part-put-two-start-2
-    part-put-two-end-2
-    put-two-requires-2
-    sub-put16
-    part-put16-start
-    part-put16-end
-    put16-requires
-    same-length
-    returns)
+    (tie.spec (λ c κs. omega arith) (λ c. omega arith) (λ c. omega arith) (λ c. omega arith) (λ c κs. omega arith) (λ c. omega arith)
+    (λ c. omega arith) (λ c. omega arith) (λ c κs. omega arith) (λ c. omega arith) (λ c. omega arith) (λ c. omega arith) (λ c κs. omega arith)
+    (λ c. omega arith) returns)

@@ -6,21 +6,6 @@ use Rattle.card.specs.Bytes.{markOf}
 use Rattle.writer.proofs.put_mark.Statement.{statement}
 use Rattle.writer.proofs.put_mark.Tie as tie
 
-element-copy-out-out : tie.Need-element-copy-out-out
-element-copy-out-out c = search needs
-
-slice-write-out : tie.Need-slice-write-out
-slice-write-out c = search needs
-
-element-copy-out-out-2 : tie.Need-element-copy-out-out-2
-element-copy-out-out-2 c = search needs
-
-slice-write-out-2 : tie.Need-slice-write-out-2
-slice-write-out-2 c = search needs
-
-same-length : tie.Need-same-length
-same-length c = search needs
-
 returns : tie.Need-returns
 returns c =
     let a = c .before .before .args in
@@ -28,11 +13,4 @@ returns c =
 
 pub put-mark-spec : {M : Type 1} → statement M
 put-mark-spec =
-    tie.close
-    (tie.spec
-    element-copy-out-out
-    slice-write-out
-    element-copy-out-out-2
-    slice-write-out-2
-    same-length
-    returns)
+    tie.close (tie.spec (λ c. search needs) (λ c. search needs) (λ c. search needs) (λ c. search needs) (λ c. search needs) returns)

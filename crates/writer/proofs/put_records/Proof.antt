@@ -21,26 +21,11 @@ loop-holds c =
     let h : length (a .t2) ≡ 16 = search needs in
     put-start (a .out .now) (a .t2) (a .t3) (a .n) (omega (arith, c .before .pre .0)) (c .before .pre .1)
 
-mul-s : tie.Need-mul-s Inv-loop μ-loop
-mul-s c = omega arith
-
-array-copy-out-s : tie.Need-array-copy-out-s Inv-loop μ-loop
-array-copy-out-s c = omega arith
-
-mul-t : tie.Need-mul-t Inv-loop μ-loop
-mul-t c = omega arith
-
-array-read-t : tie.Need-array-read-t Inv-loop μ-loop
-array-read-t c = omega arith
-
 sub-put-slot : tie.Need-sub-put-slot Inv-loop μ-loop
 sub-put-slot c = omega (arith, put-room (c .before .before .loop .inv) (omega arith))
 
 part-put-slot-start : tie.Need-part-put-slot-start Inv-loop μ-loop
 part-put-slot-start c = omega (arith, put-room (c .before .before .loop .inv) (omega arith))
-
-part-put-slot-end : tie.Need-part-put-slot-end Inv-loop μ-loop
-part-put-slot-end c = search needs
 
 put-slot-requires : tie.Need-put-slot-requires Inv-loop μ-loop
 put-slot-requires c κs =
@@ -51,12 +36,6 @@ add-at : tie.Need-add-at Inv-loop μ-loop
 add-at c =
     let b = c .before .before .before .before .before .before in
     omega (arith, put-room (b .loop .inv) (omega arith), put-same (b .loop .inv), c .before .before .put-slot .ensures .0, b .before .before .good .0 .0)
-
-add-i : tie.Need-add-i Inv-loop μ-loop
-add-i c = omega arith
-
-loop-less : tie.Need-loop-less Inv-loop μ-loop
-loop-less c = omega arith
 
 loop-again : tie.Need-loop-again Inv-loop μ-loop
 loop-again c =
@@ -72,21 +51,5 @@ returns c = put-end (c .before .loop .inv) (omega arith)
 pub put-records-spec : {M : Type 1} → statement M
 put-records-spec =
     tie.close
-    (tie.spec
-    Inv-loop
-    μ-loop
-    loop-holds
-    mul-s
-    array-copy-out-s
-    mul-t
-    array-read-t
-    sub-put-slot
-    part-put-slot-start
-    part-put-slot-end
-    put-slot-requires
-    add-at
-    add-i
-    loop-less
-    loop-again
-    same-length
-    returns)
+    (tie.spec Inv-loop μ-loop loop-holds (λ c. omega arith) (λ c. omega arith) (λ c. omega arith) (λ c. omega arith) sub-put-slot part-put-slot-start
+    (λ c. search needs) put-slot-requires add-at (λ c. omega arith) (λ c. omega arith) loop-again same-length returns)

@@ -6,24 +6,6 @@ use Rattle.writer.proofs.Parts.{put-at}
 use Rattle.writer.proofs.put_two.Statement.{statement}
 use Rattle.writer.proofs.put_two.Tie as tie
 
-put16-requires : tie.Need-put16-requires
-put16-requires c κs = omega arith
-
-sub-put16 : tie.Need-sub-put16
-sub-put16 c = omega arith
-
-part-put16-start : tie.Need-part-put16-start
-part-put16-start c = omega arith
-
-part-put16-end : tie.Need-part-put16-end
-part-put16-end c = omega arith
-
-put16-requires-2 : tie.Need-put16-requires-2
-put16-requires-2 c κs = omega arith
-
-same-length : tie.Need-same-length
-same-length c = omega arith
-
 returns : tie.Need-returns
 returns c =
     let b = c .before .before .before .before .before .before in
@@ -34,11 +16,4 @@ returns c =
 pub put-two-spec : {M : Type 1} → statement M
 put-two-spec =
     tie.close
-    (tie.spec
-    put16-requires
-    sub-put16
-    part-put16-start
-    part-put16-end
-    put16-requires-2
-    same-length
-    returns)
+    (tie.spec (λ c κs. omega arith) (λ c. omega arith) (λ c. omega arith) (λ c. omega arith) (λ c κs. omega arith) (λ c. omega arith) returns)

@@ -4,7 +4,7 @@ use mathlib.Core.Path.{_≡_}
 use Prim.Native.Nat.{_-_, _≤_}
 use native.Mathlib.Omega.{arith}
 use lib.ListN.{length, getD, replicate}
-use Rattle.lines.specs.Slots.{empty}
+use Rattle.line.specs.Slots.{empty}
 use Rattle.card.proofs.Length.{record-length}
 use Rattle.writer.proofs.Slots.{Counted, counted-start, counted-small, counted-on, counted-end}
 use Rattle.writer.proofs.records_len.Statement.{statement}
@@ -21,12 +21,6 @@ loop-holds c =
     let h : length (c .args .t1) ≡ 16 = search needs in
     (c .pre, counted-start _ _ _ (omega (arith, c .pre)))
 
-mul-slot-len : tie.Need-mul-slot-len Inv-loop μ-loop
-mul-slot-len c = omega arith
-
-array-copy-out-slot-len : tie.Need-array-copy-out-slot-len Inv-loop μ-loop
-array-copy-out-slot-len c = omega arith
-
 slot-len-requires : tie.Need-slot-len-requires Inv-loop μ-loop
 slot-len-requires c κs = tt
 
@@ -35,12 +29,6 @@ add-len c =
     let s = c .before .before .before .before .args .t1 in
     let q = c .before .before .before .loop in
     omega (arith, counted-small (q .inv .1), record-length (getD s (q .i) empty .held) 0)
-
-add-i : tie.Need-add-i Inv-loop μ-loop
-add-i c = omega arith
-
-loop-less : tie.Need-loop-less Inv-loop μ-loop
-loop-less c = omega arith
 
 loop-again : tie.Need-loop-again Inv-loop μ-loop
 loop-again c =
@@ -56,15 +44,5 @@ returns c =
 pub records-len-spec : {M : Type 1} → statement M
 records-len-spec =
     tie.close
-    (tie.spec
-    Inv-loop
-    μ-loop
-    loop-holds
-    mul-slot-len
-    array-copy-out-slot-len
-    slot-len-requires
-    add-len
-    add-i
-    loop-less
-    loop-again
-    returns)
+    (tie.spec Inv-loop μ-loop loop-holds (λ c. omega arith) (λ c. omega arith) slot-len-requires add-len (λ c. omega arith) (λ c. omega arith)
+    loop-again returns)

@@ -20,20 +20,8 @@ loop-holds c =
     let h : length (c .args .t1) ≡ 16 = search needs in
     (omega arith, h, ap used (drop-of-length-le (c .args .t1) {i = 16} (omega arith)))
 
-sub-k : tie.Need-sub-k Inv-loop μ-loop
-sub-k c = omega arith
-
-mul-is-empty : tie.Need-mul-is-empty Inv-loop μ-loop
-mul-is-empty c = omega arith
-
-array-copy-out-is-empty : tie.Need-array-copy-out-is-empty Inv-loop μ-loop
-array-copy-out-is-empty c = omega arith
-
 is-empty-requires : tie.Need-is-empty-requires Inv-loop μ-loop
 is-empty-requires c κs = tt
-
-loop-less : tie.Need-loop-less Inv-loop μ-loop
-loop-less c = omega arith
 
 loop-again : tie.Need-loop-again Inv-loop μ-loop
 loop-again c =
@@ -59,15 +47,5 @@ returns-2 c =
 pub used-slots-spec : {M : Type 1} → statement M
 used-slots-spec =
     tie.close
-    (tie.spec
-    Inv-loop
-    μ-loop
-    loop-holds
-    sub-k
-    mul-is-empty
-    array-copy-out-is-empty
-    is-empty-requires
-    loop-less
-    loop-again
-    returns
-    returns-2)
+    (tie.spec Inv-loop μ-loop loop-holds (λ c. omega arith) (λ c. omega arith) (λ c. omega arith) is-empty-requires (λ c. omega arith) loop-again
+    returns returns-2)

@@ -6,7 +6,7 @@ use mathlib.Core.List.{_++_}
 use Prim.Native.Nat.{ℕ, _+_, _-_}
 use native.Mathlib.Omega.{arith}
 use lib.ListN.{length, drop, length-drop}
-use Rattle.lines.specs.Slots.{gives, refuses}
+use Rattle.table.specs.Words.{gives, refuses}
 use Rattle.card.specs.Card.{clockRecord, slotRecords, requestRecord}
 use Rattle.card.proofs.Parts.{part-all}
 use Rattle.writer.proofs.Parts.{put-at}
@@ -17,23 +17,11 @@ use Rattle.writer.proofs.write.Tie as tie
 lowest-waiting-requires : tie.Need-lowest-waiting-requires
 lowest-waiting-requires c κs = tt
 
-enum-known-k : tie.Need-enum-known-k
-enum-known-k c = search needs
-
 new-requires : tie.Need-new-requires
 new-requires c κs = tt
 
-enum-told : tie.Need-enum-told
-enum-told c = search needs
-
 used-slots-requires : tie.Need-used-slots-requires
 used-slots-requires c κs = tt
-
-records-len-requires : tie.Need-records-len-requires
-records-len-requires c κs = omega arith
-
-add-len : tie.Need-add-len
-add-len c = omega arith
 
 new-requires-2 : tie.Need-new-requires-2
 new-requires-2 c κs = tt
@@ -49,18 +37,6 @@ returns c =
     let k = card-len (a .t) (a .q) (u .result) (r .result) (u .ensures .0) (r .ensures .0) in
     other-writing (a .t) (a .q) (w .result) (w .ensures) z (a .out .now) (a .out .now) (refuses (c .new2 .result))
     (short-writing (a .t) (a .q) (a .out .now) (c .new2 .result) (c .new2 .ensures) (omega (arith, k)))
-
-put-clock-requires : tie.Need-put-clock-requires
-put-clock-requires c κs = omega arith
-
-sub-put-records : tie.Need-sub-put-records
-sub-put-records c = omega arith
-
-part-put-records-start : tie.Need-part-put-records-start
-part-put-records-start c = omega arith
-
-part-put-records-end : tie.Need-part-put-records-end
-part-put-records-end c = omega arith
 
 put-records-requires : tie.Need-put-records-requires
 put-records-requires c κs =
@@ -90,9 +66,6 @@ add-at c = omega (arith, sub-put-request c)
 part-put-request-start : tie.Need-part-put-request-start
 part-put-request-start c = omega (arith, sub-put-request c)
 
-part-put-request-end : tie.Need-part-put-request-end
-part-put-request-end c = omega arith
-
 put-request-requires : tie.Need-put-request-requires
 put-request-requires c κs =
     let b = c .before .before .before .before .before .before .before .before .before .before in
@@ -111,9 +84,6 @@ returns-2 c =
     let a = c .before .before .before .before .before .before .args in
     let w = c .before .before .before .before .lowest-waiting in
     waiting-writing (a .t) (a .q) (w .result) (w .ensures) _ (c .before .before .k .given .1) (c .new .result) (c .new .ensures) (a .out .now)
-
-same-length : tie.Need-same-length
-same-length c = search needs
 
 returns-3 : tie.Need-returns-3
 returns-3 c =
@@ -142,26 +112,6 @@ returns-3 c =
 pub write-spec : {M : Type 1} → statement M
 write-spec =
     tie.close
-    (tie.spec
-    lowest-waiting-requires
-    enum-known-k
-    new-requires
-    enum-told
-    used-slots-requires
-    records-len-requires
-    add-len
-    new-requires-2
-    returns
-    put-clock-requires
-    sub-put-records
-    part-put-records-start
-    part-put-records-end
-    put-records-requires
-    add-at
-    sub-put-request
-    part-put-request-start
-    part-put-request-end
-    put-request-requires
-    returns-2
-    same-length
-    returns-3)
+    (tie.spec lowest-waiting-requires (λ c. search needs) new-requires (λ c. search needs) used-slots-requires (λ c κs. omega arith)
+    (λ c. omega arith) new-requires-2 returns (λ c κs. omega arith) (λ c. omega arith) (λ c. omega arith) (λ c. omega arith) put-records-requires
+    add-at sub-put-request part-put-request-start (λ c. omega arith) put-request-requires returns-2 (λ c. search needs) returns-3)

@@ -3,32 +3,12 @@ use mathlib.Core.Path.{_≡_, ap, sym, _∙_}
 use native.Mathlib.Omega.{arith}
 use lib.ListN.{length, length-map}
 use borrow.Author.Needs.{needs}
-use Rattle.lines.specs.Slots.{at, isNothing, slotOf}
-use Rattle.lines.proofs.Search.{lowest-below}
+use Rattle.line.specs.Slots.{at, isNothing}
+use Rattle.table.specs.Words.{slotOf}
+use Rattle.line.proofs.Search.{lowest-below}
 use Rattle.ask.proofs.Placing.{put-nowhere, put-at}
 use Rattle.ask.proofs.place.admitted.Statement.{statement}
 use Rattle.ask.proofs.place.admitted.Tie as tie
-
-sub-wait : tie.Need-sub-wait
-sub-wait c = search needs
-
-cast-wait : tie.Need-cast-wait
-cast-wait c = search needs
-
-new-line-requires : tie.Need-new-line-requires
-new-line-requires c κs = search needs
-
-stretch-all-requires : tie.Need-stretch-all-requires
-stretch-all-requires c κs = search needs
-
-lowest-empty-requires : tie.Need-lowest-empty-requires
-lowest-empty-requires c κs = search needs
-
-enum-told : tie.Need-enum-told
-enum-told c = search needs
-
-enum-known-k : tie.Need-enum-known-k
-enum-known-k c = search needs
 
 put-requires : tie.Need-put-requires
 put-requires c κs =
@@ -46,9 +26,9 @@ returns c =
     let x = c .before .before .before .before .before .before .args in
     let stretch-all = c .before .before .before .stretch-all in
     let lowest-empty = c .before .before .lowest-empty in
-    let enum-told = c .enum-told in
+    let told = c .enum-told in
     put-nowhere (x .t) (x .q) (x .start) (stretch-all .ensures .0) (stretch-all .ensures .1)
-    (sym (lowest-empty .ensures) ∙ ap slotOf (enum-told .given .1))
+    (sym (lowest-empty .ensures) ∙ ap slotOf (told .given .1))
 
 returns-2 : tie.Need-returns-2
 returns-2 c =
@@ -64,14 +44,5 @@ returns-2 c =
 pub admitted-spec : {M : Type 1} → statement M
 admitted-spec =
     tie.close
-    (tie.spec
-    sub-wait
-    cast-wait
-    new-line-requires
-    stretch-all-requires
-    lowest-empty-requires
-    enum-told
-    enum-known-k
-    put-requires
-    returns
-    returns-2)
+    (tie.spec (λ c. search needs) (λ c. search needs) (λ c κs. search needs) (λ c κs. search needs) (λ c κs. search needs) (λ c. search needs)
+    (λ c. search needs) put-requires returns returns-2)

@@ -1,4 +1,6 @@
 -- `new_line` meets its contract: a line that waits or one that runs.
+use mathlib.Core.Path.{_∙_}
+use borrow.Author.Needs.{needs}
 use borrow.Author.Tests.{lt-ltb, le-ltb}
 use Rattle.ask.proofs.place.new_line.Statement.{statement}
 use Rattle.ask.proofs.place.new_line.Tie as tie
@@ -7,7 +9,8 @@ returns : tie.Need-returns
 returns c = simp (lt-ltb _ _ (c .if1 .taken))
 
 returns-2 : tie.Need-returns-2
-returns-2 c = simp (le-ltb _ _ (c .if1 .left))
+returns-2 c = c .fresh .ensures ∙ simp (le-ltb _ _ (c .before .if1 .left))
 
 pub new-line-spec : {M : Type 1} → statement M
-new-line-spec = tie.close (tie.spec returns returns-2)
+new-line-spec =
+    tie.close (tie.spec returns (search needs) returns-2)

@@ -4,21 +4,12 @@ use mathlib.Core.Logic.{⊎-elim}
 use native.Mathlib.Nat.{mul-le-mul, div-le-self, mod-lt}
 use native.Mathlib.Omega.{arith}
 use borrow.Author.Needs.{needs}
-use Rattle.lines.specs.Ask.{bound}
+use Rattle.line.specs.Ends.{bound}
 use Rattle.demand.proofs.ends.bound_at.Statement.{statement}
 use Rattle.demand.proofs.ends.bound_at.Tie as tie
 
-add-until : tie.Need-add-until
-add-until c = search needs
-
-rem-spare : tie.Need-rem-spare
-rem-spare c = search needs
-
 sub-until : tie.Need-sub-until
 sub-until c = let x = c .args in let a = mod-lt (x .s) (c .pre .0) in let q = div-le-self (x .s) (x .need) in omega arith
-
-div-before : tie.Need-div-before
-div-before c = search needs
 
 add-before : tie.Need-add-before
 add-before c = let x = c .before .args in let a = mod-lt (x .s) (c .before .pre .0) in let q = div-le-self (x .s) (x .need) in omega arith
@@ -46,5 +37,4 @@ returns-2 c =
 
 pub bound-at-spec : {M : Type 1} → statement M
 bound-at-spec =
-    tie.close
-    (tie.spec rem-spare add-until sub-until div-before add-before mul-before returns returns-2)
+    tie.close (tie.spec (λ c. search needs) (λ c. search needs) sub-until (λ c. search needs) add-before mul-before returns returns-2)

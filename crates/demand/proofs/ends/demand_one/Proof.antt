@@ -4,12 +4,9 @@ use native.Mathlib.Omega.{arith}
 use borrow.Author.Needs.{needs}
 use borrow.Author.Tests.{lt-ltb, le-ltb}
 use Rattle.periods.proofs.Whole.{share-le}
-use Rattle.lines.specs.Demand.{due}
+use Rattle.line.specs.Demand.{due}
 use Rattle.demand.proofs.ends.demand_one.Statement.{statement}
 use Rattle.demand.proofs.ends.demand_one.Tie as tie
-
-div-result : tie.Need-div-result
-div-result c = search needs
 
 mul-result : tie.Need-mul-result
 mul-result c = let x = c .before .args in omega (arith, share-le (x .need) (x .period) (x .d - x .end) (omega arith))
@@ -26,4 +23,5 @@ unfolding due
 returns-2 c = let x = c .before .args in (simp (le-ltb _ _ (c .if1 .left)), omega (arith, share-le (x .need) (x .period) (x .d - x .end) (omega arith)))
 
 pub demand-one-spec : {M : Type 1} → statement M
-demand-one-spec = tie.close (tie.spec div-result mul-result add-result returns returns-2)
+demand-one-spec =
+    tie.close (tie.spec (λ c. search needs) mul-result add-result returns returns-2)

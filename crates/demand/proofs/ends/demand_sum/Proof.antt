@@ -19,47 +19,11 @@ abbrev μ-loop : tie.MeasureT-loop
 loop-holds : tie.Need-loop-holds Inv-loop μ-loop
 loop-holds c = (omega (arith, c .pre .0 .few), refl, λ k h. absurd (omega arith))
 
-mul-demand-one : tie.Need-mul-demand-one Inv-loop μ-loop
-mul-demand-one c = search needs
-
-element-copy-out-demand-one : tie.Need-element-copy-out-demand-one Inv-loop μ-loop
-element-copy-out-demand-one c = search needs
-
-mul-demand-one-2 : tie.Need-mul-demand-one-2 Inv-loop μ-loop
-mul-demand-one-2 c = search needs
-
-element-copy-out-demand-one-2 : tie.Need-element-copy-out-demand-one-2 Inv-loop μ-loop
-element-copy-out-demand-one-2 c = search needs
-
-mul-demand-one-3 : tie.Need-mul-demand-one-3 Inv-loop μ-loop
-mul-demand-one-3 c = search needs
-
-element-copy-out-demand-one-3 : tie.Need-element-copy-out-demand-one-3 Inv-loop μ-loop
-element-copy-out-demand-one-3 c = search needs
-
-mul-demand-one-4 : tie.Need-mul-demand-one-4 Inv-loop μ-loop
-mul-demand-one-4 c = search needs
-
-element-copy-out-demand-one-4 : tie.Need-element-copy-out-demand-one-4 Inv-loop μ-loop
-element-copy-out-demand-one-4 c = search needs
-
 demand-one-requires : tie.Need-demand-one-requires Inv-loop μ-loop
 demand-one-requires c κs =
     let pre = c .before .before .before .before .before .before .pre in
     let loop = c .before .before .before .before .before .loop in
     let w = pre .0 .each (loop .i) (omega arith) in (w .some, w .less, omega (arith, w .less, w .rest, w .wide), pre .1)
-
-mul-terms : tie.Need-mul-terms Inv-loop μ-loop
-mul-terms c = search needs
-
-array-write-terms : tie.Need-array-write-terms Inv-loop μ-loop
-array-write-terms c = search needs
-
-add-i : tie.Need-add-i Inv-loop μ-loop
-add-i c = search needs
-
-loop-less : tie.Need-loop-less Inv-loop μ-loop
-loop-less c = search needs
 
 loop-again : tie.Need-loop-again Inv-loop μ-loop
 loop-again c =
@@ -84,23 +48,6 @@ returns c = let loop = c .before .before .before .loop in c .add .ensures ∙ su
 pub demand-sum-spec : {M : Type 1} → statement M
 demand-sum-spec =
     tie.close
-    (tie.spec
-    Inv-loop
-    μ-loop
-    loop-holds
-    mul-demand-one
-    element-copy-out-demand-one
-    mul-demand-one-2
-    element-copy-out-demand-one-2
-    mul-demand-one-3
-    element-copy-out-demand-one-3
-    mul-demand-one-4
-    element-copy-out-demand-one-4
-    demand-one-requires
-    mul-terms
-    array-write-terms
-    add-i
-    loop-less
-    loop-again
-    add-requires
-    returns)
+    (tie.spec Inv-loop μ-loop loop-holds (λ c. search needs) (λ c. search needs) (λ c. search needs) (λ c. search needs) (λ c. search needs)
+    (λ c. search needs) (λ c. search needs) (λ c. search needs) demand-one-requires (λ c. search needs) (λ c. search needs) (λ c. search needs)
+    (λ c. search needs) loop-again add-requires returns)

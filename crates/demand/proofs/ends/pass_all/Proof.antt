@@ -20,18 +20,6 @@ last-end-requires c κs = c .before .before .before .before .before .pre .0 .few
 loop-holds : tie.Need-loop-holds Inv-loop μ-loop
 loop-holds c = each-start _ _ _ _ _ _ _
 
-mul-e : tie.Need-mul-e Inv-loop μ-loop
-mul-e c = search needs
-
-array-read-e : tie.Need-array-read-e Inv-loop μ-loop
-array-read-e c = search needs
-
-mul-p : tie.Need-mul-p Inv-loop μ-loop
-mul-p c = search needs
-
-array-read-p : tie.Need-array-read-p Inv-loop μ-loop
-array-read-p c = search needs
-
 pass-line-requires : tie.Need-pass-line-requires Inv-loop μ-loop
 pass-line-requires c κs =
     let pre = c .before .before .before .before .before .before .before .before .before .before .before .before .pre in
@@ -55,12 +43,6 @@ returns c =
     let if1 = c .if1 in
     each-short _ _ _ _ (loop .inv) (loop-test .taken) (pass-line .ensures) (if1 .taken) ∙ ap (passTo (x .g) (x .need) (x .period)) (last-end .ensures)
 
-add-i : tie.Need-add-i Inv-loop μ-loop
-add-i c = search needs
-
-loop-less : tie.Need-loop-less Inv-loop μ-loop
-loop-less c = search needs
-
 loop-again : tie.Need-loop-again Inv-loop μ-loop
 loop-again c =
     let loop = c .before .before .before .before .before .before .before .loop in
@@ -80,18 +62,5 @@ returns-2 c =
 pub pass-all-spec : {M : Type 1} → statement M
 pass-all-spec =
     tie.close
-    (tie.spec
-    Inv-loop
-    μ-loop
-    last-end-requires
-    loop-holds
-    mul-e
-    array-read-e
-    mul-p
-    array-read-p
-    pass-line-requires
-    returns
-    add-i
-    loop-less
-    loop-again
-    returns-2)
+    (tie.spec Inv-loop μ-loop last-end-requires loop-holds (λ c. search needs) (λ c. search needs) (λ c. search needs) (λ c. search needs)
+    pass-line-requires returns (λ c. search needs) (λ c. search needs) loop-again returns-2)

@@ -22,9 +22,6 @@ loop-holds c = one-start _ _ _ _ _ _ _ (omega arith)
 demand-sum-requires : tie.Need-demand-sum-requires Inv-loop μ-loop
 demand-sum-requires c κs = (c .before .before .pre .0, omega arith)
 
-passes-requires : tie.Need-passes-requires Inv-loop μ-loop
-passes-requires c κs = search needs
-
 returns : tie.Need-returns Inv-loop μ-loop
 returns c =
     let pre = c .before .before .before .before .before .pre in
@@ -40,12 +37,6 @@ sub-bound-at c = leb-true _ _ (sym (c .before .passes .ensures) ∙ not-false _ 
 
 bound-at-requires : tie.Need-bound-at-requires Inv-loop μ-loop
 bound-at-requires c κs = let f = c .before .before .before .before .before .pre .1 in (f .some, f .small, f .wide, omega arith, omega arith)
-
-add-d : tie.Need-add-d Inv-loop μ-loop
-add-d c = search needs
-
-loop-less : tie.Need-loop-less Inv-loop μ-loop
-loop-less c = search needs
 
 loop-again : tie.Need-loop-again Inv-loop μ-loop
 loop-again c =
@@ -66,16 +57,5 @@ returns-2 c = one-end _ _ _ _ (c .before .loop .inv) (c .before .before .pre .2)
 pub pass-line-spec : {M : Type 1} → statement M
 pass-line-spec =
     tie.close
-    (tie.spec
-    Inv-loop
-    μ-loop
-    loop-holds
-    demand-sum-requires
-    passes-requires
-    returns
-    sub-bound-at
-    bound-at-requires
-    add-d
-    loop-less
-    loop-again
-    returns-2)
+    (tie.spec Inv-loop μ-loop loop-holds demand-sum-requires (λ c κs. search needs) returns sub-bound-at bound-at-requires (λ c. search needs)
+    (λ c. search needs) loop-again returns-2)

@@ -7,4 +7,5 @@ returns : tie.Need-returns
 returns c = refl
 
 pub passes-spec : {M : Type 1} → statement M
-passes-spec = tie.close (tie.spec returns)
+passes-spec =
+    tie.close (tie.spec returns)

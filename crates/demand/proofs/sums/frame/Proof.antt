@@ -15,35 +15,11 @@ Inv-loop new g all₀ i₀ all i = (i ≤ g .count) × (all ≡ filled new (g .p
 abbrev μ-loop : tie.MeasureT-loop
 μ-loop new g all₀ i₀ all i = g .count - i
 
-array-write-all : tie.Need-array-write-all Inv-loop μ-loop
-array-write-all c = search needs
-
 loop-holds : tie.Need-loop-holds Inv-loop μ-loop
 loop-holds c = (omega (arith, c .pre .few), fill-start _ _)
 
-mul-all : tie.Need-mul-all Inv-loop μ-loop
-mul-all c = search needs
-
-element-copy-out-all : tie.Need-element-copy-out-all Inv-loop μ-loop
-element-copy-out-all c = search needs
-
 cast-all : tie.Need-cast-all Inv-loop μ-loop
 cast-all c = omega (arith, c .before .before .before .pre .each (c .before .before .loop .i) (omega arith) .wide)
-
-add-all : tie.Need-add-all Inv-loop μ-loop
-add-all c = search needs
-
-mul-all-2 : tie.Need-mul-all-2 Inv-loop μ-loop
-mul-all-2 c = search needs
-
-array-write-all-2 : tie.Need-array-write-all-2 Inv-loop μ-loop
-array-write-all-2 c = search needs
-
-add-i : tie.Need-add-i Inv-loop μ-loop
-add-i c = search needs
-
-loop-less : tie.Need-loop-less Inv-loop μ-loop
-loop-less c = search needs
 
 loop-again : tie.Need-loop-again Inv-loop μ-loop
 loop-again c =
@@ -68,9 +44,6 @@ slice-aggregate-frame c =
     let few = c .before .before .before .pre .few in
     sym (length-take-le _ _ (omega (arith, filled-long _ _ (loop .all) _ _ (loop .inv .1) z few, few)))
 
-frame-requires : tie.Need-frame-requires Inv-loop μ-loop
-frame-requires c κs = search needs
-
 returns : tie.Need-returns Inv-loop μ-loop
 returns c =
     let loop = c .before .before .before .loop in
@@ -81,22 +54,6 @@ returns c =
 pub frame-spec : {M : Type 1} → statement M
 frame-spec =
     tie.close
-    (tie.spec
-    Inv-loop
-    μ-loop
-    array-write-all
-    loop-holds
-    mul-all
-    element-copy-out-all
-    cast-all
-    add-all
-    mul-all-2
-    array-write-all-2
-    add-i
-    loop-less
-    loop-again
-    add-n
-    array-share-prefix-all
-    slice-aggregate-frame
-    frame-requires
+    (tie.spec Inv-loop μ-loop (λ c. search needs) loop-holds (λ c. search needs) (λ c. search needs) cast-all (λ c. search needs) (λ c. search needs)
+    (λ c. search needs) (λ c. search needs) (λ c. search needs) loop-again add-n array-share-prefix-all slice-aggregate-frame (λ c κs. search needs)
     returns)

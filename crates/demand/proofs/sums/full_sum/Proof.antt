@@ -18,15 +18,6 @@ abbrev μ-loop : tie.MeasureT-loop
 loop-holds : tie.Need-loop-holds Inv-loop μ-loop
 loop-holds c = sum-start _ _ _
 
-mul-x : tie.Need-mul-x Inv-loop μ-loop
-mul-x c = search needs
-
-element-copy-out-x : tie.Need-element-copy-out-x Inv-loop μ-loop
-element-copy-out-x c = search needs
-
-cast-x : tie.Need-cast-x Inv-loop μ-loop
-cast-x c = search needs
-
 mul-x-2 : tie.Need-mul-x-2 Inv-loop μ-loop
 mul-x-2 c =
     let pre = c .before .before .before .pre in
@@ -43,12 +34,6 @@ add-sum c =
     let w = pre .0 .each (loop .i) (omega arith) in let m = product-small (x .frame) (getD (x .t1 .need) (loop .i) 0) (pre .1) (omega
     (arith, w .less, w .wide)) in omega arith
 
-add-i : tie.Need-add-i Inv-loop μ-loop
-add-i c = search needs
-
-loop-less : tie.Need-loop-less Inv-loop μ-loop
-loop-less c = search needs
-
 loop-again : tie.Need-loop-again Inv-loop μ-loop
 loop-again c =
     let pre = c .before .before .before .pre in
@@ -64,16 +49,5 @@ returns c = sum-end (c .before .loop .inv) (omega arith)
 pub full-sum-spec : {M : Type 1} → statement M
 full-sum-spec =
     tie.close
-    (tie.spec
-    Inv-loop
-    μ-loop
-    loop-holds
-    mul-x
-    element-copy-out-x
-    cast-x
-    mul-x-2
-    add-sum
-    add-i
-    loop-less
-    loop-again
-    returns)
+    (tie.spec Inv-loop μ-loop loop-holds (λ c. search needs) (λ c. search needs) (λ c. search needs) mul-x-2 add-sum (λ c. search needs)
+    (λ c. search needs) loop-again returns)

@@ -7,17 +7,8 @@ use Rattle.demand.proofs.Adding.{product-small}
 use Rattle.demand.proofs.sums.owed.Statement.{statement}
 use Rattle.demand.proofs.sums.owed.Tie as tie
 
-sub-age : tie.Need-sub-age
-sub-age c = search needs
-
-cast-age : tie.Need-cast-age
-cast-age c = search needs
-
 mul-result : tie.Need-mul-result
 mul-result c = omega (arith, product-small (c .args .frame) (c .args .remaining) (omega arith) (omega arith))
-
-share-requires : tie.Need-share-requires
-share-requires c κs = search needs
 
 mul-result-2 : tie.Need-mul-result-2
 mul-result-2 c =
@@ -45,4 +36,4 @@ returns c =
 
 pub owed-spec : {M : Type 1} → statement M
 owed-spec =
-    tie.close (tie.spec sub-age cast-age mul-result share-requires mul-result-2 add-result returns)
+    tie.close (tie.spec (λ c. search needs) (λ c. search needs) mul-result (λ c κs. search needs) mul-result-2 add-result returns)

@@ -16,44 +16,11 @@ abbrev μ-loop : tie.MeasureT-loop
 loop-holds : tie.Need-loop-holds Inv-loop μ-loop
 loop-holds c = sum-start _ _ _
 
-mul-owed : tie.Need-mul-owed Inv-loop μ-loop
-mul-owed c = search needs
-
-element-copy-out-owed : tie.Need-element-copy-out-owed Inv-loop μ-loop
-element-copy-out-owed c = search needs
-
-mul-owed-2 : tie.Need-mul-owed-2 Inv-loop μ-loop
-mul-owed-2 c = search needs
-
-element-copy-out-owed-2 : tie.Need-element-copy-out-owed-2 Inv-loop μ-loop
-element-copy-out-owed-2 c = search needs
-
-mul-owed-3 : tie.Need-mul-owed-3 Inv-loop μ-loop
-mul-owed-3 c = search needs
-
-element-copy-out-owed-3 : tie.Need-element-copy-out-owed-3 Inv-loop μ-loop
-element-copy-out-owed-3 c = search needs
-
-mul-owed-4 : tie.Need-mul-owed-4 Inv-loop μ-loop
-mul-owed-4 c = search needs
-
-element-copy-out-owed-4 : tie.Need-element-copy-out-owed-4 Inv-loop μ-loop
-element-copy-out-owed-4 c = search needs
-
 owed-requires : tie.Need-owed-requires Inv-loop μ-loop
 owed-requires c κs =
     let pre = c .before .before .before .before .before .before .pre in
     let loop = c .before .before .before .before .before .loop in
     let w = pre .0 .each (loop .i) (omega arith) in (pre .1, w .some, w .ends, w .less, w .rest, w .wide)
-
-add-sum : tie.Need-add-sum Inv-loop μ-loop
-add-sum c = search needs
-
-add-i : tie.Need-add-i Inv-loop μ-loop
-add-i c = search needs
-
-loop-less : tie.Need-loop-less Inv-loop μ-loop
-loop-less c = search needs
 
 loop-again : tie.Need-loop-again Inv-loop μ-loop
 loop-again c =
@@ -68,21 +35,6 @@ returns c = sum-end (c .before .loop .inv) (omega arith)
 pub owed-sum-spec : {M : Type 1} → statement M
 owed-sum-spec =
     tie.close
-    (tie.spec
-    Inv-loop
-    μ-loop
-    loop-holds
-    mul-owed
-    element-copy-out-owed
-    mul-owed-2
-    element-copy-out-owed-2
-    mul-owed-3
-    element-copy-out-owed-3
-    mul-owed-4
-    element-copy-out-owed-4
-    owed-requires
-    add-sum
-    add-i
-    loop-less
-    loop-again
+    (tie.spec Inv-loop μ-loop loop-holds (λ c. search needs) (λ c. search needs) (λ c. search needs) (λ c. search needs) (λ c. search needs)
+    (λ c. search needs) (λ c. search needs) (λ c. search needs) owed-requires (λ c. search needs) (λ c. search needs) (λ c. search needs) loop-again
     returns)

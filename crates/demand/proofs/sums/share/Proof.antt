@@ -6,9 +6,6 @@ use Rattle.demand.proofs.Adding.{share-small}
 use Rattle.demand.proofs.sums.share.Statement.{statement}
 use Rattle.demand.proofs.sums.share.Tie as tie
 
-div-result : tie.Need-div-result
-div-result c = search needs
-
 mul-result : tie.Need-mul-result
 mul-result c = omega (arith, share-small (c .args .frame) (c .args .need) (c .args .period) (omega arith) (omega arith))
 
@@ -16,4 +13,5 @@ returns : tie.Need-returns
 returns c = (refl, share-small (c .args .frame) (c .args .need) (c .args .period) (omega arith) (omega arith))
 
 pub share-spec : {M : Type 1} → statement M
-share-spec = tie.close (tie.spec div-result mul-result returns)
+share-spec =
+    tie.close (tie.spec (λ c. search needs) mul-result returns)

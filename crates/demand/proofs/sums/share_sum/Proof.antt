@@ -16,32 +16,11 @@ abbrev μ-loop : tie.MeasureT-loop
 loop-holds : tie.Need-loop-holds Inv-loop μ-loop
 loop-holds c = sum-start _ _ _
 
-mul-share : tie.Need-mul-share Inv-loop μ-loop
-mul-share c = search needs
-
-element-copy-out-share : tie.Need-element-copy-out-share Inv-loop μ-loop
-element-copy-out-share c = search needs
-
-mul-share-2 : tie.Need-mul-share-2 Inv-loop μ-loop
-mul-share-2 c = search needs
-
-element-copy-out-share-2 : tie.Need-element-copy-out-share-2 Inv-loop μ-loop
-element-copy-out-share-2 c = search needs
-
 share-requires : tie.Need-share-requires Inv-loop μ-loop
 share-requires c κs =
     let pre = c .before .before .before .before .pre in
     let loop = c .before .before .before .loop in
     let w = pre .0 .each (loop .i) (omega arith) in (pre .1, w .some, w .less)
-
-add-sum : tie.Need-add-sum Inv-loop μ-loop
-add-sum c = search needs
-
-add-i : tie.Need-add-i Inv-loop μ-loop
-add-i c = search needs
-
-loop-less : tie.Need-loop-less Inv-loop μ-loop
-loop-less c = search needs
 
 loop-again : tie.Need-loop-again Inv-loop μ-loop
 loop-again c = sum-on (c .before .before .before .before .loop .inv) (c .before .before .before .loop-test .taken) (c .share .ensures .0) (c .share .ensures .1)
@@ -52,17 +31,5 @@ returns c = (sum-end (c .before .loop .inv) (omega arith), omega (arith, c .befo
 pub share-sum-spec : {M : Type 1} → statement M
 share-sum-spec =
     tie.close
-    (tie.spec
-    Inv-loop
-    μ-loop
-    loop-holds
-    mul-share
-    element-copy-out-share
-    mul-share-2
-    element-copy-out-share-2
-    share-requires
-    add-sum
-    add-i
-    loop-less
-    loop-again
-    returns)
+    (tie.spec Inv-loop μ-loop loop-holds (λ c. search needs) (λ c. search needs) (λ c. search needs) (λ c. search needs) share-requires
+    (λ c. search needs) (λ c. search needs) (λ c. search needs) loop-again returns)

@@ -1,0 +1,2 @@
+-- The rules of docs/RULES.md on the board, as definitions.
+pub mod Board

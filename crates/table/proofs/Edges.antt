@@ -1,0 +1,171 @@
+-- The edges of ask, admit and the board, by computation: each limit, order and strictness with an example on each side of it.
+use Prim.Native.Nat.{ℕ, _+_, _-_, _^_}
+use mathlib.Core.Path.{_≡_, refl}
+use mathlib.Core.List.{List, [], _∷_, _++_, map}
+use lib.ListN.{length, replicate}
+use Rattle.periods.specs.Multiples.{euclid, gcdOf, lcmOf, frameFrom}
+use Rattle.line.specs.declared.Held.the-variants.{Nothing}
+use Rattle.line.specs.declared.Slot.{Slot}
+use Rattle.table.specs.declared.Table.{Table}
+use Rattle.table.specs.declared.Request.{Request}
+use Rattle.line.specs.Slots.{empty, total, lowest}
+use Rattle.table.specs.Words.{emptyTable, refusal, Said, gives, refuses}
+use Rattle.line.specs.Demand.{due, lastEnd}
+use Rattle.line.specs.Stretch.{stretched}
+use Rattle.table.specs.Grounds.{asked}
+use Rattle.line.specs.Shares.{frame, periodsIn}
+use Rattle.table.specs.Ask.{says, loadOf, askOf}
+use Rattle.line.specs.Ends.{every, endsBefore, endsOf, slack, bound, greatest, anyOf, start}
+use Rattle.table.specs.Admit.{admitOf}
+use Rattle.table.specs.Cases.{CaseLine, Case, line, running, waiting, tableOf, tableFor, case, caseA, caseC, caseG, caseK, caseL}
+
+abbrev refused : (number place : ℕ) → Said ℕ
+refused n k = refuses (refusal n k)
+
+-- every T' is p
+abbrev everyPeriod : (p Cn Tn : ℕ) → Request
+everyPeriod p Cn Tn = record { stretched = replicate 16 p; need = Cn; period = Tn }
+
+abbrev row : Table → Request → Said ℕ → Case
+row t q a = record { table = t; request = q; answer = a }
+
+-- a line in slot 1, above one that is in order
+abbrev second : CaseLine → Said ℕ → Case
+second b a = case 0 (line 1 8 8 0 1 ∷ b ∷ []) 1 4 a
+
+-- ---- each limit, met and passed
+
+abbrev clocks : List Case
+clocks = case (2 ^ 48 - 65536) [] 3 5 (gives (2 ^ 48 - 65536)) ∷ case (2 ^ 48 - 65536 + 1) [] 3 5 (refused 1 0) ∷ []
+
+abbrev slots : List Case
+slots = case 0 (replicate 15 (line 1 64 64 0 1)) 1 64 (gives 0) ∷ case 0 (replicate 16 (line 1 64 64 0 1)) 1 64 (refused 2 0) ∷ []
+
+-- 1 ≤ C, C ≤ T, c ≤ C, a < T: each broken alone
+abbrev soundness : List Case
+soundness =
+    second (line 1 8 8 0 1) (gives 0)
+    ∷ second (line 0 8 8 0 0) (refused 4 1)
+    ∷ second (line 8 8 16 0 8) (gives 0)
+    ∷ second (line 9 8 16 0 8) (refused 4 1)
+    ∷ second (line 4 8 8 0 4) (gives 0)
+    ∷ second (line 4 8 8 0 5) (refused 4 1)
+    ∷ second (line 4 8 8 7 0) (gives 0)
+    ∷ second (line 4 8 9 8 0) (refused 4 1)
+    ∷ []
+
+-- T' = T and one less; the entries of empty slots are not looked at
+abbrev stretches : List Case
+stretches =
+    second (line 4 8 8 0 4) (gives 0)
+    ∷ second (line 4 8 7 0 4) (refused 5 1)
+    ∷ row (tableOf 0 []) (everyPeriod 1 3 5) (gives 0)
+    ∷ []
+
+abbrev newLines : List Case
+newLines =
+    case 0 [] 0 5 (refused 6 0)
+    ∷ case 0 [] 1 5 (gives 0)
+    ∷ case 0 [] 5 5 (gives 0)
+    ∷ case 0 [] 6 5 (refused 6 0)
+    ∷ []
+
+-- frames of 1,000,000 and 1,000,001
+abbrev frames : List Case
+frames = caseK ∷ case 0 (line 1 101 101 0 1 ∷ []) 1 9901 (refused 7 0) ∷ []
+
+-- a load of 1 and of 67/66; a lag of 0 and of 1/7, by the T' and not by the T; an excess of 0 and of 1
+abbrev loads : List Case
+loads =
+    case 0 (line 1 2 2 0 1 ∷ line 1 3 3 0 1 ∷ []) 1 6 (gives 0)
+    ∷ case 0 (line 1 2 2 0 1 ∷ line 1 3 3 0 1 ∷ []) 2 11 (refused 8 0)
+    ∷ case 0 (line 4 7 8 2 3 ∷ []) 1 8 (gives 0)
+    ∷ case 0 (line 4 7 7 2 3 ∷ []) 1 7 (refused 9 0)
+    ∷ case 0 (line 3 20 20 17 3 ∷ line 10 20 20 0 0 ∷ []) 1 4 (gives 0)
+    ∷ case 0 (line 4 20 20 17 4 ∷ line 10 20 20 0 0 ∷ []) 1 4 (refused 10 0)
+    ∷ []
+
+-- the lowest such slot, of two
+abbrev places : List Case
+places =
+    row (tableOf 0 (running 1 8 0 1 ∷ waiting 1 8 3 ∷ empty ∷ waiting 1 8 3 ∷ [])) (everyPeriod 8 1 4) (refused 3 1)
+    ∷ case 0 (line 1 8 8 0 1 ∷ line 0 8 8 0 0 ∷ line 0 8 8 0 0 ∷ []) 1 4 (refused 4 1)
+    ∷ case 0 (line 1 8 8 0 1 ∷ line 1 8 7 0 1 ∷ line 1 8 7 0 1 ∷ []) 1 4 (refused 5 1)
+    ∷ []
+
+-- ---- the order: two neighbouring grounds hold, and beside it the first is mended
+
+abbrev neighbours : List Case
+neighbours =
+    case (2 ^ 48 - 65536 + 1) (replicate 16 (line 1 64 64 0 1)) 1 64 (refused 1 0)
+    ∷ case (2 ^ 48 - 65536) (replicate 16 (line 1 64 64 0 1)) 1 64 (refused 2 0)
+    ∷ row (tableOf 0 (replicate 15 (running 1 64 0 1) ++ (waiting 1 64 3 ∷ []))) (everyPeriod 64 1 64) (refused 2 0)
+    ∷ row (tableOf 0 (empty ∷ (replicate 14 (running 1 64 0 1) ++ (waiting 1 64 3 ∷ [])))) (everyPeriod 64 1 64) (refused 3 15)
+    ∷ row (tableOf 5 (running 9 8 0 0 ∷ waiting 1 8 3 ∷ [])) (everyPeriod 8 1 8) (refused 3 1)
+    ∷ row (tableOf 5 (running 9 8 0 0 ∷ empty ∷ [])) (everyPeriod 8 1 8) (refused 4 0)
+    ∷ case 0 (line 1 8 8 0 1 ∷ line 1 8 7 0 1 ∷ line 0 8 8 0 0 ∷ []) 1 4 (refused 4 2)
+    ∷ case 0 (line 1 8 8 0 1 ∷ line 1 8 7 0 1 ∷ line 1 8 8 0 1 ∷ []) 1 4 (refused 5 1)
+    ∷ case 0 (line 1 8 8 0 1 ∷ line 1 8 7 0 1 ∷ []) 5 4 (refused 5 1)
+    ∷ case 0 (line 1 8 8 0 1 ∷ line 1 8 8 0 1 ∷ []) 5 4 (refused 6 0)
+    ∷ case 0 (line 1 101 101 0 1 ∷ []) 0 9901 (refused 6 0)
+    ∷ case 0 (line 1 101 101 0 1 ∷ []) 1 9901 (refused 7 0)
+    ∷ case 0 (line 101 101 101 0 101 ∷ []) 1 9901 (refused 7 0)
+    ∷ case 0 (line 101 101 101 0 101 ∷ []) 1 101 (refused 8 0)
+    ∷ case 0 (line 4 8 8 4 3 ∷ []) 5 8 (refused 8 0)
+    ∷ case 0 (line 4 8 8 4 3 ∷ []) 4 8 (refused 9 0)
+    ∷ case 0 (line 5 20 20 17 5 ∷ []) 1 4 (refused 9 0)
+    ∷ case 0 (line 5 20 20 17 5 ∷ line 10 20 20 0 0 ∷ []) 1 4 (refused 10 0)
+    ∷ []
+
+-- all of them
+unfoldable pub askEdges : List Case
+askEdges = clocks ++ (slots ++ (soundness ++ (stretches ++ (newLines ++ (frames ++ (loads ++ (places ++ neighbours)))))))
+
+-- R18, R19, R21 to R30: each ground on both sides of its edge, its place, and its order with the next
+pub ask-edges : map (λ (c : Case). says (askOf (c .table) (c .request))) askEdges ≡ map (λ (c : Case). c .answer) askEdges
+unfolding euclid gcdOf lcmOf frameFrom total lowest due lastEnd stretched periodsIn every endsBefore endsOf slack bound greatest anyOf start loadOf askOf askEdges
+ask-edges = refl
+
+abbrev frameIn : Case → ℕ
+frameIn c = frame (asked (c .table) (c .request)) (c .request .period)
+
+-- R8, R67: the frames of cases K and L
+pub frames-K-L : (frameIn caseK ≡ 1000000) × (frameIn caseL ≡ 1000256)
+unfolding euclid gcdOf lcmOf frameFrom stretched periodsIn
+frames-K-L = (refl, refl)
+
+-- R15: no line runs, a waiting one is none, and the greatest of two
+pub last-end-edges : map (lastEnd 7) ([] ∷ (empty ∷ []) ∷ (waiting 1 8 3 ∷ []) ∷ (running 1 8 3 1 ∷ empty ∷ running 1 9 2 0 ∷ []) ∷ []) ≡ 7 ∷ 7 ∷ 7 ∷ 14 ∷ []
+unfolding lastEnd
+last-end-edges = refl
+
+-- R4, R2: the empty table
+pub empty-edges : (emptyTable .clock ≡ 0) × (length (emptyTable .slots) ≡ 16) × (map (λ (s : Slot). s .held) (emptyTable .slots) ≡ replicate 16 Nothing)
+empty-edges = (refl, refl, refl)
+
+-- ---- admit
+
+-- a case, and the table that admitting leaves
+pub record AdmitEdge : Type 0 where
+  pub asks : Case
+  pub leaves : Table
+
+abbrev admits : Case → Table → AdmitEdge
+admits c t = record { asks = c; leaves = t }
+
+-- a later start waits, one tick or more; one at the clock runs; a slot between others is the lowest empty one; a refusal keeps the table
+unfoldable pub admitEdges : List AdmitEdge
+admitEdges =
+    admits caseA (tableOf 8 (running 8 32 8 0 ∷ running 8 16 8 8 ∷ waiting 1 4 5 ∷ []))
+    ∷ admits (case 10 (line 3 10 20 7 0 ∷ line 3 10 10 8 2 ∷ []) 1 2 (gives 11)) (tableOf 10 (running 3 20 7 0 ∷ running 3 10 8 2 ∷ waiting 1 2 1 ∷ []))
+    ∷ admits caseC (tableOf 0 (running 3 5 0 3 ∷ []))
+    ∷ admits (row (tableOf 7 (running 1 8 2 1 ∷ empty ∷ running 2 8 3 1 ∷ empty ∷ [])) (everyPeriod 16 3 16) (gives 7))
+    (tableOf 7 (running 1 16 2 1 ∷ running 3 16 0 3 ∷ running 2 16 3 1 ∷ []))
+    ∷ admits caseG (tableFor 0 (line 4 8 8 4 3 ∷ []))
+    ∷ []
+
+-- R42, R43: the answer and the whole table
+pub admit-edges : map {B = Said ℕ × Table} (λ (e : AdmitEdge). (says (admitOf (e .asks .table) (e .asks .request) .answer), admitOf (e .asks .table) (e .asks .request) .table)) admitEdges
+    ≡ map (λ (e : AdmitEdge). (e .asks .answer, e .leaves)) admitEdges
+unfolding euclid gcdOf lcmOf frameFrom total lowest due lastEnd stretched periodsIn every endsBefore endsOf slack bound greatest anyOf start loadOf askOf admitEdges
+admit-edges = refl

@@ -1,0 +1,78 @@
+-- The step of the pump, R44 to R48: who gets the tick, what a tick does to a line, and the refusals 15, 4, 14.
+use Prim.Native.Nat.{ℕ, zero, suc, _+_, _^_, _≤_, _<_}
+use mathlib.Core.Bool.{not}
+use mathlib.Core.List.{List, map}
+use mathlib.Core.Option.{Option, none, some}
+use lib.Dec.{ltb, leb}
+use lib.ListN.{length}
+use Rattle.line.specs.declared.Slot.{Slot}
+use Rattle.table.specs.declared.Table.{Table}
+use Rattle.table.specs.declared.Outcome.{Outcome}
+use Rattle.table.specs.declared.Outcome.the-variants.{Ran, Refused}
+use Rattle.table.specs.declared.Stepped.{Stepped}
+use Rattle.line.specs.Slots.{pick, at, lowestOf}
+use Rattle.table.specs.Words.{slotOf, refusal, Said, gives, refuses, whichOf}
+use Rattle.line.specs.Sound.{sound}
+use Rattle.table.specs.Admit.{putAt}
+use Rattle.line.specs.Tick.{Owed, isOwed, toEnd, served, short, passedSlot}
+
+-- R48: what each case of a step's answer says: the slot that ran or none, or the refusal
+abbrev pub saysRan : Outcome → Said (Option ℕ)
+saysRan (Ran w) = gives (slotOf w)
+saysRan (Refused x) = refuses x
+
+-- a least end among those owed, whichever of equals; none only if nobody is owed
+abbrev pub Earliest : Option ℕ → List Slot → Type 0
+Earliest none l = (i : ℕ) → i < length l → Owed (at l i) → ⊥
+Earliest (some j) l = (j < length l) × Owed (at l j) × ((i : ℕ) → i < length l → Owed (at l i) → toEnd (at l j) ≤ toEnd (at l i))
+
+-- R44: among the first n slots the tick goes to the least end, and the lowest of equals
+abbrev pub Chosen : ℕ → Option ℕ → List Slot → Type 0
+Chosen n none l = (i : ℕ) → i < n → Owed (at l i) → ⊥
+Chosen n (some j) l =
+    (j < n) × Owed (at l j) × ((i : ℕ) → i < n → Owed (at l i) → toEnd (at l j) ≤ toEnd (at l i))
+    × ((i : ℕ) → i < j → Owed (at l i) → toEnd (at l j) < toEnd (at l i))
+
+-- R44, computed: slot n against the choice among those below it
+abbrev pub sooner : Option ℕ → ℕ → List Slot → Option ℕ
+sooner none n l = some n
+sooner (some j) n l = pick (ltb (toEnd (at l n)) (toEnd (at l j))) (some n) (some j)
+
+-- R44, computed: among the first n slots
+unfoldable pub chosen : ℕ → List Slot → Option ℕ
+chosen zero l = none
+chosen (suc n) l = pick (isOwed (at l n)) (sooner (chosen n l) n l) (chosen n l)
+
+-- R44, computed: among all slots
+abbrev pub choose : List Slot → Option ℕ
+choose l = chosen (length l) l
+
+-- R45: the slot named is served, or nobody
+abbrev pub serve : Option ℕ → List Slot → List Slot
+serve none l = l
+serve (some j) l = putAt (some j) (served (at l j)) l
+
+-- R45 to R47: every slot a tick later
+abbrev pub pass : List Slot → List Slot
+pass l = map passedSlot l
+
+-- R48, R17: a refused step names no slot and keeps the table
+abbrev pub refusedStep : Table → (number place : ℕ) → Stepped
+refusedStep t n k = record { table = t; outcome = Refused (refusal n k) }
+
+-- one test of a step: refusal n at the slot found, or else what comes after
+abbrev pub stepUnless : Option ℕ → ℕ → Table → Stepped → Stepped
+stepUnless none n t s = s
+stepUnless (some k) n t s = refusedStep t n k
+
+-- R45, R48: a tick in which the slot named, or none, is served
+unfoldable pub advance : Option ℕ → Table → Stepped
+advance o t =
+    stepUnless (lowestOf short (serve o (t .slots))) 14 t
+    (record { table = record { clock = t .clock + 1; slots = pass (serve o (t .slots)) }; outcome = Ran (whichOf o) })
+
+-- R48, R35, R7: 15, then 4, then 14
+unfoldable pub stepOf : Table → Stepped
+stepOf t =
+    pick (leb (2 ^ 48) (t .clock)) (refusedStep t 15 0)
+    (stepUnless (lowestOf (λ h. not (sound h)) (t .slots)) 4 t (advance (choose (t .slots)) t))

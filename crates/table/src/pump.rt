@@ -1,0 +1,138 @@
+// The step of the pump, R44 to R48: who gets the tick, the table a tick later, and the refusals 15, 4, 14.
+ghost use mathlib.Core.Path.{_≡_};
+ghost use Prim.Native.Nat.{_+_, _^_, _<_};
+ghost use Rattle.line.specs.Slots.{lowestOf};
+ghost use Rattle.line.specs.Tick.{short};
+ghost use Rattle.table.specs.Words.{slotOf};
+ghost use Rattle.table.specs.Step.{choose, serve, pass, refusedStep, advance, stepOf};
+use crate::Outcome;
+use crate::Refusal;
+use crate::Stepped;
+use crate::Table;
+use crate::Which;
+
+impl Table {
+    // R44: the least end of those owed, the lowest slot among equals.
+    fn choose(self) -> Which
+        ensures { λ r. ⌜ slotOf r ≡ choose (self .slots) ⌝ }
+    {
+        let mut best: usize = 16;
+        let mut least: u32 = 65536;
+        let mut i: usize = 0;
+        while i < 16 {
+            let s = self.slots[i];
+            let key = s.key();
+            if key < least {
+                least = key;
+                best = i;
+            }
+            i = i + 1;
+        }
+        if best < 16 {
+            return Which::At(best);
+        }
+        Which::None
+    }
+
+    // R45: the slot named gets the tick; a number that is no slot's serves nobody.
+    fn serve(self, w: Which) -> Table
+        ensures { λ r. ⌜ r ≡ record { clock = self .clock; slots = serve (slotOf w) (self .slots) } ⌝ }
+    {
+        match w {
+            Which::None => self,
+            Which::At(k) => {
+                if 15 < k {
+                    return self;
+                }
+                let mut t = self;
+                let s = t.slots[k];
+                let next = s.served();
+                t.slots[k] = next;
+                t
+            }
+        }
+    }
+
+    // R34, R19: the lowest slot whose period ends short with this tick.
+    fn lowest_short(self) -> Which
+        ensures { λ r. ⌜ slotOf r ≡ lowestOf short (self .slots) ⌝ }
+    {
+        let mut i: usize = 0;
+        while i < 16 {
+            let s = self.slots[i];
+            let late = s.short();
+            if late {
+                return Which::At(i);
+            }
+            i = i + 1;
+        }
+        Which::None
+    }
+
+    // R45 to R47: what each slot holds a tick later. The clock stays: `advance` moves it.
+    fn pass(self) -> Table
+        ensures { λ r. ⌜ r ≡ record { clock = self .clock; slots = pass (self .slots) } ⌝ }
+    {
+        let mut t = self;
+        let mut i: usize = 0;
+        while i < 16 {
+            let s = t.slots[i];
+            let next = s.passed();
+            t.slots[i] = next;
+            i = i + 1;
+        }
+        t
+    }
+
+    // R48, R17: the table as it was, and no slot ran.
+    fn refused(self, number: u16, place: usize) -> Stepped
+        ensures { λ r. ⌜ r ≡ refusedStep self number place ⌝ }
+    {
+        let refusal = Refusal::new(number, place as u64);
+        Stepped {
+            table: self,
+            outcome: Outcome::Refused(refusal),
+        }
+    }
+
+    // R45, R48: a tick in which the slot named, or none, is served.
+    fn advance(self, w: Which) -> Stepped
+        requires { ⌜ self .clock < 2 ^ 48 ⌝ }
+        ensures { λ r. ⌜ r ≡ advance (slotOf w) self ⌝ }
+    {
+        let served = self.serve(w);
+        let late = served.lowest_short();
+        match late {
+            Which::At(k) => self.refused(14, k),
+            Which::None => {
+                let passed = served.pass();
+                let slots = passed.slots;
+                let next = Table {
+                    clock: self.clock + 1,
+                    slots: slots,
+                };
+                Stepped {
+                    table: next,
+                    outcome: Outcome::Ran(w),
+                }
+            }
+        }
+    }
+
+    // R48: 15, then 4, then 14.
+    pub fn step(self) -> Stepped
+        ensures { λ r. ⌜ r ≡ stepOf self ⌝ }
+    {
+        if 281474976710656 <= self.clock {
+            return self.refused(15, 0);
+        }
+        let bad = self.lowest_unsound();
+        match bad {
+            Which::At(k) => self.refused(4, k),
+            Which::None => {
+                let w = self.choose();
+                self.advance(w)
+            }
+        }
+    }
+}
