@@ -20,7 +20,7 @@ use Rattle.table.specs.Grounds.{entry, asked}
 use Rattle.line.specs.Stretch.{stretch, stretched, shrunk}
 use Rattle.line.specs.Shares.{periodsIn}
 use Rattle.line.specs.Ends.{every, endsBefore, endsOf, slack, bound, greatest, anyOf, start}
-use Rattle.table.specs.Ask.{loadOf, askOf}
+use Rattle.table.specs.Ask.{askIn, askOf}
 use Rattle.table.specs.Admit.{admitWith, admitOf}
 use Rattle.line.proofs.Search.{lowest-congr}
 use Rattle.ask.specs.Agree.{Runs, Agree}
@@ -71,5 +71,5 @@ module _ (t : Table) (q r : Request) (a : Agree t q r) where
 
 -- R6: on the empty table an entry of 65,521 changes nothing: the new line starts at once
 pub empty-starts : askOf emptyTable (record { stretched = set (replicate 16 0) 3 65521; need = 3; period = 5 }) ≡ Start 0
-unfolding euclid gcdOf lcmOf frameFrom total lowest due lastEnd stretched periodsIn every endsBefore endsOf slack bound greatest anyOf start loadOf askOf
+unfolding euclid gcdOf lcmOf frameFrom total lowest due lastEnd stretched periodsIn every endsBefore endsOf slack bound greatest anyOf start askIn askOf
 empty-starts = refl

@@ -17,7 +17,7 @@ use Rattle.table.specs.Grounds.{entry}
 use Rattle.line.specs.Stretch.{stretched}
 use Rattle.line.specs.Shares.{periodsIn}
 use Rattle.line.specs.Ends.{every, endsBefore, endsOf, slack, bound, greatest, anyOf, start}
-use Rattle.table.specs.Ask.{loadOf, askOf}
+use Rattle.table.specs.Ask.{askIn, askOf}
 use Rattle.table.specs.Cases.{running, waiting, tableOf}
 use Rattle.line.proofs.Search.{true-false}
 use Rattle.ask.specs.Agree.{Runs, Agree}
@@ -79,10 +79,10 @@ refused-elsewhere a = omega (arith, ap (λ (x : Admitted). x .table .clock) (a .
 
 -- R42, R43: admitted to the empty table, the line runs in slot 0
 pub admits-first : Admits emptyTable (asking 0 0 0 3 5) (record { table = firstIn; answer = Start 0 })
-unfolding euclid gcdOf lcmOf frameFrom total lowest due lastEnd stretched periodsIn every endsBefore endsOf slack bound greatest anyOf start loadOf askOf
+unfolding euclid gcdOf lcmOf frameFrom total lowest due lastEnd stretched periodsIn every endsBefore endsOf slack bound greatest anyOf start askIn askOf
 admits-first = admits emptyTable (asking 0 0 0 3 5) refl
 
 -- R42, R43: with the start, the table without the line is not allowed
 pub admits-nothing : Admits emptyTable (asking 0 0 0 3 5) (record { table = emptyTable; answer = Start 0 }) → ⊥
-unfolding euclid gcdOf lcmOf frameFrom total lowest due lastEnd stretched periodsIn every endsBefore endsOf slack bound greatest anyOf start loadOf askOf
+unfolding euclid gcdOf lcmOf frameFrom total lowest due lastEnd stretched periodsIn every endsBefore endsOf slack bound greatest anyOf start askIn askOf
 admits-nothing a = true-false refl (ap (λ (x : Admitted). isNothing (at (x .table .slots) 0)) (a .computed))

@@ -9,7 +9,7 @@ ghost use Rattle.ask.specs.Asked.{Asked, Admits};
 pub fn ask(t: table::Table, q: table::Request) -> table::Answer
     ensures { λ r. ⌜ Asked t q r ⌝ }
 {
-    demand::decide(t, q)
+    decide::decide(t, q)
 }
 
 // R17: with a refusal the table is handed back as it came
@@ -26,7 +26,7 @@ fn untouched(t: table::Table, x: table::Refusal) -> table::Admitted
 pub fn admit(t: table::Table, q: table::Request) -> table::Admitted
     ensures { λ r. ⌜ Admits t q r ⌝ }
 {
-    let a = demand::decide(t, q);
+    let a = decide::decide(t, q);
     match a {
         table::Answer::Start(r) => {
             let next = place::admitted(t, q, r);

@@ -172,6 +172,7 @@ numberEdges =
     }))
     ∷ []
 
+-- R53 to R58: all of them
 unfoldable pub cardEdges : List CardEdge
 cardEdges = numberEdges ++ clockEdges ++ markEdges ++ requestEdges ++ sixteenEdges ++ oldEdges
 
@@ -251,6 +252,7 @@ lengthEdges =
     ∷ written (tableOf 0x0807060504030201 (replicate 16 lineSlot)) (requestOf (replicate 16 0x3231) 0x8281 0x9291) (lent 208) 208 longest
     ∷ []
 
+-- R55, R59: all of them
 unfoldable pub writeEdges : List WriteEdge
 writeEdges = orderEdges ++ lengthEdges
 

@@ -9,33 +9,31 @@ use lib.ListN.{length, drop, getD}
 use lib.Dec.{eqb}
 use borrow.Author.Tests.{eqb-true, eq-eqb, ne-eqb}
 use Rattle.line.specs.Slots.{both}
+use Rattle.line.proofs.Search.{true-false}
+use Rattle.line.proofs.Sound.{both-says}
 use Rattle.card.specs.Bytes.{marked}
 
-pub false-true : _≡_ {A = Bool} false true → ⊥
-false-true h = let z : _≡_ {A = ℕ} 0 1 = cc in omega arith
-
-pub both-true : (a b : Bool) → both a b ≡ true → (a ≡ true) × (b ≡ true)
-both-true true b h = (refl, h)
-both-true false b h = absurd (false-true h)
-
+-- a mark opens what begins with it
 pub marked-here : (m l : List ℕ) → marked m (m ++ l) ≡ true
 unfolding marked
 marked-here [] l = refl
 marked-here (a ∷ m) l = ap₂ both (eq-eqb a a refl) (marked-here m l)
 
+-- R52: what a mark opens begins with its bytes
 pub marked-is : (m l : List ℕ) → marked m l ≡ true → l ≡ m ++ drop (length m) l
 unfolding marked
 marked-is [] l h = refl
-marked-is (a ∷ m) [] h = absurd (false-true h)
+marked-is (a ∷ m) [] h = absurd (true-false h refl)
 marked-is (a ∷ m) (b ∷ l) h =
-    let t = both-true (eqb b a) (marked m l) h in
+    let t = both-says (eqb b a) (marked m l) h in
     ap₂ (λ (x : ℕ) (y : List ℕ). x ∷ y) (eqb-true b a (t .0)) (marked-is m l (t .1))
 
+-- what a mark opens is no shorter than the mark
 pub marked-long : (m l : List ℕ) → marked m l ≡ true → length m ≤ length l
 unfolding marked
 marked-long [] l h = omega arith
-marked-long (a ∷ m) [] h = absurd (false-true h)
-marked-long (a ∷ m) (b ∷ l) h = let q = marked-long m l (both-true (eqb b a) (marked m l) h .1) in omega arith
+marked-long (a ∷ m) [] h = absurd (true-false h refl)
+marked-long (a ∷ m) (b ∷ l) h = let q = marked-long m l (both-says (eqb b a) (marked m l) h .1) in omega arith
 
 both-false : (t : Bool) → both t false ≡ false
 both-false true = refl
@@ -45,12 +43,14 @@ both-last : (t : Bool) → both t true ≡ t
 both-last true = refl
 both-last false = refl
 
+-- R57: no mark opens fewer bytes than its own
 pub marked-short : (m l : List ℕ) → length l < length m → marked m l ≡ false
 unfolding marked
 marked-short [] l h = absurd (omega arith)
 marked-short (a ∷ m) [] h = refl
 marked-short (a ∷ m) (b ∷ l) h = ap (both (eqb b a)) (marked-short m l (le-of-suc-le-suc h)) ∙ both-false (eqb b a)
 
+-- R52: another first byte is no such mark
 pub marked-not : (m l : List ℕ) → 0 < length m → (getD l 0 0 ≡ getD m 0 0 → ⊥) → marked m l ≡ false
 unfolding marked
 marked-not [] l h n = absurd (omega arith)

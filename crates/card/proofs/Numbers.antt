@@ -9,6 +9,7 @@ use lib.ListN.{length, drop, getD}
 use lib.Seq.{drop-cons, getD-drop}
 use Rattle.card.specs.Bytes.{Bytes, le, value}
 
+-- bytes are left when some are dropped
 pub bytes-drop : (n : ℕ) (l : List ℕ) → Bytes l → Bytes (drop n l)
 bytes-drop n l h i = rw getD-drop (h (n + i))
 
@@ -27,11 +28,11 @@ value-le (suc n) v x h =
     value-cons n (v % 256) (le n (v / 256) ++ x) 0 ∙ value-le n (v / 256) x (less (256 ^ n) v (256 ^ suc n) h (pow-succ' 256 n)) in
     omega arith
 
-pub low : (a b : ℕ) → a < 256 → (a + 256 * b) % 256 ≡ a
-low a b h = omega arith
+low-byte : (a b : ℕ) → a < 256 → (a + 256 * b) % 256 ≡ a
+low-byte a b h = omega arith
 
-pub high : (a b : ℕ) → a < 256 → (a + 256 * b) / 256 ≡ b
-high a b h = omega arith
+higher-bytes : (a b : ℕ) → a < 256 → (a + 256 * b) / 256 ≡ b
+higher-bytes a b h = omega arith
 
 -- R52: what is got stands there
 pub le-value : (n : ℕ) (l : List ℕ) (at : ℕ) → Bytes l → at + n ≤ length l → drop at l ≡ le n (value n l at) ++ drop (at + n) l
@@ -40,12 +41,13 @@ le-value (suc n) l at b h =
     let i : suc at + n ≡ at + suc n = omega arith in
     let e : drop (suc at) l ≡ le n (value n l (suc at)) ++ drop (suc at + n) l = le-value n l (suc at) b (omega arith) in
     drop-cons l at 0 (omega arith)
-    ∙ ap₂ (λ (x : ℕ) (y : List ℕ). x ∷ y) (sym (low (getD l at 0) (value n l (suc at)) (b at)))
-    (e ∙ ap₂ (λ (v k : ℕ). le n v ++ drop k l) (sym (high (getD l at 0) (value n l (suc at)) (b at))) i)
+    ∙ ap₂ (λ (x : ℕ) (y : List ℕ). x ∷ y) (sym (low-byte (getD l at 0) (value n l (suc at)) (b at)))
+    (e ∙ ap₂ (λ (v k : ℕ). le n v ++ drop k l) (sym (higher-bytes (getD l at 0) (value n l (suc at)) (b at))) i)
 
 more : (b v m w : ℕ) → b < 256 → v < m → w ≡ 256 * m → b + 256 * v < w
 more b v m w h k e = omega arith
 
+-- R52: a number in n bytes is below 256 to the n
 pub value-lt : (n : ℕ) (l : List ℕ) (at : ℕ) → Bytes l → value n l at < 256 ^ n
 value-lt zero l at b = omega arith
 value-lt (suc n) l at b = more (getD l at 0) (value n l (suc at)) (256 ^ n) (256 ^ suc n) (b at) (value-lt n l (suc at) b) (pow-succ' 256 n)

@@ -6,5 +6,6 @@ use native.Mathlib.Omega.{arith}
 use lib.ListN.{length, take, drop, length-drop}
 use lib.Seq.{take-all}
 
+-- the part from a on, as the code lends it, is what is left when a are dropped
 pub part-all : (l : List ℕ) (a : ℕ) → take (length l - a) (drop a l) ≡ drop a l
 part-all l a = take-all (length l - a) (drop a l) (omega (arith, length-drop a l))

@@ -16,7 +16,7 @@ use Rattle.card.specs.declared.Record.{Record}
 use Rattle.card.specs.declared.Record.the-variants.{Line, Free, Last, Refused}
 use Rattle.card.specs.Bytes.{value, CK, TB, TF, TA, RQ, marked}
 use Rattle.card.specs.Card.{Card}
-use Rattle.card.specs.Reading.{lineOf, lastOf, slotRecordOf, recordOf, after, ending, closing, broken, step, recordsOf, readWith, readOf}
+use Rattle.card.specs.Reading.{lineRecordOf, lastOf, slotRecordOf, recordOf, putInFront, ending, closing, broken, step, recordsOf, readWith, readOf}
 
 marked-take : (m : List ℕ) (n : ℕ) (l : List ℕ) → length m ≤ n → marked m (take n l) ≡ marked m l
 unfolding marked
@@ -47,7 +47,7 @@ same-take k n l h = go (eqb (length l) k) refl
         (λ z. eqb-false (length l) k e (omega (arith, length-take n l)))
 
 module _ (n : ℕ) (l : List ℕ) where
-  line-take : 12 ≤ n → lineOf (take n l) ≡ lineOf l
+  line-take : 12 ≤ n → lineRecordOf (take n l) ≡ lineRecordOf l
   line-take h =
       simp (
         long-take 12 n l h,
@@ -106,8 +106,8 @@ records-take k (suc n) gap at l m h =
     go : (r : Record) → recordsOf k n false (at + 12) (drop 12 (take m l)) ≡ recordsOf k n false (at + 12) (drop 12 l)
         → recordsOf k n true (at + 2) (drop 2 (take m l)) ≡ recordsOf k n true (at + 2) (drop 2 l)
         → step k (suc n) gap at (take m l) (recordsOf k n) r ≡ step k (suc n) gap at l (recordsOf k n) r
-    go (Line r t) x y = ap (after (record { held = Running r } ∷ []) (t ∷ [])) x
-    go Free x y = ap (after (empty ∷ []) (0 ∷ [])) y
+    go (Line r t) x y = ap (putInFront (record { held = Running r } ∷ []) (t ∷ [])) x
+    go Free x y = ap (putInFront (empty ∷ []) (0 ∷ [])) y
     go (Last c t) x y = closing-take gap at m l (ending k (suc n) c t) (omega arith)
     go (Refused r) x y = refl
 

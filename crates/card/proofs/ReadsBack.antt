@@ -15,9 +15,10 @@ use Rattle.line.specs.Slots.{empty}
 use Rattle.table.specs.Words.{gives}
 use Rattle.card.specs.Bytes.{le, CK, TF}
 use Rattle.card.specs.Card.{clockRecord, lineRecord, requestRecord, slotRecords, oneMore, usedFrom, used, cardOf, Card, carrying, entryOf, entries, cleared, Carried, AllCarried, Fits}
-use Rattle.card.specs.Reading.{after, ending, recordsOf, readWith}
+use Rattle.card.specs.Reading.{putInFront, ending, recordsOf, readWith}
 use Rattle.card.proofs.Numbers.{value-le}
-use Rattle.card.proofs.Marks.{false-true, marked-here}
+use Rattle.line.proofs.Search.{true-false}
+use Rattle.card.proofs.Marks.{marked-here}
 use Rattle.card.proofs.Records.{sees-line, sees-free, sees-last}
 use Rattle.card.proofs.Steps.{reads-clock, records-line, records-free, records-last}
 
@@ -26,10 +27,12 @@ abbrev pub made : (clock : ℕ) → List Slot → List ℕ → (Cn Tn : ℕ) →
 made k ss ts c n =
     record { table = record { clock = k; slots = ss }; request = record { stretched = ts; need = c; period = n } }
 
+-- an empty slot before used ones counts
 pub oneMore-some : (u : ℕ) → (u ≡ 0 → ⊥) → oneMore u ≡ suc u
 oneMore-some zero h = absurd (h refl)
 oneMore-some (suc u) h = refl
 
+-- and before none it does not
 pub oneMore-none : (u : ℕ) → oneMore u ≡ 0 → u ≡ 0
 oneMore-none zero h = refl
 oneMore-none (suc u) h = absurd (omega arith)
@@ -52,18 +55,21 @@ none-held (s ∷ ss) (t ∷ ts) f u = go (s .held) (f .0) u (none-held ss ts (f 
     go (Running r) g v ih = absurd (omega arith)
     go (Waiting w) g v ih = absurd g
 
+-- R54, R55: RQ where no TF stands before it ends the card
 pub reads-last : (k c n : ℕ) → c < 65536 → n < 65536 → (left : ℕ) (gap : Bool) (at : ℕ) → (gap ≡ true → ⊥)
     → recordsOf k left gap at (requestRecord c n) ≡ gives (ending k left c n)
 reads-last k c n hc hn left true at g = absurd (g refl)
 reads-last k c n hc hn left false at g = records-last k left false at (requestRecord c n) c n (sees-last left c n [] hc hn)
 
+-- R53: TF is one empty slot more
 pub reads-free : (k m : ℕ) (gap : Bool) (at : ℕ) (x : List ℕ)
-    → recordsOf k (suc m) gap at (TF ++ x) ≡ after (empty ∷ []) (0 ∷ []) (recordsOf k m true (at + 2) x)
+    → recordsOf k (suc m) gap at (TF ++ x) ≡ putInFront (empty ∷ []) (0 ∷ []) (recordsOf k m true (at + 2) x)
 reads-free k m gap at x = records-free k m gap at (TF ++ x) (sees-free (suc m) x (omega arith))
 
+-- R53: TB is one line more, with its entry
 pub reads-line : (k m : ℕ) (gap : Bool) (at : ℕ) (r : Run) (t : ℕ) (x : List ℕ) → Carried (Running r) t
     → recordsOf k (suc m) gap at (lineRecord r t ++ x)
-    ≡ after (record { held = Running r } ∷ []) (t ∷ []) (recordsOf k m false (at + 12) x)
+    ≡ putInFront (record { held = Running r } ∷ []) (t ∷ []) (recordsOf k m false (at + 12) x)
 reads-line k m gap at r t x f =
     records-line k m gap at (lineRecord r t ++ x) r t (sees-line (suc m) r t x (omega arith) (f .0) (f .1) (f .2) (f .3) (f .4))
 
@@ -79,7 +85,7 @@ module _ (k c n : ℕ) (hc : c < 65536) (hn : n < 65536) where
       ≡ gives (made k (record { held = h } ∷ ss) (entryOf h t ∷ entries ss ts) c n)
   one (Running r) ss t ts gap at fh f g ih =
       reads-line k (length ss) gap at r t (rest ss ts) fh
-      ∙ ap (after (record { held = Running r } ∷ []) (t ∷ [])) (ih false (at + 12) (λ e u. false-true e))
+      ∙ ap (putInFront (record { held = Running r } ∷ []) (t ∷ [])) (ih false (at + 12) (λ e u. true-false e refl))
   one (Waiting w) ss t ts gap at fh f g ih = absurd fh
   one Nothing ss t ts gap at fh f g ih = go (used ss) refl
     where
@@ -95,8 +101,9 @@ module _ (k c n : ℕ) (hc : c < 65536) (hn : n < 65536) where
           ap (λ (u : ℕ). recordsOf k (suc (length ss)) gap at (slotRecords u (empty ∷ ss) (t ∷ ts) ++ requestRecord c n))
           (oneMore-some (used ss) (omega arith))
           ∙ reads-free k (length ss) gap at (rest ss ts)
-          ∙ ap (after (empty ∷ []) (0 ∷ [])) (ih true (at + 2) (λ o z. omega arith))
+          ∙ ap (putInFront (empty ∷ []) (0 ∷ [])) (ih true (at + 2) (λ o z. omega arith))
 
+  -- R54, R72: the records of all slots up to the last used one read as these slots
   pub records-read : (ss : List Slot) (ts : List ℕ) (gap : Bool) (at : ℕ) → AllCarried ss ts → (gap ≡ true → used ss ≡ 0 → ⊥)
       → recordsOf k (length ss) gap at (rest ss ts) ≡ gives (made k ss (entries ss ts) c n)
   records-read [] [] gap at f g = reads-last k c n hc hn 0 gap at (λ e. g e refl)
@@ -117,4 +124,4 @@ unfolding cardOf
 reads-back n t q f =
     after-clock n (t .clock) _ (f .clock)
     ∙ ap (λ (m : ℕ). recordsOf (t .clock) m false 10 (slotRecords (used (t .slots)) (t .slots) (q .stretched) ++ requestRecord (q .need) (q .period))) (sym (f .slots))
-    ∙ records-read (t .clock) (q .need) (q .period) (f .need) (f .period) (t .slots) (q .stretched) false 10 (f .lines) (λ e u. false-true e)
+    ∙ records-read (t .clock) (q .need) (q .period) (f .need) (f .period) (t .slots) (q .stretched) false 10 (f .lines) (λ e u. true-false e refl)

@@ -13,7 +13,7 @@ use Rattle.card.specs.declared.Record.{Record}
 use Rattle.card.specs.declared.Record.the-variants.{Line, Free, Last, Refused}
 use Rattle.card.specs.Bytes.{Bytes, le, value, TB, TF, TA, RQ, marked}
 use Rattle.card.specs.Card.{lineRecord, requestRecord}
-use Rattle.card.specs.Reading.{lineOf, lastOf, recordOf}
+use Rattle.card.specs.Reading.{lineRecordOf, lastOf, slotRecordOf, recordOf}
 use Rattle.card.proofs.Numbers.{value-le, le-value}
 use Rattle.card.proofs.Marks.{marked-here, marked-is, marked-long}
 
@@ -22,40 +22,51 @@ abbrev pub runAt : List ℕ → Run
 runAt l = record { need = value 2 l 2; period = value 2 l 4; age = value 2 l 8; remaining = value 2 l 10 }
 
 module _ (left : ℕ) (l : List ℕ) where
+  -- R57: RQ is looked for first
   pub at-last : marked RQ l ≡ true → recordOf left l ≡ lastOf l
   unfolding recordOf
   at-last h = simp h
 
+  -- R57: with no slot left it alone may stand
   pub at-end : marked RQ l ≡ false → left ≡ 0 → recordOf left l ≡ Refused 11
   unfolding recordOf
   at-end h e = simp (h, e)
 
-  module _ (h : marked RQ l ≡ false) (p : 0 < left) where
-    pub at-line : marked TB l ≡ true → recordOf left l ≡ lineOf l
-    unfolding recordOf
-    at-line i = simp (h, lt-ltb 0 left p, i)
+  -- R57: where a slot is left, its record may
+  pub at-slot : marked RQ l ≡ false → 0 < left → recordOf left l ≡ slotRecordOf l
+  unfolding recordOf
+  at-slot h p = simp (h, lt-ltb 0 left p)
 
-    pub at-free : marked TB l ≡ false → marked TF l ≡ true → recordOf left l ≡ Free
-    unfolding recordOf
-    at-free i j = simp (h, lt-ltb 0 left p, i, j)
+module _ (l : List ℕ) where
+  -- R53: TB
+  pub slot-line : marked TB l ≡ true → slotRecordOf l ≡ lineRecordOf l
+  slot-line i = simp i
 
-    pub at-old : marked TB l ≡ false → marked TF l ≡ false → marked TA l ≡ true → recordOf left l ≡ Refused 12
-    unfolding recordOf
-    at-old i j k = simp (h, lt-ltb 0 left p, i, j, k)
+  -- R53: TF
+  pub slot-free : marked TB l ≡ false → marked TF l ≡ true → slotRecordOf l ≡ Free
+  slot-free i j = simp (i, j)
 
-    pub at-unknown : marked TB l ≡ false → marked TF l ≡ false → marked TA l ≡ false → recordOf left l ≡ Refused 11
-    unfolding recordOf
-    at-unknown i j k = simp (h, lt-ltb 0 left p, i, j, k)
+  -- R58: TA
+  pub slot-old : marked TB l ≡ false → marked TF l ≡ false → marked TA l ≡ true → slotRecordOf l ≡ Refused 12
+  slot-old i j k = simp (i, j, k)
 
-pub line-whole : (l : List ℕ) → 12 ≤ length l → lineOf l ≡ Line (runAt l) (value 2 l 6)
+  -- R57: no mark of a slot's record
+  pub slot-unknown : marked TB l ≡ false → marked TF l ≡ false → marked TA l ≡ false → slotRecordOf l ≡ Refused 11
+  slot-unknown i j k = simp (i, j, k)
+
+-- R53: twelve bytes are a line
+pub line-whole : (l : List ℕ) → 12 ≤ length l → lineRecordOf l ≡ Line (runAt l) (value 2 l 6)
 line-whole l h = ap (λ (o : Bool). pick o (Line (runAt l) (value 2 l 6)) (Refused 11)) (le-leb 12 (length l) h)
 
-pub line-cut : (l : List ℕ) → length l < 12 → lineOf l ≡ Refused 11
+-- R57: fewer are none
+pub line-cut : (l : List ℕ) → length l < 12 → lineRecordOf l ≡ Refused 11
 line-cut l h = ap (λ (o : Bool). pick o (Line (runAt l) (value 2 l 6)) (Refused 11)) (lt-leb 12 (length l) h)
 
+-- R53: six bytes are a new line
 pub last-whole : (l : List ℕ) → 6 ≤ length l → lastOf l ≡ Last (value 2 l 2) (value 2 l 4)
 last-whole l h = ap (λ (o : Bool). pick o (Last (value 2 l 2) (value 2 l 4)) (Refused 11)) (le-leb 6 (length l) h)
 
+-- R57: fewer are none
 pub last-cut : (l : List ℕ) → length l < 6 → lastOf l ≡ Refused 11
 last-cut l h = ap (λ (o : Bool). pick o (Last (value 2 l 2) (value 2 l 4)) (Refused 11)) (lt-leb 6 (length l) h)
 
@@ -66,6 +77,7 @@ Stands left l Free = (0 < left) × (2 ≤ length l) × (marked TF l ≡ true)
 Stands left l (Last c n) = (6 ≤ length l) × (marked RQ l ≡ true) × (c ≡ value 2 l 2) × (n ≡ value 2 l 4)
 Stands left l (Refused n) = Unit {0}
 
+-- what stands at the front is what the definition says
 pub stands : (left : ℕ) (l : List ℕ) → Stands left l (recordOf left l)
 unfolding recordOf
 stands left l =
@@ -85,8 +97,8 @@ stands left l =
     go false p b q true r false s e t false u false = tt
 
 -- the same of a record that was seen
-pub says : (left : ℕ) (l : List ℕ) {r : Record} → recordOf left l ≡ r → Stands left l r
-says left l e = rw e at (stands left l)
+pub seen-stands : (left : ℕ) (l : List ℕ) {r : Record} → recordOf left l ≡ r → Stands left l r
+seen-stands left l e = rw e at (stands left l)
 
 -- the bytes of a record that was seen stand there
 pub line-is : (l : List ℕ) → Bytes l → marked TB l ≡ true → 12 ≤ length l → l ≡ lineRecord (runAt l) (value 2 l 6) ++ drop 12 l
@@ -98,6 +110,7 @@ line-is l b m h =
     ∙ ap (λ (x : List ℕ). le 2 (value 2 l 6) ++ x) (le-value 2 l 8 b (omega arith)
     ∙ ap (λ (x : List ℕ). le 2 (value 2 l 8) ++ x) (le-value 2 l 10 b (omega arith))))))
 
+-- R53: RQ and its six bytes, from the numbers that were got
 pub last-is : (l : List ℕ) → Bytes l → marked RQ l ≡ true → 6 ≤ length l → l ≡ requestRecord (value 2 l 2) (value 2 l 4) ++ drop 6 l
 last-is l b m h =
     marked-is RQ l m
@@ -116,12 +129,14 @@ sees-line left r t x p hn hp ht ha hr =
     let et : value 2 l 6 ≡ t = value-le 2 t [] ht in
     let ea : value 2 l 8 ≡ r .age = value-le 2 (r .age) [] ha in
     let er : value 2 l 10 ≡ r .remaining = value-le 2 (r .remaining) [] hr in
-    at-line left l refl p (marked-here TB (drop 2 l)) ∙ line-whole l (omega arith) ∙ simp (en, ep, et, ea, er)
+    at-slot left l refl p ∙ slot-line l (marked-here TB (drop 2 l)) ∙ line-whole l (omega arith) ∙ simp (en, ep, et, ea, er)
 
+-- R53: TF in front is seen
 pub sees-free : (left : ℕ) (x : List ℕ) → 0 < left → recordOf left (TF ++ x) ≡ Free
 unfolding marked
-sees-free left x p = at-free left (TF ++ x) refl p refl (marked-here TF x)
+sees-free left x p = at-slot left (TF ++ x) refl p ∙ slot-free (TF ++ x) refl (marked-here TF x)
 
+-- R53: RQ in front is seen
 pub sees-last : (left c n : ℕ) (x : List ℕ) → c < 65536 → n < 65536 → recordOf left (requestRecord c n ++ x) ≡ Last c n
 sees-last left c n x hc hn =
     let l = requestRecord c n ++ x in
@@ -131,8 +146,9 @@ sees-last left c n x hc hn =
 
 -- a record made of numbers that were got
 pub line-of : (l : List ℕ) → 12 ≤ length l → (n p a r t : ℕ) → n ≡ value 2 l 2 → p ≡ value 2 l 4 → a ≡ value 2 l 8 → r ≡ value 2 l 10 → t ≡ value 2 l 6
-    → Line (record { need = n; period = p; age = a; remaining = r }) t ≡ lineOf l
+    → Line (record { need = n; period = p; age = a; remaining = r }) t ≡ lineRecordOf l
 line-of l h n p a r t e1 e2 e3 e4 e5 = rw (e1, e2, e3, e4, e5) (sym (line-whole l h))
 
+-- the same of the new line
 pub last-of : (l : List ℕ) → 6 ≤ length l → (c n : ℕ) → c ≡ value 2 l 2 → n ≡ value 2 l 4 → Last c n ≡ lastOf l
 last-of l h c n e1 e2 = rw (e1, e2) (sym (last-whole l h))

@@ -18,10 +18,10 @@ use Rattle.table.specs.Words.{refusal, gives, refuses}
 use Rattle.card.specs.declared.Record.the-variants.{Refused}
 use Rattle.card.specs.Bytes.{value, CK, TB, TF, TA, RQ, marked}
 use Rattle.card.specs.Card.{clockRecord, lineRecord, slotRecord, slotRecords, entryOf, entries, Carried, AllCarried}
-use Rattle.card.specs.Reading.{recordOf, after, ending, closing, broken, recordsOf, readWith}
+use Rattle.card.specs.Reading.{recordOf, putInFront, ending, closing, broken, recordsOf, readWith}
 use Rattle.card.proofs.Marks.{marked-short, marked-other}
-use Rattle.card.proofs.Records.{at-last, at-end, at-line, at-old, at-unknown, line-cut, last-cut, last-whole}
-use Rattle.card.proofs.Steps.{records-last, records-refused, after-after, after-none}
+use Rattle.card.proofs.Records.{at-last, at-end, at-slot, slot-line, slot-old, slot-unknown, line-cut, last-cut, last-whole}
+use Rattle.card.proofs.Steps.{records-last, records-refused, in-front-twice, in-front-nothing}
 use Rattle.card.proofs.ReadsBack.{reads-free, reads-line, after-clock}
 
 -- the last record before was TF
@@ -36,31 +36,32 @@ allRecords ss ts = slotRecords (length ss) ss ts
 -- one whole record is passed, and what follows from there on
 pass-one : (k left : ℕ) (x : List ℕ) (h : Held) (ss : List Slot) (t : ℕ) (ts : List ℕ) (gap : Bool) (at : ℕ) → Carried h t
     → ((o : Bool) (a : ℕ) → recordsOf k (length ss + left) o a (allRecords ss ts ++ x)
-    ≡ after ss (entries ss ts) (recordsOf k left (afterFree o ss) (a + length (allRecords ss ts)) x))
+    ≡ putInFront ss (entries ss ts) (recordsOf k left (afterFree o ss) (a + length (allRecords ss ts)) x))
     → recordsOf k (suc (length ss) + left) gap at (slotRecord h t ++ (allRecords ss ts ++ x))
-    ≡ after (record { held = h } ∷ ss) (entryOf h t ∷ entries ss ts)
+    ≡ putInFront (record { held = h } ∷ ss) (entryOf h t ∷ entries ss ts)
     (recordsOf k left (afterFree (isNothing h) ss) (at + length (slotRecord h t ++ allRecords ss ts)) x)
 pass-one k left x (Waiting w) ss t ts gap at f ih = absurd f
 pass-one k left x Nothing ss t ts gap at f ih =
     let e : at + 2 + length (allRecords ss ts) ≡ at + length (TF ++ allRecords ss ts) = omega arith in
     rw suc-add
     (reads-free k (length ss + left) gap at (allRecords ss ts ++ x)
-    ∙ ap (after (empty ∷ []) (0 ∷ [])) (ih true (at + 2))
-    ∙ after-after (empty ∷ []) ss (0 ∷ []) (entries ss ts) (recordsOf k left (afterFree true ss) (at + 2 + length (allRecords ss ts)) x)
-    ∙ ap (λ (a : ℕ). after (empty ∷ ss) (0 ∷ entries ss ts) (recordsOf k left (afterFree true ss) a x)) e)
+    ∙ ap (putInFront (empty ∷ []) (0 ∷ [])) (ih true (at + 2))
+    ∙ in-front-twice (empty ∷ []) ss (0 ∷ []) (entries ss ts) (recordsOf k left (afterFree true ss) (at + 2 + length (allRecords ss ts)) x)
+    ∙ ap (λ (a : ℕ). putInFront (empty ∷ ss) (0 ∷ entries ss ts) (recordsOf k left (afterFree true ss) a x)) e)
 pass-one k left x (Running r) ss t ts gap at f ih =
     let s : Slot = record { held = Running r } in
     let e : at + 12 + length (allRecords ss ts) ≡ at + length (lineRecord r t ++ allRecords ss ts) = omega arith in
     rw suc-add
     (reads-line k (length ss + left) gap at r t (allRecords ss ts ++ x) f
-    ∙ ap (after (s ∷ []) (t ∷ [])) (ih false (at + 12))
-    ∙ after-after (s ∷ []) ss (t ∷ []) (entries ss ts) (recordsOf k left (afterFree false ss) (at + 12 + length (allRecords ss ts)) x)
-    ∙ ap (λ (a : ℕ). after (s ∷ ss) (t ∷ entries ss ts) (recordsOf k left (afterFree false ss) a x)) e)
+    ∙ ap (putInFront (s ∷ []) (t ∷ [])) (ih false (at + 12))
+    ∙ in-front-twice (s ∷ []) ss (t ∷ []) (entries ss ts) (recordsOf k left (afterFree false ss) (at + 12 + length (allRecords ss ts)) x)
+    ∙ ap (λ (a : ℕ). putInFront (s ∷ ss) (t ∷ entries ss ts) (recordsOf k left (afterFree false ss) a x)) e)
 
+-- R54: whole records are passed, and what follows is read from there on
 pub passed : (k left : ℕ) (x : List ℕ) (ss : List Slot) (ts : List ℕ) (gap : Bool) (at : ℕ) → AllCarried ss ts
     → recordsOf k (length ss + left) gap at (allRecords ss ts ++ x)
-    ≡ after ss (entries ss ts) (recordsOf k left (afterFree gap ss) (at + length (allRecords ss ts)) x)
-passed k left x [] [] gap at f = rw (zero-add, add-zero) (sym (after-none (recordsOf k left gap at x)))
+    ≡ putInFront ss (entries ss ts) (recordsOf k left (afterFree gap ss) (at + length (allRecords ss ts)) x)
+passed k left x [] [] gap at f = rw (zero-add, add-zero) (sym (in-front-nothing (recordsOf k left gap at x)))
 passed k left x [] (t ∷ ts) gap at f = absurd f
 passed k left x (s ∷ ss) [] gap at f = absurd f
 passed k left x (s ∷ ss) (t ∷ ts) gap at f =
@@ -90,18 +91,21 @@ module _ (n : ℕ) (l : List ℕ) where
 
 -- the bytes x behind the clock and the records of these slots, where so many slots are left
 module _ (k : ℕ) (ss : List Slot) (ts : List ℕ) (left : ℕ) (x : List ℕ) (hk : k < 18446744073709551616) (f : AllCarried ss ts) where
+  -- how many slots the unit has
   abbrev pub slotsOf : ℕ
   slotsOf = length ss + left
 
+  -- the whole card
   abbrev pub card : List ℕ
   card = clockRecord k ++ (allRecords ss ts ++ x)
 
+  -- R57: where the bytes x begin
   abbrev pub offset : ℕ
   offset = 10 + length (allRecords ss ts)
 
   there : (r : Refusal) → recordsOf k left (afterFree false ss) offset x ≡ refuses r → readWith slotsOf card ≡ refuses r
   there r e =
-      after-clock slotsOf k (allRecords ss ts ++ x) hk ∙ passed k left x ss ts false 10 f ∙ ap (after ss (entries ss ts)) e
+      after-clock slotsOf k (allRecords ss ts ++ x) hk ∙ passed k left x ss ts false 10 f ∙ ap (putInFront ss (entries ss ts)) e
 
   refused-there : (m : ℕ) → recordOf left x ≡ Refused m → readWith slotsOf card ≡ refuses (refusal m offset)
   refused-there m e = there (refusal m offset) (records-refused k left (afterFree false ss) offset x m e)
@@ -113,7 +117,7 @@ module _ (k : ℕ) (ss : List Slot) (ts : List ℕ) (left : ℕ) (x : List ℕ) 
     where
       go : (n : ℕ) → left ≡ n → recordOf left x ≡ Refused 11
       go zero e = at-end left x q e
-      go (suc n) e = at-unknown left x q (omega arith) b c d
+      go (suc n) e = at-slot left x q (omega arith) ∙ slot-unknown x b c d
 
   -- R57: no two bytes are left for a mark
   pub missing-mark : length x < 2 → readWith slotsOf card ≡ broken offset
@@ -128,7 +132,7 @@ module _ (k : ℕ) (ss : List Slot) (ts : List ℕ) (left : ℕ) (x : List ℕ) 
   -- R57: TB with fewer bytes left than its record has
   pub cut-line : 0 < left → marked TB x ≡ true → length x < 12 → readWith slotsOf card ≡ broken offset
   unfolding marked
-  cut-line p h c = refused-there 11 (at-line left x (marked-other TB RQ x h refl) p h ∙ line-cut x c)
+  cut-line p h c = refused-there 11 (at-slot left x (marked-other TB RQ x h refl) p ∙ slot-line x h ∙ line-cut x c)
 
   -- R57: RQ with fewer bytes left than its record has
   pub cut-request : marked RQ x ≡ true → length x < 6 → readWith slotsOf card ≡ broken offset
@@ -161,4 +165,4 @@ module _ (k : ℕ) (ss : List Slot) (ts : List ℕ) (left : ℕ) (x : List ℕ) 
   pub old-mark : 0 < left → marked TA x ≡ true → readWith slotsOf card ≡ refuses (refusal 12 offset)
   unfolding marked
   old-mark p h =
-      refused-there 12 (at-old left x (marked-other TA RQ x h refl) p (marked-other TA TB x h refl) (marked-other TA TF x h refl) h)
+      refused-there 12 (at-slot left x (marked-other TA RQ x h refl) p ∙ slot-old x (marked-other TA TB x h refl) (marked-other TA TF x h refl) h)

@@ -15,9 +15,11 @@ use Rattle.card.specs.declared.Record.{Record}
 use Rattle.card.specs.declared.Record.the-variants.{Line, Free, Last, Refused}
 use Rattle.card.specs.Bytes.{Bytes, value, CK, TF, marked}
 use Rattle.card.specs.Card.{clockRecord, lineRecord, requestRecord, slotRecords, oneMore, used, cardOf, Card, Carried, AllCarried, Fits}
-use Rattle.card.specs.Reading.{after, ending, broken, closing, step, recordOf, recordsOf, readWith}
+use Rattle.card.specs.Reading.{putInFront, ending, broken, closing, step, recordOf, recordsOf, readWith}
 use Rattle.card.proofs.Numbers.{bytes-drop, le-value, value-lt}
-use Rattle.card.proofs.Marks.{false-true, both-true, marked-is}
+use Rattle.line.proofs.Search.{true-false}
+use Rattle.line.proofs.Sound.{both-says}
+use Rattle.card.proofs.Marks.{marked-is}
 use Rattle.card.proofs.Records.{Stands, stands, line-is, last-is}
 use Rattle.card.proofs.ReadsBack.{oneMore-some}
 
@@ -31,13 +33,14 @@ pub record Owes (k n : ℕ) (gap : Bool) (l : List ℕ) (c : Card) : Type 0 wher
   pub need : c .request .need < 65536
   pub period : c .request .period < 65536
 
+-- what was read owes the bytes; a refusal owes nothing
 abbrev pub Right : (k n : ℕ) → Bool → List ℕ → Said Card → Type 0
 Right k n gap l (gives c) = Owes k n gap l c
 Right k n gap l (refuses r) = Unit {0}
 
 module _ (k n : ℕ) (gap : Bool) (l : List ℕ) where
   right-line : (r : Run) (t : ℕ) → l ≡ lineRecord r t ++ drop 12 l → Carried (Running r) t → (s : Said Card) → Right k n false (drop 12 l) s
-      → Right k (suc n) gap l (after (record { held = Running r } ∷ []) (t ∷ []) s)
+      → Right k (suc n) gap l (putInFront (record { held = Running r } ∷ []) (t ∷ []) s)
   right-line r t e f (gives c) h = record {
     bytes = ap (λ (x : List ℕ). lineRecord r t ++ x) (h .bytes) ∙ sym e;
     held = λ g u. omega arith;
@@ -49,7 +52,7 @@ module _ (k n : ℕ) (gap : Bool) (l : List ℕ) where
   }
   right-line r t e f (refuses x) h = tt
 
-  right-free : l ≡ TF ++ drop 2 l → (s : Said Card) → Right k n true (drop 2 l) s → Right k (suc n) gap l (after (empty ∷ []) (0 ∷ []) s)
+  right-free : l ≡ TF ++ drop 2 l → (s : Said Card) → Right k n true (drop 2 l) s → Right k (suc n) gap l (putInFront (empty ∷ []) (0 ∷ []) s)
   right-free e (gives c) h =
       let u = used (c .table .slots) in
       let b : oneMore u ≡ suc u = oneMore-some u (h .held refl) in
@@ -90,7 +93,7 @@ right-closing k n false at l c t e hc ht = go (eqb (length l) 6) refl
           bytes =
               ap (λ (u : ℕ). slotRecords u (replicate n empty) (replicate n 0) ++ requestRecord c t) (used-none n)
               ∙ ap (λ (x : List ℕ). requestRecord c t ++ x) (sym z) ∙ sym e;
-          held = λ g u. false-true g;
+          held = λ g u. true-false g refl;
           clock = refl;
           slots = length-empty n;
           lines = carried-none n;
@@ -110,6 +113,7 @@ module _ (k n : ℕ) (gap : Bool) (at : ℕ) (l : List ℕ) (b : Bytes l) where
       rw (s .3, s .4)
       (line-is l b (s .2) (s .1), (value-lt 2 l 2 b, value-lt 2 l 4 b, value-lt 2 l 6 b, value-lt 2 l 8 b, value-lt 2 l 10 b))
 
+-- R72: whatever is read from bytes owes them
 pub right : (k n : ℕ) (gap : Bool) (at : ℕ) (l : List ℕ) → Bytes l → Right k n gap l (recordsOf k n gap at l)
 unfolding recordsOf
 right k zero gap at l b = go (recordOf 0 l) (stands 0 l)
@@ -144,7 +148,7 @@ writes-back n l b c e = go (both (leb 10 (length l)) (marked CK l)) refl e
         → (clockRecord (c .table .clock) ++ (slotRecords (used (c .table .slots)) (c .table .slots) (c .request .stretched) ++ requestRecord (c .request .need) (c .request .period)) ≡ l)
         × Fits n (c .table) (c .request)
     go true h q =
-        let t = both-true (leb 10 (length l)) (marked CK l) h in
+        let t = both-says (leb 10 (length l)) (marked CK l) h in
         let r : Owes (value 8 l 2) n false (drop 10 l) c = rw q at (right (value 8 l 2) n false 10 (drop 10 l) (bytes-drop 10 l b)) in (
           ap₂ (λ (k : ℕ) (x : List ℕ). clockRecord k ++ x) (r .clock) (r .bytes) ∙ sym (clock-is l b (t .1) (leb-true 10 (length l) (t .0))),
           record {

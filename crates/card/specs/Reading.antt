@@ -14,8 +14,8 @@ use Rattle.card.specs.Bytes.{value, CK, TB, TF, TA, RQ, marked}
 use Rattle.card.specs.Card.{Card}
 
 -- R53, R57: a line's record, whole or cut
-abbrev pub lineOf : List ℕ → Record
-lineOf l =
+abbrev pub lineRecordOf : List ℕ → Record
+lineRecordOf l =
     pick (leb 12 (length l))
     (Line (record { need = value 2 l 2; period = value 2 l 4; age = value 2 l 8; remaining = value 2 l 10 }) (value 2 l 6))
     (Refused 11)
@@ -27,7 +27,7 @@ lastOf l = pick (leb 6 (length l)) (Last (value 2 l 2) (value 2 l 4)) (Refused 1
 -- R32, R58: where a slot's record may stand TA is refused by a number of its own, any other unknown mark as broken
 abbrev pub slotRecordOf : List ℕ → Record
 slotRecordOf l =
-    pick (marked TB l) (lineOf l) (pick (marked TF l) Free (pick (marked TA l) (Refused 12) (Refused 11)))
+    pick (marked TB l) (lineRecordOf l) (pick (marked TF l) Free (pick (marked TA l) (Refused 12) (Refused 11)))
 
 -- R57: what stands at the front where so many slots are left; with none left RQ alone may
 unfoldable pub recordOf : (left : ℕ) → List ℕ → Record
@@ -37,14 +37,14 @@ recordOf left l = pick (marked RQ l) (lastOf l) (pick (ltb 0 left) (slotRecordOf
 abbrev pub broken : (place : ℕ) → Said Card
 broken at = refuses (refusal 11 at)
 
--- the slots and entries read so far, in front of those that are read after
-abbrev pub after : List Slot → List ℕ → Said Card → Said Card
-after ss ts (gives c) =
+-- R54: the slots and entries that were read before stand in front of what is read; a refusal stays
+abbrev pub putInFront : List Slot → List ℕ → Said Card → Said Card
+putInFront ss ts (gives c) =
     gives (record {
       table = record { clock = c .table .clock; slots = ss ++ c .table .slots };
       request = record { stretched = ts ++ c .request .stretched; need = c .request .need; period = c .request .period };
     })
-after ss ts (refuses r) = refuses r
+putInFront ss ts (refuses r) = refuses r
 
 -- R55: what RQ gives where so many slots have no record
 abbrev pub ending : (clock left Cn Tn : ℕ) → Card
@@ -59,8 +59,8 @@ closing gap at n c = pick gap (broken at) (pick (eqb n 6) (gives c) (broken (at 
 
 -- R54: a record at an offset; next reads what follows
 abbrev pub step : (clock left : ℕ) (gap : Bool) (at : ℕ) → List ℕ → (Bool → ℕ → List ℕ → Said Card) → Record → Said Card
-step k left gap at l next (Line r t) = after (record { held = Running r } ∷ []) (t ∷ []) (next false (at + 12) (drop 12 l))
-step k left gap at l next Free = after (empty ∷ []) (0 ∷ []) (next true (at + 2) (drop 2 l))
+step k left gap at l next (Line r t) = putInFront (record { held = Running r } ∷ []) (t ∷ []) (next false (at + 12) (drop 12 l))
+step k left gap at l next Free = putInFront (empty ∷ []) (0 ∷ []) (next true (at + 2) (drop 2 l))
 step k left gap at l next (Last c n) = closing gap at (length l) (ending k left c n)
 step k left gap at l next (Refused n) = refuses (refusal n at)
 

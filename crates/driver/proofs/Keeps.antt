@@ -17,10 +17,12 @@ module _ (t : Table) (s : Stepped) (e : s ≡ stepOf t) where
   held : (z : Bool) → z ≡ hasRun (s .outcome) → pick z (s .table) t ≡ drivenOf t
   held z f = ap (λ (w : Bool). pick w (s .table) t) f ∙ ap (λ (r : Stepped). pick (hasRun (r .outcome)) (r .table) t) e
 
+  -- R51: where the step was made, its table is what the driver is to hold
   pub stored : (z : Bool) → z ≡ hasRun (s .outcome) → Holds z → s .table ≡ drivenOf t
   stored true f y = held true f
   stored false f y = absurd y
 
+  -- R51: where it was refused, that is the table that was there
   pub left : (z : Bool) → z ≡ hasRun (s .outcome) → Holds (not z) → t ≡ drivenOf t
   left true f y = absurd y
   left false f y = held false f

@@ -11,7 +11,7 @@ use Rattle.table.specs.Words.{gives}
 use Rattle.line.specs.Demand.{due, lastEnd}
 use Rattle.line.specs.Stretch.{stretched}
 use Rattle.line.specs.Shares.{periodsIn}
-use Rattle.table.specs.Ask.{says, loadOf, askOf}
+use Rattle.table.specs.Ask.{says, askIn, askOf}
 use Rattle.line.specs.Ends.{every, endsBefore, endsOf, slack, bound, greatest, anyOf, start}
 use Rattle.table.specs.Admit.{admitOf}
 use Rattle.table.specs.Step.{chosen, advance, stepOf}
@@ -19,10 +19,11 @@ use Rattle.table.specs.Cases.{caseA}
 use Rattle.card.specs.Card.{cardOf, carrying}
 use Rattle.card.specs.Reading.{readOf}
 use Rattle.card.proofs.CaseA.{case-A-written, case-A-read}
-use Rattle.reply.specs.Line.{lineOf}
+use Rattle.reply.specs.Line.{answerLine}
 use Rattle.reply.proofs.Line.{line-of-case-A}
-use Rattle.house.specs.House.{answerFor, lineFor, numberOf, ranIn, runAdmitted, runFor, runOf}
+use Rattle.house.specs.House.{answerFor, lineFor, numberOf, ticksRun, runAdmitted, runFor, runOf}
 
+-- R67: case A's card
 abbrev pub cardA : List ℕ
 cardA = cardOf (caseA .table) (caseA .request)
 
@@ -30,15 +31,15 @@ reads-A : readOf cardA ≡ gives (carrying (caseA .table) (caseA .request))
 reads-A = ap readOf case-A-written ∙ case-A-read
 
 asks-A : askOf (caseA .table) (caseA .request) ≡ Start 13
-unfolding euclid gcdOf lcmOf frameFrom total lowest due lastEnd stretched periodsIn every endsBefore endsOf slack bound greatest anyOf start loadOf askOf
+unfolding euclid gcdOf lcmOf frameFrom total lowest due lastEnd stretched periodsIn every endsBefore endsOf slack bound greatest anyOf start askIn askOf
 asks-A = refl
 
 -- R60, R61: the eleven bytes of case A's line
 pub line-A : lineFor cardA ≡ 114 ∷ 101 ∷ 108 ∷ 101 ∷ 97 ∷ 115 ∷ 101 ∷ 32 ∷ 49 ∷ 51 ∷ 10 ∷ []
-line-A = ap (λ (a : Answer). lineOf (says a)) (ap answerFor reads-A ∙ asks-A) ∙ line-of-case-A
+line-A = ap (λ (a : Answer). answerLine (says a)) (ap answerFor reads-A ∙ asks-A) ∙ line-of-case-A
 
 runs-A : runAdmitted 26 (admitOf (caseA .table) (caseA .request)) ≡ gives 23
-unfolding euclid gcdOf lcmOf frameFrom total lowest due lastEnd stretched periodsIn every endsBefore endsOf slack bound greatest anyOf start loadOf askOf chosen advance stepOf ranIn
+unfolding euclid gcdOf lcmOf frameFrom total lowest due lastEnd stretched periodsIn every endsBefore endsOf slack bound greatest anyOf start askIn askOf chosen advance stepOf ticksRun
 runs-A = refl
 
 -- R66: three of the 26 ticks run no line

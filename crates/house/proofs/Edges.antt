@@ -13,12 +13,12 @@ use Rattle.line.specs.Demand.{due, lastEnd}
 use Rattle.line.specs.Stretch.{stretched}
 use Rattle.line.specs.Shares.{periodsIn}
 use Rattle.line.specs.Ends.{every, endsBefore, endsOf, slack, bound, greatest, anyOf, start}
-use Rattle.table.specs.Ask.{loadOf, askOf}
+use Rattle.table.specs.Ask.{askIn, askOf}
 use Rattle.table.specs.Step.{chosen, advance, stepOf}
 use Rattle.table.specs.Cases.{running, tableOf}
 use Rattle.card.specs.Bytes.{marked}
 use Rattle.card.specs.Reading.{recordOf, recordsOf, readWith}
-use Rattle.house.specs.House.{answerOf, numberOf, saidPut, putOf, rewriteOf, rewrittenOf, counted, ranIn, runAdmitted, runOf}
+use Rattle.house.specs.House.{answerOf, numberOf, saidPut, putOf, rewriteOf, rewrittenOf, counted, ticksRun, runAdmitted, runOf}
 
 -- R63: what is given stands for itself, 0 too, and a refusal for minus its number, whatever its place
 pub number-edges : map numberOf (gives 0 ∷ gives 11 ∷ gives 208 ∷ refuses (refusal 1 0) ∷ refuses (refusal 13 0) ∷ refuses (refusal 14 7) ∷ [])
@@ -43,7 +43,7 @@ emptyCard n = 0x43 ∷ 0x4B ∷ 0 ∷ 0 ∷ 0 ∷ 0 ∷ 0 ∷ 0 ∷ 0 ∷ 0 ∷ 
 
 -- R60: no byte is the reader's refusal; a card that reads gets ask's, or the start
 pub answer-edges : map answerOf ([] ∷ emptyCard 0 ∷ emptyCard 3 ∷ []) ≡ Refused (refusal 11 0) ∷ Refused (refusal 6 0) ∷ Start 0 ∷ []
-unfolding readWith recordsOf recordOf marked euclid gcdOf lcmOf frameFrom total lowest due lastEnd stretched periodsIn every endsBefore endsOf slack bound greatest anyOf start loadOf askOf
+unfolding readWith recordsOf recordOf marked euclid gcdOf lcmOf frameFrom total lowest due lastEnd stretched periodsIn every endsBefore endsOf slack bound greatest anyOf start askIn askOf
 answer-edges = refl
 
 -- R65: a card that does not read is not written, and the buffer stays
@@ -53,7 +53,7 @@ refused-rewrite-keeps = (refl, refl)
 
 -- R66: no tick, one, a whole period, and two ticks of the next
 pub run-edges : map (runOf (emptyCard 3)) (0 ∷ 1 ∷ 5 ∷ 7 ∷ []) ≡ gives 0 ∷ gives 1 ∷ gives 3 ∷ gives 5 ∷ []
-unfolding readWith recordsOf recordOf marked euclid gcdOf lcmOf frameFrom total lowest due lastEnd stretched periodsIn every endsBefore endsOf slack bound greatest anyOf start loadOf askOf chosen advance stepOf ranIn
+unfolding readWith recordsOf recordOf marked euclid gcdOf lcmOf frameFrom total lowest due lastEnd stretched periodsIn every endsBefore endsOf slack bound greatest anyOf start askIn askOf chosen advance stepOf ticksRun
 run-edges = refl
 
 -- R66: the reader's refusal, with no tick to run and with some
@@ -63,7 +63,7 @@ refused-card-runs = refl
 
 -- R66: ask's refusal, with no tick to run and with some
 pub refused-request-runs : map (runOf (emptyCard 0)) (0 ∷ 5 ∷ []) ≡ refuses (refusal 6 0) ∷ refuses (refusal 6 0) ∷ []
-unfolding readWith recordsOf recordOf marked lowest askOf ranIn
+unfolding readWith recordsOf recordOf marked lowest askOf ticksRun
 refused-request-runs = refl
 
 -- three ticks of need in two: slot 1 is one short
@@ -76,15 +76,15 @@ late = tableOf (2 ^ 48 - 1) (running 1 2 0 1 ∷ [])
 
 -- R66, R34: the second step is refused, and no step after it is made
 pub stops-at-a-short-period : map (λ (n : ℕ). runAdmitted n (record { table = crowded; answer = Start 0 })) (0 ∷ 1 ∷ 2 ∷ 3 ∷ []) ≡ gives 0 ∷ gives 1 ∷ refuses (refusal 14 1) ∷ refuses (refusal 14 1) ∷ []
-unfolding lowest chosen advance stepOf ranIn
+unfolding lowest chosen advance stepOf ticksRun
 stops-at-a-short-period = refl
 
 -- R66, R35: the step at the clock's end is refused, and the run with it
-pub stops-at-the-last-tick : map (λ (n : ℕ). ranIn n late) (0 ∷ 1 ∷ 2 ∷ 3 ∷ []) ≡ gives 0 ∷ gives 1 ∷ refuses (refusal 15 0) ∷ refuses (refusal 15 0) ∷ []
-unfolding lowest chosen advance stepOf ranIn
+pub stops-at-the-last-tick : map (λ (n : ℕ). ticksRun n late) (0 ∷ 1 ∷ 2 ∷ 3 ∷ []) ≡ gives 0 ∷ gives 1 ∷ refuses (refusal 15 0) ∷ refuses (refusal 15 0) ∷ []
+unfolding lowest chosen advance stepOf ticksRun
 stops-at-the-last-tick = refl
 
 -- R66: a refused admission runs nothing, whatever table stands beside it
 pub refused-admission-runs : map (λ (n : ℕ). runAdmitted n (record { table = crowded; answer = Refused (refusal 8 0) })) (0 ∷ 2 ∷ []) ≡ refuses (refusal 8 0) ∷ refuses (refusal 8 0) ∷ []
-unfolding lowest chosen advance stepOf ranIn
+unfolding lowest chosen advance stepOf ticksRun
 refused-admission-runs = refl

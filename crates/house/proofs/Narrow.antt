@@ -17,6 +17,7 @@ use Rattle.card.proofs.Length.{longest-card}
 use Rattle.reply.specs.Line.{fits}
 use Rattle.house.specs.House.{Narrow, saidPut, putOf}
 
+-- R62: a line of at most 40 bytes is answered by a length of 32 bits, or by 13
 pub line-narrow : (line buffer : List ℕ) → length line ≤ 40 → Narrow (putOf line buffer)
 line-narrow line buffer h = go (fits line buffer)
   where
@@ -32,6 +33,7 @@ length-narrow t q room e = go (leb (length (cardOf t q)) room)
     go true = omega (arith, longest-card t q e)
     go false = tt
 
+-- R65: a card of sixteen slots is answered by a length of 32 bits, or by a refusal
 pub card-narrow : (t : Table) (q : Request) (room : ℕ) → length (t .slots) ≡ 16 → Narrow (writeOf t q room)
 card-narrow t q room e = go (lowestOf isWaiting (t .slots))
   where

@@ -10,45 +10,49 @@ use Rattle.table.specs.declared.Outcome.the-variants.{Ran, Refused}
 use Rattle.table.specs.declared.Stepped.{Stepped}
 use Rattle.table.specs.Words.{slotOf, Said, gives, refuses}
 use Rattle.table.specs.Step.{saysRan, stepOf}
-use Rattle.house.specs.House.{counted, more, andThen, ranIn}
+use Rattle.house.specs.House.{counted, more, andThen, ticksRun}
 
 more-more : (a b : ℕ) (s : Said ℕ) → more (a + b) s ≡ more a (more b s)
 more-more a b (gives n) = ap gives (omega arith)
 more-more a b (refuses x) = refl
 
-pub run-start : (ticks : ℕ) (t : Table) → more 0 (ranIn (ticks - 0) t) ≡ ranIn ticks t
-run-start ticks t = ap (λ (n : ℕ). more 0 (ranIn n t)) (omega arith) ∙ go (ranIn ticks t)
+-- nothing is counted, and all ticks are left
+pub run-start : (ticks : ℕ) (t : Table) → more 0 (ticksRun (ticks - 0) t) ≡ ticksRun ticks t
+run-start ticks t = ap (λ (n : ℕ). more 0 (ticksRun n t)) (omega arith) ∙ go (ticksRun ticks t)
   where
     go : (s : Said ℕ) → more 0 s ≡ s
     go (gives n) = ap gives (omega arith)
     go (refuses x) = refl
 
-pub run-end : (ticks i ran : ℕ) (t : Table) → ticks ≤ i → gives ran ≡ more ran (ranIn (ticks - i) t)
-unfolding ranIn
+-- no tick is left
+pub run-end : (ticks i ran : ℕ) (t : Table) → ticks ≤ i → gives ran ≡ more ran (ticksRun (ticks - i) t)
+unfolding ticksRun
 run-end ticks i ran t h =
-    ap gives (omega arith) ∙ ap (λ (n : ℕ). more ran (ranIn n t)) (sym left)
+    ap gives (omega arith) ∙ ap (λ (n : ℕ). more ran (ticksRun n t)) (sym left)
   where
     left : ticks - i ≡ 0
     left = omega arith
 
-one-tick : (n : ℕ) (t : Table) → ranIn (suc n) t ≡ andThen (saysRan (stepOf t .outcome)) (ranIn n (stepOf t .table))
-unfolding ranIn
+one-tick : (n : ℕ) (t : Table) → ticksRun (suc n) t ≡ andThen (saysRan (stepOf t .outcome)) (ticksRun n (stepOf t .table))
+unfolding ticksRun
 one-tick n t = refl
 
 module _ (ticks i ran : ℕ) (t : Table) (h : i < ticks) {s : Stepped} (e : s ≡ stepOf t) where
-  next : ranIn (ticks - i) t ≡ andThen (saysRan (s .outcome)) (ranIn (ticks - (i + 1)) (s .table))
+  next : ticksRun (ticks - i) t ≡ andThen (saysRan (s .outcome)) (ticksRun (ticks - (i + 1)) (s .table))
   next =
-      ap (λ (n : ℕ). ranIn n t) (omega arith) ∙ one-tick (ticks - (i + 1)) t
-      ∙ ap (λ (x : Stepped). andThen (saysRan (x .outcome)) (ranIn (ticks - (i + 1)) (x .table))) (sym e)
+      ap (λ (n : ℕ). ticksRun n t) (omega arith) ∙ one-tick (ticks - (i + 1)) t
+      ∙ ap (λ (x : Stepped). andThen (saysRan (x .outcome)) (ticksRun (ticks - (i + 1)) (x .table))) (sym e)
 
+  -- R66: a step that ran moves its tick from what is left to what was counted
   pub run-on : (w : Which) → s .outcome ≡ Ran w → (k : ℕ) → k ≡ counted (slotOf w)
-      → more (ran + k) (ranIn (ticks - (i + 1)) (s .table)) ≡ more ran (ranIn (ticks - i) t)
+      → more (ran + k) (ticksRun (ticks - (i + 1)) (s .table)) ≡ more ran (ticksRun (ticks - i) t)
   run-on w o k n =
-      let rest = ranIn (ticks - (i + 1)) (s .table) in
+      let rest = ticksRun (ticks - (i + 1)) (s .table) in
       more-more ran k rest ∙ ap (λ (j : ℕ). more ran (more j rest)) n
       ∙ ap (λ (x : Outcome). more ran (andThen (saysRan x) rest)) (sym o) ∙ ap (more ran) (sym next)
 
-  pub run-stop : (x : Refusal) → s .outcome ≡ Refused x → refuses x ≡ more ran (ranIn (ticks - i) t)
+  -- R66: a refused step settles what all ticks say
+  pub run-stop : (x : Refusal) → s .outcome ≡ Refused x → refuses x ≡ more ran (ticksRun (ticks - i) t)
   run-stop x o =
-      ap (λ (y : Outcome). more ran (andThen (saysRan y) (ranIn (ticks - (i + 1)) (s .table)))) (sym o)
+      ap (λ (y : Outcome). more ran (andThen (saysRan y) (ticksRun (ticks - (i + 1)) (s .table)))) (sym o)
       ∙ ap (more ran) (sym next)

@@ -15,8 +15,10 @@ module _ (card : List ℕ) {c : ReadCard} (e : c ≡ handed (readOf card)) where
   said : readOf card ≡ saidRead c
   said = sym (said-handed (readOf card)) ∙ ap saidRead (sym e)
 
+  -- R56: where the answer is that the card was read, it reads as the table and the request beside it
   pub was-read : c .answer ≡ Read → readOf card ≡ gives (carrying (c .table) (c .request))
   was-read h = said ∙ ap (saidWith (c .table) (c .request)) h
 
+  -- R56: where the answer is a refusal, the card is refused by it
   pub was-refused : (x : Refusal) → c .answer ≡ Refused x → readOf card ≡ refuses x
   was-refused x h = said ∙ ap (saidWith (c .table) (c .request)) h

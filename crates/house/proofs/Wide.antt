@@ -10,6 +10,7 @@ use Rattle.table.proofs.Answer as answer
 use Rattle.table.specs.Ask.{says}
 use Rattle.reply.specs.Line.{Wide}
 
-pub wide : (a : Answer) (l : List Val) → Is (declared.row answer.the-type) a l → Wide (says a)
-wide (Start r) l g = omega arith
-wide (Refused x) l g = (omega arith, omega arith)
+-- R17: a start and a place have 64 bits, a number 16
+pub answer-wide : (a : Answer) (l : List Val) → Is (declared.row answer.the-type) a l → Wide (says a)
+answer-wide (Start r) l g = omega arith
+answer-wide (Refused x) l g = (omega arith, omega arith)

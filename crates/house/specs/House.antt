@@ -14,7 +14,7 @@ use Rattle.table.specs.Step.{saysRan, stepOf}
 use Rattle.card.specs.Card.{Card}
 use Rattle.card.specs.Reading.{readOf}
 use Rattle.card.specs.Answers.{writeOf, bufferOf}
-use Rattle.reply.specs.Line.{lineOf, lengthFor}
+use Rattle.reply.specs.Line.{answerLine, lengthFor}
 use Rattle.house.specs.declared.Told.{Told}
 
 -- R60: the reader's refusal, or what ask answers
@@ -22,12 +22,13 @@ abbrev pub answerFor : Said Card → Answer
 answerFor (gives c) = askOf (c .table) (c .request)
 answerFor (refuses x) = Refused x
 
+-- R60: the answer to a card's bytes
 abbrev pub answerOf : List ℕ → Answer
 answerOf card = answerFor (readOf card)
 
 -- R60, R64: the line of a card's answer
 abbrev pub lineFor : List ℕ → List ℕ
-lineFor card = lineOf (says (answerOf card))
+lineFor card = answerLine (says (answerOf card))
 
 -- R63: the number for each case: what was asked for, or minus the refusal's number
 abbrev pub numberOf : Said ℕ → ℤ
@@ -58,6 +59,7 @@ abbrev pub rewriteFor : Said Card → (room : ℕ) → Said ℕ
 rewriteFor (gives c) room = writeOf (c .table) (c .request) room
 rewriteFor (refuses x) room = refuses x
 
+-- R65: the same of the card's bytes
 abbrev pub rewriteOf : (card : List ℕ) (room : ℕ) → Said ℕ
 rewriteOf card room = rewriteFor (readOf card) room
 
@@ -66,6 +68,7 @@ abbrev pub rewrittenFor : Said Card → List ℕ → List ℕ
 rewrittenFor (gives c) buffer = bufferOf (c .table) (c .request) buffer
 rewrittenFor (refuses x) buffer = buffer
 
+-- R65: the same of the card's bytes
 abbrev pub rewrittenOf : (card buffer : List ℕ) → List ℕ
 rewrittenOf card buffer = rewrittenFor (readOf card) buffer
 
@@ -85,22 +88,24 @@ andThen (gives o) s = more (counted o) s
 andThen (refuses x) s = refuses x
 
 -- R66: so many steps of a table: the number of ticks in which a line ran, or the first refusal
-unfoldable pub ranIn : (ticks : ℕ) → Table → Said ℕ
-ranIn zero t = gives 0
-ranIn (suc n) t = andThen (saysRan (stepOf t .outcome)) (ranIn n (stepOf t .table))
+unfoldable pub ticksRun : (ticks : ℕ) → Table → Said ℕ
+ticksRun zero t = gives 0
+ticksRun (suc n) t = andThen (saysRan (stepOf t .outcome)) (ticksRun n (stepOf t .table))
 
 -- R66: ask's refusal, or the steps of the admitted table
 abbrev pub unlessRefused : Said ℕ → Said ℕ → Said ℕ
 unlessRefused (gives start) s = s
 unlessRefused (refuses x) s = refuses x
 
+-- R66: what an admission and so many steps after it say
 abbrev pub runAdmitted : (ticks : ℕ) → Admitted → Said ℕ
-runAdmitted n a = unlessRefused (says (a .answer)) (ranIn n (a .table))
+runAdmitted n a = unlessRefused (says (a .answer)) (ticksRun n (a .table))
 
 -- R66: the reader's refusal, or the run of the card's table with its request admitted
 abbrev pub runFor : (ticks : ℕ) → Said Card → Said ℕ
 runFor n (gives c) = runAdmitted n (admitOf (c .table) (c .request))
 runFor n (refuses x) = refuses x
 
+-- R66: the same of the card's bytes
 abbrev pub runOf : (card : List ℕ) (ticks : ℕ) → Said ℕ
 runOf card n = runFor n (readOf card)

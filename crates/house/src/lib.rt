@@ -6,8 +6,8 @@ ghost use Rattle.table.specs.Words.{slotOf};
 ghost use Rattle.table.specs.Ask.{says};
 ghost use Rattle.table.specs.Admit.{admitOf};
 ghost use Rattle.card.specs.Answers.{saidWritten, writeOf, bufferOf};
-ghost use Rattle.reply.specs.Line.{lineOf, lengthOf, heldAfter};
-ghost use Rattle.house.specs.House.{answerOf, lineFor, saidTold, numberOf, Narrow, saidPut, putOf, rewriteOf, rewrittenOf, counted, ranIn, runAdmitted, runOf};
+ghost use Rattle.reply.specs.Line.{answerLine, lengthOf, heldAfter};
+ghost use Rattle.house.specs.House.{answerOf, lineFor, saidTold, numberOf, Narrow, saidPut, putOf, rewriteOf, rewrittenOf, counted, ticksRun, runAdmitted, runOf};
 use card::CardAnswer;
 use card::WriteAnswer;
 use reply::Written;
@@ -72,9 +72,9 @@ fn card_told(w: WriteAnswer) -> Told
 }
 
 // R62: writes the line of an answer, which has at most 40 bytes.
-fn put_line(a: Answer, out: &mut [u8]) -> Told
-    ensures { λ r. ⌜ saidTold r ≡ putOf (lineOf (says a)) (now (out .entry)) ⌝ }
-    ensures { λ _. ⌜ now (out .exit) ≡ heldAfter (lineOf (says a)) (now (out .entry)) ⌝ }
+fn answer_line(a: Answer, out: &mut [u8]) -> Told
+    ensures { λ r. ⌜ saidTold r ≡ putOf (answerLine (says a)) (now (out .entry)) ⌝ }
+    ensures { λ _. ⌜ now (out .exit) ≡ heldAfter (answerLine (says a)) (now (out .entry)) ⌝ }
 {
     let w = reply::put_reply(a, out);
     line_told(w)
@@ -101,7 +101,7 @@ fn count_of(w: Which) -> u32
 
 // R66: steps a table so many times, or to the first refusal.
 fn run_table(start: Table, ticks: u32) -> Told
-    ensures { λ r. ⌜ saidTold r ≡ ranIn ticks start ⌝ }
+    ensures { λ r. ⌜ saidTold r ≡ ticksRun ticks start ⌝ }
 {
     let mut t = start;
     let mut ran: u32 = 0;
@@ -142,7 +142,7 @@ pub extern "C" fn trimthuel_answer(card: &[u8], out: &mut [u8]) -> i64
     ensures { λ _. ⌜ now (out .exit) ≡ heldAfter (lineFor (now (card .entry))) (now (out .entry)) ⌝ }
 {
     let a = answer(card);
-    number(put_line(a, out))
+    number(answer_line(a, out))
 }
 
 // R65: the card is read and written anew: its length, or minus the refusal's number, and then every byte of the lent buffer stays.

@@ -1,7 +1,6 @@
 -- The limits of a line's demand, an example on each side.
-use Prim.Native.Nat.{ℕ, zero, suc}
 use mathlib.Core.Path.{_≡_, refl}
-use mathlib.Core.List.{List, [], _∷_, map}
+use mathlib.Core.List.{[], _∷_, map}
 use Rattle.line.specs.Demand.{due}
 
 -- R10, R11: nothing before the end, what remains at the end itself, the need once more a whole period later

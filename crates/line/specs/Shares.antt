@@ -28,10 +28,10 @@ share F (Running r) = r .need * (F / r .period)
 share F (Waiting w) = 0
 
 -- R16, R29: c + C × a / T', times F
-abbrev pub owed : ℕ → Held → ℕ
-owed F Nothing = 0
-owed F (Running r) = F * r .remaining + r .need * (F / r .period) * r .age
-owed F (Waiting w) = 0
+abbrev pub claim : ℕ → Held → ℕ
+claim F Nothing = 0
+claim F (Running r) = F * r .remaining + r .need * (F / r .period) * r .age
+claim F (Waiting w) = 0
 
 -- R16, R29: C, times F
 abbrev pub full : ℕ → Held → ℕ

@@ -38,11 +38,13 @@ frame-is ps = record {
 pub frame-unique : (ps : List ℕ) (F G : ℕ) → IsFrame ps F → IsFrame ps G → F ≡ G
 frame-unique ps F G p q = dvd-antisymm (p .least G (q .common)) (q .least F (p .common))
 
+-- from 1 up, with periods from 1 up, it is from 1 up
 pub frame-pos-from : (m : ℕ) (ps : List ℕ) → 1 ≤ m → All (λ p. 1 ≤ p) ps → 1 ≤ frameFrom m ps
 unfolding frameFrom
 frame-pos-from m [] h a = h
 frame-pos-from m (p ∷ ps) h a = frame-pos-from (lcmOf m p) ps (lcm-pos m p h (a .0)) (a .1)
 
+-- R8: with periods from 1 up the frame is from 1 up
 pub frame-pos : (ps : List ℕ) → All (λ p. 1 ≤ p) ps → 1 ≤ frameOf ps
 frame-pos ps a = frame-pos-from 1 ps (omega arith) a
 
@@ -74,6 +76,7 @@ pub frame-end : (m : ℕ) (ps : List ℕ) (i : ℕ) → i ≡ length ps → fram
 unfolding frameFrom
 frame-end m ps i h = rw (h, drop-length)
 
+-- R27: up to the limit nothing is capped
 pub capped-in : (m : ℕ) → m ≤ 1000000 → capped m ≡ m
 capped-in m h = omega arith
 
@@ -114,6 +117,7 @@ pub record Framing (ps : List ℕ) (i m : ℕ) : Type 0 where
   pub bound : m ≤ 1000001
   pub left : capped (frameFrom m (drop i ps)) ≡ capped (frameOf ps)
 
+-- no period is taken in yet
 pub framing-start : (ps : List ℕ) → Framing ps 0 1
 framing-start ps = record { within = omega arith; pos = omega arith; bound = omega arith; left = refl }
 
@@ -144,6 +148,7 @@ framing-stop ps i m f h z =
     ∙ frame-zero (drop (i + 1) ps) in
     record { frame = frame-is ps; value = omega (arith, f .left, e); bound = omega arith }
 
+-- every period is taken in
 pub framing-end : (ps : List ℕ) (i m : ℕ) → Framing ps i m → length ps ≤ i → CappedFrame ps m
 framing-end ps i m f h =
     let e = frame-end m ps i (omega (arith, f .within)) in

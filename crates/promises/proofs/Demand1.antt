@@ -32,7 +32,7 @@ use Rattle.card.specs.Reading.{readOf}
 use Rattle.card.specs.Answers.{handed, saidRead, writeOf, filled}
 use Rattle.card.proofs.Answers.{said-handed, one-reading, one-writing}
 use Rattle.driver.proofs.Keeps.{refused-drive-keeps, drive-determined}
-use Rattle.reply.specs.Line.{lineOf, laid, fits}
+use Rattle.reply.specs.Line.{answerLine, laid, fits}
 use Rattle.reply.proofs.Line.{reply-settled, put-reply-settled}
 use Rattle.house.specs.House.{lineFor, numberOf, saidPut, rewriteFor, rewrittenFor}
 use Rattle.promises.specs.Contracts.{Drives}
@@ -61,8 +61,8 @@ fixed-answer = record {
   lamp = λ n. by-equation _;
   read = one-reading;
   write = one-writing;
-  reply-to = λ a. reply-settled (lineOf (says a));
-  put-reply = λ a. put-reply-settled (lineOf (says a));
+  reply-to = λ a. reply-settled (answerLine (says a));
+  put-reply = λ a. put-reply-settled (answerLine (says a));
   answer-card = λ card l. by-equations _ _;
   rewrite-card = λ card l. by-equations _ _;
   run-card = λ card ticks. by-equation _;
@@ -126,7 +126,7 @@ refusal-keeps = record {
       let f : readOf card ≡ refuses x = sym (said-handed (readOf card)) ∙ ap saidRead (sym h) ∙ e in
       (f, rw h (ap (λ (s : Said Card). handed s .table) f), rw h (ap (λ (s : Said Card). handed s .request) f));
   write = λ t q l a m x h e. h .1 ∙ ap (filled (cardOf t q) l) (sym (h .0) ∙ e);
-  put-reply = λ a l w m h e. h .1 ∙ put-kept (fits (lineOf (says a)) l) (lineOf (says a)) l (sym (h .0) ∙ e);
+  put-reply = λ a l w m h e. h .1 ∙ put-kept (fits (answerLine (says a)) l) (answerLine (says a)) l (sym (h .0) ∙ e);
   answer-card = λ card l n m k h e. h .1 ∙ line-kept (fits (lineFor card) l) (lineFor card) l k (sym (h .0) ∙ e);
   rewrite-card = λ card l n m k h e. h .1 ∙ card-kept (readOf card) l k (sym (h .0) ∙ e);
 }

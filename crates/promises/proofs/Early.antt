@@ -15,7 +15,7 @@ use Rattle.table.specs.declared.Table.{Table}
 use Rattle.table.specs.declared.Request.{Request}
 use Rattle.table.specs.declared.Stepped.{Stepped}
 use Rattle.line.specs.Slots.{at, Each, lowestOf}
-use Rattle.table.specs.Words.{slotOf, refusal, gives, refuses, whichOf}
+use Rattle.table.specs.Words.{refusal, gives, refuses}
 use Rattle.line.specs.Sound.{Sound}
 use Rattle.line.specs.Demand.{demands, newDemand, endOf, lastEnd, Smooth}
 use Rattle.table.specs.Grounds.{entry, asked}

@@ -1,6 +1,6 @@
 -- What an admitted line gets over a run: it waits untouched to its start, and by the end of its first period it has had all its need.
 use mathlib.Core.Path.{_≡_, refl, sym, ap, _∙_, subst}
-use mathlib.Core.Option.{Option, none, some}
+use mathlib.Core.Option.{Option}
 use mathlib.Core.List.{List, [], _∷_, _++_}
 use Prim.Native.Nat.{ℕ, zero, suc, _+_, _-_, _^_, _≤_, _<_}
 use native.Mathlib.Omega.{arith}
@@ -10,7 +10,6 @@ use Rattle.table.specs.declared.Table.{Table}
 use Rattle.table.specs.declared.Request.{Request}
 use Rattle.table.specs.declared.Stepped.{Stepped}
 use Rattle.line.specs.Slots.{at}
-use Rattle.table.specs.Words.{slotOf, whichOf}
 use Rattle.line.specs.Tick.{fresh, Owed, passed}
 use Rattle.table.specs.Admit.{newLine}
 use Rattle.table.specs.Step.{choose, serve, pass, stepOf}

@@ -7,7 +7,7 @@ use Rattle.table.specs.Words.{refuses}
 use Rattle.line.specs.Demand.{due, lastEnd}
 use Rattle.line.specs.Stretch.{stretched}
 use Rattle.line.specs.Shares.{periodsIn}
-use Rattle.table.specs.Ask.{says, loadOf, askOf}
+use Rattle.table.specs.Ask.{says, askIn, askOf}
 use Rattle.line.specs.Ends.{every, endsBefore, endsOf, slack, bound, greatest, anyOf, start}
 use Rattle.table.specs.Step.{saysRan, chosen, advance, stepOf}
 use Rattle.table.specs.Cases.{Case}
@@ -19,7 +19,7 @@ use Rattle.promises.specs.Witnesses.{askMeets, Meets, stepMeets, BrokenC
 
 -- R20, R21 to R30
 pub ask-meets : map (λ (c : Case). says (askOf (c .table) (c .request))) askMeets ≡ map (λ (c : Case). c .answer) askMeets
-unfolding euclid gcdOf lcmOf frameFrom total lowest due lastEnd stretched periodsIn every endsBefore endsOf slack bound greatest anyOf start loadOf askOf askMeets
+unfolding euclid gcdOf lcmOf frameFrom total lowest due lastEnd stretched periodsIn every endsBefore endsOf slack bound greatest anyOf start askIn askOf askMeets
 ask-meets = refl
 
 -- R20, R24, R34, R35

@@ -17,7 +17,7 @@ use Rattle.card.specs.Reading.{readOf}
 use Rattle.card.specs.Answers.{handed, saidWritten, writeOf, bufferOf}
 use Rattle.driver.specs.Driven.{drivenOf}
 use Rattle.reply.specs.declared.Written.{Written}
-use Rattle.reply.specs.Line.{lineOf, lengthOf, lengthFor, heldAfter}
+use Rattle.reply.specs.Line.{answerLine, lengthOf, lengthFor, heldAfter}
 use Rattle.house.specs.House.{lineFor, numberOf, putOf, rewriteOf, rewrittenOf, runOf}
 
 -- R48: step, and driven, which steps a table of its own
@@ -38,7 +38,7 @@ Writes t q l a m = (saidWritten a ≡ writeOf t q (length l)) × (m ≡ bufferOf
 
 -- R62: put_reply answers w and leaves the bytes m in the buffer
 abbrev pub Puts : Answer → (buffer : List ℕ) → Written → List ℕ → Type 0
-Puts a l w m = (lengthOf w ≡ lengthFor (lineOf (says a)) l) × (m ≡ heldAfter (lineOf (says a)) l)
+Puts a l w m = (lengthOf w ≡ lengthFor (answerLine (says a)) l) × (m ≡ heldAfter (answerLine (says a)) l)
 
 -- R64: trimthuel_answer answers n and leaves the bytes m in the buffer
 abbrev pub AnswersCard : (card buffer : List ℕ) → ℤ → List ℕ → Type 0

@@ -22,7 +22,7 @@ use Rattle.card.specs.declared.WriteAnswer.{WriteAnswer}
 use Rattle.card.specs.Reading.{readOf}
 use Rattle.card.specs.Answers.{saidRead, saidWritten, zeroRequest}
 use Rattle.reply.specs.declared.Written.{Written}
-use Rattle.reply.specs.Line.{lineOf, lengthOf, Replied}
+use Rattle.reply.specs.Line.{answerLine, lengthOf, Replied}
 use Rattle.promises.specs.Contracts.{Steps, Drives, Reads, Writes, Puts, AnswersCard, Rewrites, RunsCard}
 
 -- ---- one fixed answer
@@ -47,7 +47,7 @@ pub record FixedAnswer : Type 0 where
   pub lamp : (n : ℕ) → One (λ (b : ℕ). b ≡ blinks n)
   pub read : (card : List ℕ) → One (Reads card)
   pub write : (t : Table) (q : Request) (l : List ℕ) → Both (Writes t q l)
-  pub reply-to : (a : Answer) → One (Replied (lineOf (says a)))
+  pub reply-to : (a : Answer) → One (Replied (answerLine (says a)))
   pub put-reply : (a : Answer) (l : List ℕ) → Both (Puts a l)
   pub answer-card : (card l : List ℕ) → Both (AnswersCard card l)
   pub rewrite-card : (card l : List ℕ) → Both (Rewrites card l)

@@ -8,7 +8,7 @@ ghost use Rattle.line.specs.Slots.{empty};
 ghost use Rattle.table.specs.Words.{refusal, refuses};
 ghost use Rattle.card.specs.Bytes.{value, markOf, marked};
 ghost use Rattle.card.specs.Card.{carrying};
-ghost use Rattle.card.specs.Reading.{lineOf, lastOf, recordOf, recordsOf, closing, readOf};
+ghost use Rattle.card.specs.Reading.{lineRecordOf, lastOf, slotRecordOf, recordOf, recordsOf, closing, readOf};
 ghost use Rattle.card.specs.Answers.{handed};
 use card::CardAnswer;
 use card::ReadCard;
@@ -63,7 +63,7 @@ fn opens(s: &[u8], mark: &[u8; 2]) -> bool
 
 // R53, R57: TB, and what follows it.
 fn line(s: &[u8]) -> Record
-    ensures { λ r. ⌜ r ≡ lineOf (now (s .entry)) ⌝ }
+    ensures { λ r. ⌜ r ≡ lineRecordOf (now (s .entry)) ⌝ }
 {
     if s.len() < 12 {
         return Record::Refused(11);
@@ -89,16 +89,10 @@ fn last(s: &[u8]) -> Record
     Record::Last(get16(s, 2), get16(s, 4))
 }
 
-// R32, R57, R58: the record at the front of `s`, where `left` slots have none yet.
-fn front(s: &[u8], left: usize) -> Record
-    ensures { λ r. ⌜ r ≡ recordOf left (now (s .entry)) ⌝ }
+// R32, R57, R58: a slot's record at the front of `s`.
+fn slot_record(s: &[u8]) -> Record
+    ensures { λ r. ⌜ r ≡ slotRecordOf (now (s .entry)) ⌝ }
 {
-    if opens(s, b"RQ") {
-        return last(s);
-    }
-    if left == 0 {
-        return Record::Refused(11);
-    }
     if opens(s, b"TB") {
         return line(s);
     }
@@ -109,6 +103,19 @@ fn front(s: &[u8], left: usize) -> Record
         return Record::Refused(12);
     }
     Record::Refused(11)
+}
+
+// R57: the record at the front of `s`, where `left` slots have none yet.
+fn front(s: &[u8], left: usize) -> Record
+    ensures { λ r. ⌜ r ≡ recordOf left (now (s .entry)) ⌝ }
+{
+    if opens(s, b"RQ") {
+        return last(s);
+    }
+    if left == 0 {
+        return Record::Refused(11);
+    }
+    slot_record(s)
 }
 
 fn free() -> Slot

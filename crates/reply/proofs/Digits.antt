@@ -11,8 +11,9 @@ use lib.Dec.{ltb}
 use lib.ListN.{length, getD, length-append, List·getD-append}
 use Rattle.reply.specs.Line.{glyph, inDecimal, digitsIn, digits, valueFrom, valueOf, AllDigits}
 
-pub split : {G : Type 0} (n : ℕ) → (n < 10 → G) → (10 ≤ n → G) → G
-split n a b = elim (decLt n 10) [ yes p ↦ a p | no q ↦ b (omega arith) ]
+-- a number is one digit, or more
+pub below-ten-or-not : {G : Type 0} (n : ℕ) → (n < 10 → G) → (10 ≤ n → G) → G
+below-ten-or-not n a b = elim (decLt n 10) [ yes p ↦ a p | no q ↦ b (omega arith) ]
 
 in-below : (s n : ℕ) → n < 10 → digitsIn s n ≡ glyph n ∷ []
 unfolding digitsIn
@@ -24,34 +25,37 @@ unfolding digitsIn
 in-more s n h = simp (le-ltb n 10 h)
 
 -- any number of steps that is enough gives the same digits
-enough : (s t n : ℕ) → n ≤ s → n ≤ t → digitsIn s n ≡ digitsIn t n
-enough zero t n a b = in-below zero n (omega arith) ∙ sym (in-below t n (omega arith))
-enough (suc s) zero n a b = in-below (suc s) n (omega arith) ∙ sym (in-below zero n (omega arith))
-enough (suc s) (suc t) n a b =
-    split n
+enough-steps-same-digits : (s t n : ℕ) → n ≤ s → n ≤ t → digitsIn s n ≡ digitsIn t n
+enough-steps-same-digits zero t n a b = in-below zero n (omega arith) ∙ sym (in-below t n (omega arith))
+enough-steps-same-digits (suc s) zero n a b = in-below (suc s) n (omega arith) ∙ sym (in-below zero n (omega arith))
+enough-steps-same-digits (suc s) (suc t) n a b =
+    below-ten-or-not n
     (λ h. in-below (suc s) n h ∙ sym (in-below (suc t) n h))
-    (λ h. in-more s n h ∙ ap (λ (l : List ℕ). l ++ (glyph (n % 10) ∷ [])) (enough s t (n / 10) (omega arith) (omega arith)) ∙ sym (in-more t n h))
+    (λ h. in-more s n h ∙ ap (λ (l : List ℕ). l ++ (glyph (n % 10) ∷ [])) (enough-steps-same-digits s t (n / 10) (omega arith) (omega arith)) ∙ sym (in-more t n h))
 
+-- R61: below 10 it is its one digit
 pub digits-below : (n : ℕ) → n < 10 → digits n ≡ glyph n ∷ []
 unfolding digits
 digits-below n h = in-below n n h
 
+-- R61: from 10 on they are those of n / 10, and then the last
 pub digits-more : (n : ℕ) → 10 ≤ n → digits n ≡ digits (n / 10) ++ (glyph (n % 10) ∷ [])
 unfolding digits
 digits-more n h =
-    enough n (suc n) n (omega arith) (omega arith)
+    enough-steps-same-digits n (suc n) n (omega arith) (omega arith)
     ∙ in-more n n h
-    ∙ ap (λ (l : List ℕ). l ++ (glyph (n % 10) ∷ [])) (enough n (n / 10) (n / 10) (omega arith) (omega arith))
+    ∙ ap (λ (l : List ℕ). l ++ (glyph (n % 10) ∷ [])) (enough-steps-same-digits n (n / 10) (n / 10) (omega arith) (omega arith))
 
 -- R61: decimal for every number, the steps of the definition gone
 pub digits-equation : (n : ℕ) → digits n ≡ inDecimal (ltb n 10) n digits
-digits-equation n = split n (λ h. rw (lt-ltb n 10 h) (digits-below n h)) (λ h. rw (le-ltb n 10 h) (digits-more n h))
+digits-equation n = below-ten-or-not n (λ h. rw (lt-ltb n 10 h) (digits-below n h)) (λ h. rw (le-ltb n 10 h) (digits-more n h))
 
 module _ (P : ℕ → Type 0) (below : (n : ℕ) → n < 10 → P n) (more : (n : ℕ) → 10 ≤ n → P (n / 10) → P n) where
   by-steps : (s n : ℕ) → n ≤ s → P n
   by-steps zero n h = below n (omega arith)
-  by-steps (suc s) n h = split n (below n) (λ g. more n g (by-steps s (n / 10) (omega arith)))
+  by-steps (suc s) n h = below-ten-or-not n (below n) (λ g. more n g (by-steps s (n / 10) (omega arith)))
 
+  -- what holds below 10, and of n where it holds of n / 10, holds of every number
   pub by-digits : (n : ℕ) → P n
   by-digits n = by-steps n n (omega arith)
 
@@ -75,25 +79,27 @@ digits-read-back =
 pub digits-one : (m n : ℕ) → digits m ≡ digits n → m ≡ n
 digits-one m n e = sym (digits-read-back m) ∙ ap valueOf e ∙ digits-read-back n
 
-all-append : (xs ys : List ℕ) → AllDigits xs → AllDigits ys → AllDigits (xs ++ ys)
+all-digits-append : (xs ys : List ℕ) → AllDigits xs → AllDigits ys → AllDigits (xs ++ ys)
 unfolding AllDigits
-all-append [] ys a b = b
-all-append (x ∷ xs) ys a b = (a .0, a .1, all-append xs ys (a .2) b)
+all-digits-append [] ys a b = b
+all-digits-append (x ∷ xs) ys a b = (a .0, a .1, all-digits-append xs ys (a .2) b)
 
-all-one : (d : ℕ) → d < 10 → AllDigits (glyph d ∷ [])
+glyph-is-digit : (d : ℕ) → d < 10 → AllDigits (glyph d ∷ [])
 unfolding AllDigits
-all-one d h = (omega arith, omega arith, tt)
+glyph-is-digit d h = (omega arith, omega arith, tt)
 
 -- R61: every byte is a digit
 pub digits-are-digits : (n : ℕ) → AllDigits (digits n)
 digits-are-digits =
     by-digits (λ n. AllDigits (digits n))
-    (λ n h. rw (digits-below n h) (all-one n h))
-    (λ n h a. rw (digits-more n h) (all-append (digits (n / 10)) _ a (all-one (n % 10) (omega arith))))
+    (λ n h. rw (digits-below n h) (glyph-is-digit n h))
+    (λ n h a. rw (digits-more n h) (all-digits-append (digits (n / 10)) _ a (glyph-is-digit (n % 10) (omega arith))))
 
+-- from 10 on there is one digit more than in n / 10
 pub length-more : (n : ℕ) → 10 ≤ n → length (digits n) ≡ length (digits (n / 10)) + 1
 length-more n h = rw (digits-more n h, length-append)
 
+-- below 10 there is one digit
 pub length-below : (n : ℕ) → n < 10 → length (digits n) ≡ 1
 length-below n h = rw (digits-below n h)
 
@@ -126,6 +132,6 @@ pub digits-short : (k n : ℕ) → n < 10 ^ suc k → length (digits n) ≤ suc 
 digits-short zero n h = omega (arith, length-below n (omega arith))
 digits-short (suc k) n h =
     let g : n < 10 ^ suc k * 10 = rw (pow-suc 10 (suc k)) at h in
-    split n
+    below-ten-or-not n
     (λ b. omega (arith, length-below n b))
     (λ m. omega (arith, length-more n m, digits-short k (n / 10) (omega arith)))

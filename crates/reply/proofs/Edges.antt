@@ -11,7 +11,7 @@ use Rattle.table.specs.declared.Answer.the-variants.{Start, Refused}
 use Rattle.table.specs.Words.{gives, refuses}
 use Rattle.table.specs.Ask.{says}
 use Rattle.reply.specs.declared.Written.the-variants.{Length, Short}
-use Rattle.reply.specs.Line.{digitsIn, digits, valueFrom, valueOf, AllDigits, lineOf, Wide, Replied, lengthOf, lengthFor, heldAfter}
+use Rattle.reply.specs.Line.{digitsIn, digits, valueFrom, valueOf, AllDigits, answerLine, Wide, Replied, lengthOf, lengthFor, heldAfter}
 
 -- a number and its digits
 pub record DigitEdge : Type 0 where
@@ -90,8 +90,8 @@ unfoldable pub lineEdges : List LineEdge
 lineEdges = released 0 zeroLine ∷ released 13 startLine ∷ refusedBy 12 345 oldLine ∷ refusedBy 9 0 sumLine ∷ refusedBy 4 15 slotLine ∷ []
 
 -- R61: the line of each answer
-pub line-edges : map (λ (e : LineEdge). lineOf (says (e .answer))) lineEdges ≡ map (λ (e : LineEdge). e .bytes) lineEdges
-unfolding digitsIn digits lineOf lineEdges
+pub line-edges : map (λ (e : LineEdge). answerLine (says (e .answer))) lineEdges ≡ map (λ (e : LineEdge). e .bytes) lineEdges
+unfolding digitsIn digits answerLine lineEdges
 line-edges = refl
 
 -- R61: the greatest numbers that an answer has are among those whose line is at most 40 bytes long
@@ -134,7 +134,7 @@ putEdges =
 
 -- what the definitions say of the input
 abbrev pub putting : PutEdge → Option ℕ × List ℕ
-putting e = (lengthFor (lineOf (says (e .answer))) (e .buffer), heldAfter (lineOf (says (e .answer))) (e .buffer))
+putting e = (lengthFor (answerLine (says (e .answer))) (e .buffer), heldAfter (answerLine (says (e .answer))) (e .buffer))
 
 -- what the row says
 abbrev pub expected : PutEdge → Option ℕ × List ℕ
@@ -142,7 +142,7 @@ expected e = (e .length, e .holds)
 
 -- R33, R62: what is answered to each, and what the buffer holds
 pub put-edges : map putting putEdges ≡ map expected putEdges
-unfolding digitsIn digits lineOf putEdges
+unfolding digitsIn digits answerLine putEdges
 put-edges = refl
 
 -- R62: the code's answers say their own numbers

@@ -10,7 +10,7 @@ use borrow.Author.Tests.{lt-leb, le-leb}
 use lib.ListN.{length, getD, take, drop, set, length-append, length-set, length-drop, drop-of-length-le, length-replicate, replicate-append-replicate}
 use lib.Seq.{take-all, take-length, drop-drop, drop-at, take-at}
 use Rattle.reply.specs.Line.{glyph, digits, laid, laidFrom, zeros, Replied, lengthFor, heldAfter}
-use Rattle.reply.proofs.Digits.{split, digits-below, digits-more, digits-some, digits-short, length-below, length-more}
+use Rattle.reply.proofs.Digits.{below-ten-or-not, digits-below, digits-more, digits-some, digits-short, length-below, length-more}
 
 -- what a callee leaves of the whole where it lays bs at the front of the part from a on
 pub lay-part : {ys : List ℕ} (l bs : List ℕ) (a : ℕ) → ys ≡ laid bs (take (length l - a) (drop a l))
@@ -24,6 +24,7 @@ lay-part {ys} l bs a e =
 pub too-short : (line buffer : List ℕ) → length buffer < length line → (none ≡ lengthFor line buffer) × (buffer ≡ heldAfter line buffer)
 too-short line buffer h = (simp (lt-leb _ _ h), simp (lt-leb _ _ h))
 
+-- R62: the line fits: its length is answered, and it is laid at the start
 pub fitting : (line buffer : List ℕ) → length line ≤ length buffer → (some (length line) ≡ lengthFor line buffer) × (laid line buffer ≡ heldAfter line buffer)
 fitting line buffer h = (simp (le-leb _ _ h), simp (le-leb _ _ h))
 
@@ -47,9 +48,11 @@ pub record Laid (l₀ p l : List ℕ) (a : ℕ) : Type 0 where
   pub ends : a ≡ length p
   pub same : l ≡ laid p l₀
 
+-- nothing is laid yet
 pub lay-start : (l : List ℕ) → Laid l [] l 0
 lay-start l = record { ends = refl; same = refl }
 
+-- R61: a piece more behind what was laid
 pub lay-on : {l₀ p l m : List ℕ} {a b : ℕ} (bs : List ℕ) → Laid l₀ p l a → (b ≡ a + length bs) × (m ≡ laidFrom a bs l) → Laid l₀ (p ++ bs) m b
 lay-on {l₀} {p} {l} {m} {a} {b} bs v e =
     let d : drop a l ≡ drop a l₀ =
@@ -71,10 +74,12 @@ pub record Copying (s out₀ out : List ℕ) (i : ℕ) : Type 0 where
   pub upto : i ≤ length s
   pub same : out ≡ take i s ++ drop i out₀
 
+-- no byte is copied yet
 pub copy-start : (s out : List ℕ) → length s ≤ length out → Copying s out out 0
 copy-start s out h = record { long = refl; room = h; upto = omega arith; same = refl }
 
 module _ {s out₀ out : List ℕ} {i : ℕ} (v : Copying s out₀ out i) where
+  -- a byte more
   pub copy-on : i < length s → Copying s out₀ (set out i (getD s i 0)) (i + 1)
   copy-on h =
       record {
@@ -84,6 +89,7 @@ module _ {s out₀ out : List ℕ} {i : ℕ} (v : Copying s out₀ out i) where
         same = rw (v .same, copy-one s out₀ i h (v .room), add-one);
       }
 
+  -- every byte of s is copied
   pub copy-end : length s ≤ i → out ≡ laid s out₀
   copy-end h = let e : i ≡ length s = omega arith in v .same ∙ rw (e, take-length s)
 
@@ -92,16 +98,20 @@ pub record Counting (n count rest : ℕ) : Type 0 where
   pub few : length (digits n) ≤ 20
   pub same : count + length (digits rest) ≡ length (digits n) + 1
 
+-- the first digit is counted
 pub count-start : (n : ℕ) → n < 2 ^ 64 → Counting n 1 n
 count-start n h = record { few = digits-short 19 n (omega arith); same = omega arith }
 
 module _ {n count rest : ℕ} (v : Counting n count rest) where
+  -- R61: a number of 64 bits has at most 20 digits
   pub count-small : count ≤ 20
   count-small = omega (arith, digits-some rest)
 
+  -- a digit more
   pub count-on : 10 ≤ rest → Counting n (count + 1) (rest / 10)
   count-on h = record { few = v .few; same = omega (arith, length-more rest h) }
 
+  -- every digit is counted
   pub count-end : rest < 10 → count ≡ length (digits n)
   count-end h = omega (arith, length-below rest h)
 
@@ -119,6 +129,7 @@ pub record Spelling (n : ℕ) (out₀ out : List ℕ) (left rest : ℕ) : Type 0
   pub count : left ≡ length (digits rest)
   pub same : laid (digits rest) out ≡ laid (digits n) out₀
 
+-- no digit is laid yet
 pub spell-start : (n : ℕ) (out : List ℕ) {left : ℕ} → left ≡ length (digits n) → length (digits n) ≤ length out → Spelling n out out left n
 spell-start n out e h =
     let s = digits-some n in
@@ -134,11 +145,13 @@ module _ {n : ℕ} {out₀ out : List ℕ} {left rest : ℕ} (v : Spelling n out
       w ∙ v .same
 
   spell-more : 1 < left → 10 ≤ rest
-  spell-more h = split rest (λ b. absurd (omega (arith, length-below rest b))) (λ m. m)
+  spell-more h = below-ten-or-not rest (λ b. absurd (omega (arith, length-below rest b))) (λ m. m)
 
+  -- where one place is left, one digit is
   pub spell-last : left ≤ 1 → rest < 10
-  spell-last h = split rest (λ b. b) (λ m. absurd (omega (arith, length-more rest m, digits-some (rest / 10))))
+  spell-last h = below-ten-or-not rest (λ b. b) (λ m. absurd (omega (arith, length-more rest m, digits-some (rest / 10))))
 
+  -- a digit more, in front of those that were laid
   pub spell-on : {d : ℕ} → 1 < left → d ≡ glyph (rest % 10) → Spelling n out₀ (set out (left - 1) d) (left - 1) (rest / 10)
   spell-on {d} h e =
       let m = length-more rest (spell-more h) in
@@ -153,6 +166,7 @@ module _ {n : ℕ} {out₀ out : List ℕ} {left rest : ℕ} (v : Spelling n out
         same = rw a (last-digit d (left - 1) (digits (rest / 10)) (omega arith) f);
       }
 
+  -- the first digit makes them whole
   pub spell-end : {d : ℕ} → left ≤ 1 → d ≡ glyph rest → set out (left - 1) d ≡ laid (digits n) out₀
   spell-end {d} h e =
       let z : left - 1 ≡ 0 = omega arith in

@@ -12,22 +12,22 @@ use Rattle.table.specs.Ask.{says}
 use Rattle.reply.specs.declared.Reply.{Reply}
 use Rattle.reply.specs.declared.Written.{Written}
 use Rattle.reply.specs.declared.Written.the-variants.{Length, Short}
-use Rattle.reply.specs.Line.{lengthOf, lengthFor, heldAfter, digitsIn, digits, AllDigits, lineOf, Wide, Replied, newline, space}
+use Rattle.reply.specs.Line.{lengthOf, lengthFor, heldAfter, digitsIn, digits, AllDigits, answerLine, Wide, Replied, newline, space}
 use Rattle.reply.proofs.Digits.{digits-one, digits-are-digits, digits-short}
 
 -- R61: case A's line
-pub line-of-case-A : lineOf (says (Start 13)) ≡ 114 ∷ 101 ∷ 108 ∷ 101 ∷ 97 ∷ 115 ∷ 101 ∷ 32 ∷ 49 ∷ 51 ∷ 10 ∷ []
-unfolding digitsIn digits lineOf
+pub line-of-case-A : answerLine (says (Start 13)) ≡ 114 ∷ 101 ∷ 108 ∷ 101 ∷ 97 ∷ 115 ∷ 101 ∷ 32 ∷ 49 ∷ 51 ∷ 10 ∷ []
+unfolding digitsIn digits answerLine
 line-of-case-A = refl
 
 -- R61: refusal 9 at place 0 is `refused 9 0` and a newline
-pub line-of-refusal-9 : lineOf (says (Refused (refusal 9 0))) ≡ 114 ∷ 101 ∷ 102 ∷ 117 ∷ 115 ∷ 101 ∷ 100 ∷ 32 ∷ 57 ∷ 32 ∷ 48 ∷ 10 ∷ []
-unfolding digitsIn digits lineOf
+pub line-of-refusal-9 : answerLine (says (Refused (refusal 9 0))) ≡ 114 ∷ 101 ∷ 102 ∷ 117 ∷ 115 ∷ 101 ∷ 100 ∷ 32 ∷ 57 ∷ 32 ∷ 48 ∷ 10 ∷ []
+unfolding digitsIn digits answerLine
 line-of-refusal-9 = refl
 
 -- R61: the line of the greatest number and the greatest place has 35 bytes
-pub line-of-the-longest : length (lineOf (says (Refused (refusal 65535 18446744073709551615)))) ≡ 35
-unfolding digitsIn digits lineOf
+pub line-of-the-longest : length (answerLine (says (Refused (refusal 65535 18446744073709551615)))) ≡ 35
+unfolding digitsIn digits answerLine
 line-of-the-longest = refl
 
 -- two runs of digits, each before a byte that is none, are the same where the whole is
@@ -48,16 +48,16 @@ numbers m n t u a b ha hb e =
     let r = runs (digits m) (digits n) t u a b (digits-are-digits m) (digits-are-digits n) ha hb e in
     (digits-one m n (r .0), r .1)
 
-gives-one : (r s : ℕ) → lineOf (gives r) ≡ lineOf (gives s) → r ≡ s
-unfolding lineOf
+gives-one : (r s : ℕ) → answerLine (gives r) ≡ answerLine (gives s) → r ≡ s
+unfolding answerLine
 gives-one r s e = numbers r s [] [] 10 10 (omega arith) (omega arith) (ap (drop 8) e) .0
 
-differ : (r : ℕ) (m p : ℕ) → lineOf (gives r) ≡ lineOf (refuses (refusal m p)) → ⊥
-unfolding lineOf
+differ : (r : ℕ) (m p : ℕ) → answerLine (gives r) ≡ answerLine (refuses (refusal m p)) → ⊥
+unfolding answerLine
 differ r m p e = let z : _≡_ {A = ℕ} 108 102 = ap (λ (l : List ℕ). getD l 2 0) e in omega arith
 
-refuses-one : (m p n q : ℕ) → lineOf (refuses (refusal m p)) ≡ lineOf (refuses (refusal n q)) → (m ≡ n) × (p ≡ q)
-unfolding lineOf
+refuses-one : (m p n q : ℕ) → answerLine (refuses (refusal m p)) ≡ answerLine (refuses (refusal n q)) → (m ≡ n) × (p ≡ q)
+unfolding answerLine
 refuses-one m p n q e =
     let d : digits m ++ space ++ digits p ++ newline ≡ digits n ++ space ++ digits q ++ newline = ap (drop 8) e in
     let w : digits m ++ (32 ∷ (digits p ++ newline)) ≡ digits n ++ (32 ∷ (digits q ++ newline)) = simp append-assoc at d in
@@ -65,7 +65,7 @@ refuses-one m p n q e =
     (f .0, numbers p q [] [] 10 10 (omega arith) (omega arith) (f .1) .0)
 
 -- R61: two different answers have different lines
-pub line-unique : (s t : Said ℕ) → lineOf s ≡ lineOf t → s ≡ t
+pub line-unique : (s t : Said ℕ) → answerLine s ≡ answerLine t → s ≡ t
 line-unique (gives r) (gives s) e = ap gives (gives-one r s e)
 line-unique (gives r) (refuses x) e = absurd (differ r (x .number) (x .place) e)
 line-unique (refuses x) (gives r) e = absurd (differ r (x .number) (x .place) (sym e))
@@ -74,30 +74,33 @@ line-unique (refuses x) (refuses y) e =
     rw (h .0, h .1)
 
 -- R61: the same of the code's answers
-pub answer-unique : (a b : Answer) → lineOf (says a) ≡ lineOf (says b) → a ≡ b
+pub answer-unique : (a b : Answer) → answerLine (says a) ≡ answerLine (says b) → a ≡ b
 answer-unique (Start r) (Start s) e = let h : gives r ≡ gives s = line-unique _ _ e in cc
 answer-unique (Start r) (Refused x) e = let h : gives r ≡ refuses x = line-unique _ _ e in cc
 answer-unique (Refused x) (Start r) e = let h : refuses x ≡ gives r = line-unique _ _ e in cc
 answer-unique (Refused x) (Refused y) e = let h : _≡_ {A = Said ℕ} (refuses x) (refuses y) = line-unique _ _ e in cc
 
-pub gives-length : (r : ℕ) → length (lineOf (gives r)) ≡ 9 + length (digits r)
-unfolding lineOf
+-- R61: how long a start's line is
+pub gives-length : (r : ℕ) → length (answerLine (gives r)) ≡ 9 + length (digits r)
+unfolding answerLine
 gives-length r = simp length-append (omega arith)
 
-pub refuses-length : (m p : ℕ) → length (lineOf (refuses (refusal m p))) ≡ 10 + length (digits m) + length (digits p)
-unfolding lineOf
+-- R61: how long a refusal's line is
+pub refuses-length : (m p : ℕ) → length (answerLine (refuses (refusal m p))) ≡ 10 + length (digits m) + length (digits p)
+unfolding answerLine
 refuses-length m p = simp length-append (omega arith)
 
 -- the length of a line by the numbers of digits in it
-pub start-length : {a : Answer} (r k : ℕ) → a ≡ Start r → k ≡ length (digits r) → 9 + k ≡ length (lineOf (says a))
+pub start-length : {a : Answer} (r k : ℕ) → a ≡ Start r → k ≡ length (digits r) → 9 + k ≡ length (answerLine (says a))
 start-length r k e h = rw e (omega (arith, gives-length r))
 
-pub refused-length : {a : Answer} (x : Refusal) (m k : ℕ) → a ≡ Refused x → m ≡ length (digits (x .number)) → k ≡ length (digits (x .place))
-    → 10 + m + k ≡ length (lineOf (says a))
-refused-length x m k e g h = rw e (omega (arith, refuses-length (x .number) (x .place)))
+-- the same of the code's refusal, its digits counted
+pub refused-length : {a : Answer} (x : Refusal) (n m k : ℕ) → a ≡ Refused x → n ≡ x .number → m ≡ length (digits n) → k ≡ length (digits (x .place))
+    → 10 + m + k ≡ length (answerLine (says a))
+refused-length x n m k e f g h = rw e (omega (arith, refuses-length (x .number) (x .place), ap (λ (j : ℕ). length (digits j)) f))
 
 -- R61: 40 bytes are enough: a number of 64 bits has at most 20 digits, and one of 16 at most 5
-pub line-length : (s : Said ℕ) → Wide s → length (lineOf s) ≤ 40
+pub line-length : (s : Said ℕ) → Wide s → length (answerLine s) ≤ 40
 line-length (gives r) h = omega (arith, gives-length r, digits-short 19 r (omega arith))
 line-length (refuses x) h =
     omega (arith, refuses-length (x .number) (x .place), digits-short 4 (x .number) (omega arith), digits-short 19 (x .place) (omega arith))

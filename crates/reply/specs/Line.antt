@@ -61,15 +61,16 @@ abbrev pub newline : List ℕ
 newline = 10 ∷ []
 
 -- R61: the whole line, newline included
-unfoldable pub lineOf : Said ℕ → List ℕ
-lineOf (gives r) = release ++ digits r ++ newline
-lineOf (refuses x) = refused ++ digits (x .number) ++ space ++ digits (x .place) ++ newline
+unfoldable pub answerLine : Said ℕ → List ℕ
+answerLine (gives r) = release ++ digits r ++ newline
+answerLine (refuses x) = refused ++ digits (x .number) ++ space ++ digits (x .place) ++ newline
 
 -- R17, R61: the numbers are of the widths that an answer has: a start and a place of 64 bits, a refusal's number of 16
 abbrev pub Wide : Said ℕ → Type 0
 Wide (gives r) = r < 2 ^ 64
 Wide (refuses x) = (x .number < 2 ^ 16) × (x .place < 2 ^ 64)
 
+-- bytes that are 0
 abbrev pub zeros : ℕ → List ℕ
 zeros n = replicate n 0
 

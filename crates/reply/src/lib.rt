@@ -4,7 +4,7 @@ ghost use Prim.Native.Nat.{_+_, _≤_, _<_};
 ghost use lib.ListN.{length};
 ghost use Rattle.table.specs.Words.{gives, refuses};
 ghost use Rattle.table.specs.Ask.{says};
-ghost use Rattle.reply.specs.Line.{digits, lineOf, laid, laidFrom, Replied, lengthOf, lengthFor, heldAfter};
+ghost use Rattle.reply.specs.Line.{digits, answerLine, laid, laidFrom, Replied, lengthOf, lengthFor, heldAfter};
 use table::Answer;
 use table::Refusal;
 
@@ -22,7 +22,7 @@ pub enum Written {
 
 // R61: the line for an answer.
 pub fn reply_to(a: Answer) -> Reply
-    ensures { λ r. ⌜ Replied (lineOf (says a)) r ⌝ }
+    ensures { λ r. ⌜ Replied (answerLine (says a)) r ⌝ }
 {
     let len = line_len(a);
     let mut bytes = [0u8; 40];
@@ -32,8 +32,8 @@ pub fn reply_to(a: Answer) -> Reply
 
 // R33, R62: puts the line for an answer at the start of a lent buffer. One that is too short keeps every byte.
 pub fn put_reply(a: Answer, out: &mut [u8]) -> Written
-    ensures { λ r. ⌜ lengthOf r ≡ lengthFor (lineOf (says a)) (now (out .entry)) ⌝ }
-    ensures { λ _. ⌜ now (out .exit) ≡ heldAfter (lineOf (says a)) (now (out .entry)) ⌝ }
+    ensures { λ r. ⌜ lengthOf r ≡ lengthFor (answerLine (says a)) (now (out .entry)) ⌝ }
+    ensures { λ _. ⌜ now (out .exit) ≡ heldAfter (answerLine (says a)) (now (out .entry)) ⌝ }
 {
     let len = line_len(a);
     if out.len() < len {
@@ -45,7 +45,7 @@ pub fn put_reply(a: Answer, out: &mut [u8]) -> Written
 
 // R61: the length of an answer's line.
 fn line_len(a: Answer) -> usize
-    ensures { λ r. ⌜ (r ≡ length (lineOf (says a))) × (r ≤ 40) ⌝ }
+    ensures { λ r. ⌜ (r ≡ length (answerLine (says a))) × (r ≤ 40) ⌝ }
 {
     match a {
         Answer::Start(start) => 9 + places(start),
@@ -55,8 +55,8 @@ fn line_len(a: Answer) -> usize
 
 // R61: puts the line for an answer at the start of out.
 fn put_line(out: &mut [u8], a: Answer)
-    requires { ⌜ length (lineOf (says a)) ≤ length (now out) ⌝ }
-    ensures { λ _. ⌜ now (out .exit) ≡ laid (lineOf (says a)) (now (out .entry)) ⌝ }
+    requires { ⌜ length (answerLine (says a)) ≤ length (now out) ⌝ }
+    ensures { λ _. ⌜ now (out .exit) ≡ laid (answerLine (says a)) (now (out .entry)) ⌝ }
 {
     match a {
         Answer::Start(start) => put_release(out, start),
@@ -66,8 +66,8 @@ fn put_line(out: &mut [u8], a: Answer)
 
 // R61: `release` and the start.
 fn put_release(out: &mut [u8], start: u64)
-    requires { ⌜ length (lineOf (gives start)) ≤ length (now out) ⌝ }
-    ensures { λ _. ⌜ now (out .exit) ≡ laid (lineOf (gives start)) (now (out .entry)) ⌝ }
+    requires { ⌜ length (answerLine (gives start)) ≤ length (now out) ⌝ }
+    ensures { λ _. ⌜ now (out .exit) ≡ laid (answerLine (gives start)) (now (out .entry)) ⌝ }
 {
     let at = add_bytes(out, 0, b"release ");
     let end = add_number(out, at, start);
@@ -76,8 +76,8 @@ fn put_release(out: &mut [u8], start: u64)
 
 // R61: `refused`, the refusal's number and its place.
 fn put_refused(out: &mut [u8], x: Refusal)
-    requires { ⌜ length (lineOf (refuses x)) ≤ length (now out) ⌝ }
-    ensures { λ _. ⌜ now (out .exit) ≡ laid (lineOf (refuses x)) (now (out .entry)) ⌝ }
+    requires { ⌜ length (answerLine (refuses x)) ≤ length (now out) ⌝ }
+    ensures { λ _. ⌜ now (out .exit) ≡ laid (answerLine (refuses x)) (now (out .entry)) ⌝ }
 {
     let number = wide(x.number);
     let place = x.place;

@@ -14,7 +14,7 @@ use Rattle.line.specs.Demand.{due, lastEnd}
 use Rattle.line.specs.Stretch.{stretched}
 use Rattle.table.specs.Grounds.{asked}
 use Rattle.line.specs.Shares.{frame, periodsIn}
-use Rattle.table.specs.Ask.{says, loadOf, askOf}
+use Rattle.table.specs.Ask.{says, askIn, askOf}
 use Rattle.line.specs.Ends.{every, endsBefore, endsOf, slack, bound, greatest, anyOf, start}
 use Rattle.table.specs.Admit.{admitOf}
 use Rattle.table.specs.Cases.{CaseLine, Case, line, running, waiting, tableOf, tableFor, case, caseA, caseC, caseG, caseK, caseL}
@@ -123,7 +123,7 @@ askEdges = clocks ++ (slots ++ (soundness ++ (stretches ++ (newLines ++ (frames 
 
 -- R18, R19, R21 to R30: each ground on both sides of its edge, its place, and its order with the next
 pub ask-edges : map (λ (c : Case). says (askOf (c .table) (c .request))) askEdges ≡ map (λ (c : Case). c .answer) askEdges
-unfolding euclid gcdOf lcmOf frameFrom total lowest due lastEnd stretched periodsIn every endsBefore endsOf slack bound greatest anyOf start loadOf askOf askEdges
+unfolding euclid gcdOf lcmOf frameFrom total lowest due lastEnd stretched periodsIn every endsBefore endsOf slack bound greatest anyOf start askIn askOf askEdges
 ask-edges = refl
 
 abbrev frameIn : Case → ℕ
@@ -167,5 +167,5 @@ admitEdges =
 -- R42, R43: the answer and the whole table
 pub admit-edges : map {B = Said ℕ × Table} (λ (e : AdmitEdge). (says (admitOf (e .asks .table) (e .asks .request) .answer), admitOf (e .asks .table) (e .asks .request) .table)) admitEdges
     ≡ map (λ (e : AdmitEdge). (e .asks .answer, e .leaves)) admitEdges
-unfolding euclid gcdOf lcmOf frameFrom total lowest due lastEnd stretched periodsIn every endsBefore endsOf slack bound greatest anyOf start loadOf askOf admitEdges
+unfolding euclid gcdOf lcmOf frameFrom total lowest due lastEnd stretched periodsIn every endsBefore endsOf slack bound greatest anyOf start askIn askOf admitEdges
 admit-edges = refl

@@ -15,7 +15,7 @@ use Rattle.table.specs.Words.{refusal, Said, gives, refuses}
 use Rattle.line.specs.Sound.{sound}
 use Rattle.line.specs.Demand.{lastEnd}
 use Rattle.table.specs.Grounds.{entry, asked}
-use Rattle.line.specs.Shares.{frame, share, owed, full}
+use Rattle.line.specs.Shares.{frame, share, claim, full}
 use Rattle.line.specs.Ends.{endsOf, anyOf, start, shortAt}
 use Rattle.line.specs.Stretch.{shrunk}
 
@@ -40,11 +40,11 @@ refusedIf true n a = Refused (refusal n 0)
 refusedIf false n a = a
 
 -- R27 to R30 with the frame F over the lines l at their T', or R14: the start
-unfoldable pub loadOf : (t0 F : ℕ) → List Slot → (Cn Tn : ℕ) → Answer
-loadOf t0 F l Cn Tn =
+unfoldable pub askIn : (t0 F : ℕ) → List Slot → (Cn Tn : ℕ) → Answer
+askIn t0 F l Cn Tn =
     refusedIf (ltb 1000000 F) 7
     (refusedIf (ltb F (total (share F) l + Cn * (F / Tn))) 8
-    (refusedIf (ltb (total (full F) l) (total (owed F) l)) 9
+    (refusedIf (ltb (total (full F) l) (total (claim F) l)) 9
     (refusedIf (anyOf (shortAt t0 l) (endsOf t0 (lastEnd t0 l) l)) 10
     (Start (start t0 l Cn Tn)))))
 
@@ -57,4 +57,4 @@ askOf t q =
     (refusedAt (lowestOf (λ h. not (sound h)) (t .slots)) 4
     (refusedAt (lowest (λ i. shrunk (entry q i) (at (t .slots) i)) (length (t .slots))) 5
     (refusedIf (not (both (leb 1 (q .need)) (leb (q .need) (q .period)))) 6
-    (loadOf (t .clock) (frame (asked t q) (q .period)) (asked t q) (q .need) (q .period)))))))
+    (askIn (t .clock) (frame (asked t q) (q .period)) (asked t q) (q .need) (q .period)))))))

@@ -13,7 +13,7 @@ use Rattle.line.specs.Slots.{at, total, Waits, Lowest}
 use Rattle.table.specs.Words.{refusal, Said, gives, refuses}
 use Rattle.line.specs.Sound.{Sound}
 use Rattle.line.specs.Demand.{demands, newDemand, excess, Least}
-use Rattle.line.specs.Shares.{frame, share, owed, full}
+use Rattle.line.specs.Shares.{frame, share, claim, full}
 use Rattle.line.specs.Stretch.{stretched, Shrunk}
 
 -- R6: the T' that the request has for slot i
@@ -64,7 +64,7 @@ Overload t q k =
 abbrev pub Behind : Table → Request → ℕ → Type 0
 Behind t q k =
     let F = frame (asked t q) (q .period) in
-    (total (full F) (asked t q) < total (owed F) (asked t q)) × (k ≡ 0)
+    (total (full F) (asked t q) < total (claim F) (asked t q)) × (k ≡ 0)
 
 -- R30: some tick has an excess without the new line
 abbrev pub Short : Table → Request → ℕ → Type 0

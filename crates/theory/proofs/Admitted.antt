@@ -13,7 +13,7 @@ use Rattle.line.specs.declared.Slot.{Slot}
 use Rattle.line.specs.Slots.{empty, at, Each, total, Waits}
 use Rattle.line.specs.Sound.{Sound}
 use Rattle.line.specs.Demand.{due, demand, newDemand, demands, Smooth}
-use Rattle.line.specs.Shares.{share, owed, full}
+use Rattle.line.specs.Shares.{share, claim, full}
 use Rattle.table.specs.Admit.{newLine, putAt}
 use Rattle.theory.specs.Fine.{wanted, wantedAll, shareHeld, Divides, Fine, Lag}
 use Rattle.theory.proofs.Numbers.{split, due-renew}
@@ -58,7 +58,7 @@ module _ (C P w : ℕ) where
   new-divides d = split w 0 (λ g. rw (le-ltb 0 w g) d) (λ g. rw (lt-ltb 0 w g) d)
 
   -- R29: it is not behind its share
-  pub new-lag : (M : ℕ) → owed M (newLine C P w) ≤ full M (newLine C P w)
+  pub new-lag : (M : ℕ) → claim M (newLine C P w) ≤ full M (newLine C P w)
   new-lag M = split w 0 (λ g. rw (le-ltb 0 w g) (omega arith)) (λ g. rw (lt-ltb 0 w g) (omega arith))
 
 -- R11: with the new line put in, what the pump must give is the running lines' demand and the new line's
@@ -105,10 +105,10 @@ pub lag-admitted : (M : ℕ) (l : List Slot) (j C P w : ℕ) → Lag M l → j <
 lag-admitted M l j C P w g h e =
     omega (
       arith,
-      total-set (owed M) l j (newLine C P w) h,
+      total-set (claim M) l j (newLine C P w) h,
       total-set (full M) l j (newLine C P w) h,
       new-lag C P w M,
-      ap (owed M) e,
+      ap (claim M) e,
       ap (full M) e,
     )
 
@@ -128,4 +128,4 @@ empty-fine k n =
 
 -- R29: in an empty table nobody is behind
 pub empty-lag : (M n : ℕ) → Lag M (replicate n empty)
-empty-lag M n = omega (arith, total-zero (owed M) (replicate n empty) (each-empty (λ h. owed M h ≡ 0) n refl))
+empty-lag M n = omega (arith, total-zero (claim M) (replicate n empty) (each-empty (λ h. claim M h ≡ 0) n refl))

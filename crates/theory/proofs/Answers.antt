@@ -19,8 +19,8 @@ use Rattle.line.specs.Sound.{Sound, sound}
 use Rattle.line.specs.Demand.{lastEnd}
 use Rattle.table.specs.Grounds.{entry, asked, Late, Full, Waiters, Unsound, Shorter, Misfit, Wide, Overload, Behind, Short, Row, row, AnswersBy, Answers}
 use Rattle.line.specs.Stretch.{Shrunk, shrunk}
-use Rattle.line.specs.Shares.{frame, share, owed, full}
-use Rattle.table.specs.Ask.{says, isNone, refusedAt, refusedIf, loadOf, askOf}
+use Rattle.line.specs.Shares.{frame, share, claim, full}
+use Rattle.table.specs.Ask.{says, isNone, refusedAt, refusedIf, askIn, askOf}
 use Rattle.line.specs.Ends.{endsOf, anyOf, shortAt}
 use Rattle.line.proofs.Search.{true-false, lowest-is, lowest-none}
 use Rattle.line.proofs.Sound.{sound-says, unsound-says}
@@ -61,8 +61,8 @@ module _ (t : Table) (q : Request) (sound : Each Sound (asked t q)) (none-waits 
   F = frame (asked t q) (q .period)
 
   from-seven : AnswersBy (row 7 Wide ∷ row 8 Overload ∷ row 9 Behind ∷ row 10 Short ∷ []) t q
-      (says (loadOf (t .clock) F (asked t q) (q .need) (q .period)))
-  unfolding loadOf
+      (says (askIn (t .clock) F (asked t q) (q .need) (q .period)))
+  unfolding askIn
   from-seven =
       row-if (row 7 Wide) _ t q (ltb 1000000 F) _ (λ e. (ltb-true 1000000 F e, refl)) (λ e k h. omega (arith, ltb-false 1000000 F e, h .0))
       (λ e7. row-if (row 8 Overload) _ t q (ltb F all-shares) _ (λ e. (ltb-true F all-shares e, refl)) (λ e k h. omega (arith, ltb-false F all-shares e, h .0))
@@ -80,7 +80,7 @@ module _ (t : Table) (q : Request) (sound : Each Sound (asked t q)) (none-waits 
       need = total (full F) (asked t q)
 
       due : ℕ
-      due = total (owed F) (asked t q)
+      due = total (claim F) (asked t q)
 
       short : Bool
       short = anyOf (shortAt (t .clock) (asked t q)) (endsOf (t .clock) (lastEnd (t .clock) (asked t q)) (asked t q))

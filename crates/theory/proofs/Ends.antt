@@ -1,12 +1,13 @@
 -- The demand rises only at ends, and the list of ends before a tick has them all.
 use mathlib.Core.Path.{_≡_, refl, sym, ap, _∙_}
 use mathlib.Core.Logic.{_⊎_, inl, inr, ⊎-elim}
-use mathlib.Core.List.{List, [], _∷_, _++_}
+use mathlib.Core.List.{List, [], _∷_}
 use Prim.Native.Nat.{ℕ, zero, suc, _+_, _*_, _-_, _/_, _%_, _≤_, _<_}
 use native.Mathlib.Nat.{not-suc-le-zero, div-eq-of-lt-le, div-add-mod, mod-lt, suc-mul, le-div-iff-mul-le, le-refl}
 use native.Mathlib.Decide.{ℕ-discrete, le-ind}
 use native.Mathlib.Omega.{arith}
 use Rattle.periods.specs.Multiples.{All}
+use Rattle.periods.proofs.Lists.{all-appended, all-of-each}
 use Rattle.line.specs.declared.Held.{Held}
 use Rattle.line.specs.declared.Held.the-variants.{Nothing, Running, Waiting}
 use Rattle.line.specs.declared.Slot.{Slot}
@@ -130,16 +131,6 @@ all-every Q (suc n) e P (suc k) b a =
     let y : e + suc k * P ≡ e + P + k * P = omega arith in
     rw y (all-every Q n (e + P) P k (omega arith) (a .1))
 
--- what holds of two lists holds of both in a row
-pub append-all : (Q : ℕ → Type 0) (a b : List ℕ) → All Q a → All Q b → All Q (a ++ b)
-append-all Q [] b p q = q
-append-all Q (x ∷ a) b p q = (p .0, append-all Q a b (p .1) q)
-
--- what holds of two lists in a row holds of each
-pub all-append : (Q : ℕ → Type 0) (a b : List ℕ) → All Q (a ++ b) → All Q a × All Q b
-all-append Q [] b p = (tt, p)
-all-append Q (x ∷ a) b p = let w = all-append Q a b (p .1) in ((p .0, w .0), w .1)
-
 ends-in : (Q : ℕ → Type 0) (t0 last : ℕ) (h : Held) → Sound h → ((d : ℕ) → IsEnd t0 h d → d < last → Q d) → All Q (endsIn t0 last h)
 unfolding endsBefore
 ends-in Q t0 last Nothing s f = tt
@@ -161,7 +152,7 @@ pub ends-all : (Q : ℕ → Type 0) (t0 last : ℕ) (l : List Slot) → Each Sou
 unfolding endsOf
 ends-all Q t0 last [] s f = tt
 ends-all Q t0 last (x ∷ l) s f =
-    append-all Q (endsIn t0 last (x .held)) (endsOf t0 last l)
+    all-appended Q (endsIn t0 last (x .held)) (endsOf t0 last l)
     (ends-in Q t0 last (x .held) (s 0 (omega arith)) (λ d e b. f d (0, omega arith, e) b))
     (ends-all Q t0 last l (λ i b. s (suc i) (omega arith)) (λ d e b. f d (suc (e .0), omega (arith, e .1), e .2) b))
 
@@ -170,6 +161,6 @@ pub all-ends : (Q : ℕ → Type 0) (t0 last : ℕ) (l : List Slot) → Each Sou
 unfolding endsOf
 all-ends Q t0 last [] s a d e b = absurd (not-suc-le-zero (e .1))
 all-ends Q t0 last (x ∷ l) s a d (zero, i, e) b =
-    in-ends Q t0 last (x .held) (s 0 (omega arith)) (all-append Q (endsIn t0 last (x .held)) (endsOf t0 last l) a .0) d e b
+    in-ends Q t0 last (x .held) (s 0 (omega arith)) (all-of-each Q (endsIn t0 last (x .held)) (endsOf t0 last l) a .0) d e b
 all-ends Q t0 last (x ∷ l) s a d (suc k, i, e) b =
-    all-ends Q t0 last l (λ i b. s (suc i) (omega arith)) (all-append Q (endsIn t0 last (x .held)) (endsOf t0 last l) a .1) d (k, omega (arith, i), e) b
+    all-ends Q t0 last l (λ i b. s (suc i) (omega arith)) (all-of-each Q (endsIn t0 last (x .held)) (endsOf t0 last l) a .1) d (k, omega (arith, i), e) b

@@ -19,8 +19,8 @@ use Rattle.line.specs.Sound.{Sound, sound}
 use Rattle.line.specs.Demand.{lastEnd, Least, newDemand}
 use Rattle.table.specs.Grounds.{entry, asked}
 use Rattle.line.specs.Stretch.{Shrunk, shrunk}
-use Rattle.line.specs.Shares.{periodsIn, frame, share, owed, full}
-use Rattle.table.specs.Ask.{says, isNone, refusedAt, refusedIf, loadOf, askOf}
+use Rattle.line.specs.Shares.{periodsIn, frame, share, claim, full}
+use Rattle.table.specs.Ask.{says, isNone, refusedAt, refusedIf, askIn, askOf}
 use Rattle.line.specs.Ends.{start, endsOf, anyOf, shortAt}
 use Rattle.line.proofs.Search.{lowest-none}
 use Rattle.line.proofs.Sound.{sound-says}
@@ -34,7 +34,7 @@ use Rattle.theory.proofs.Tests.{none-of, waits-not, shrunk-not, some-of
 -- the frame is a common multiple, and with sums 8 and 9 it gives what the theory of the start asks
 pub given : (t : Table) (q : Request) → Each Sound (asked t q) → Each (λ h. Waits h → ⊥) (asked t q) → 1 ≤ q .need → q .need ≤ q .period
     → let F = frame (asked t q) (q .period) in
-    total (share F) (asked t q) + q .need * (F / q .period) ≤ F → total (owed F) (asked t q) ≤ total (full F) (asked t q)
+    total (share F) (asked t q) + q .need * (F / q .period) ≤ F → total (claim F) (asked t q) ≤ total (full F) (asked t q)
     → Given F (asked t q) (q .need) (q .period)
 given t q s n c fits eight nine =
     let f = frame-is (q .period ∷ periodsIn (asked t q)) in
@@ -63,17 +63,17 @@ same-start r u e = cc
 -- past test 9 the request is as the theory of the start wants it; past test 10 the start is the least smooth one
 granted-load : (t : Table) (q : Request) (r : ℕ) → Each Sound (asked t q) → Each (λ h. Waits h → ⊥) (asked t q) → 1 ≤ q .need → q .need ≤ q .period
     → let F = frame (asked t q) (q .period) in
-    loadOf (t .clock) F (asked t q) (q .need) (q .period) ≡ Start r
+    askIn (t .clock) F (asked t q) (q .need) (q .period) ≡ Start r
     → Given F (asked t q) (q .need) (q .period) × Alone (t .clock) (asked t q) × Least (t .clock) (asked t q) (newDemand (q .need) (q .period)) r
-unfolding loadOf
+unfolding askIn
 granted-load t q r s n c fits e =
     let F = frame (asked t q) (q .period) in
     let l = asked t q in
     let p7 = past-if (ltb 1000000 F) 7 _ r e in
     let p8 = past-if (ltb F (total (share F) l + q .need * (F / q .period))) 8 _ r (p7 .1) in
-    let p9 = past-if (ltb (total (full F) l) (total (owed F) l)) 9 _ r (p8 .1) in
+    let p9 = past-if (ltb (total (full F) l) (total (claim F) l)) 9 _ r (p8 .1) in
     let p10 = past-if (anyOf (shortAt (t .clock) l) (endsOf (t .clock) (lastEnd (t .clock) l) l)) 10 _ r (p9 .1) in
-    let g = given t q s n c fits (ltb-false F (total (share F) l + q .need * (F / q .period)) (p8 .0)) (ltb-false (total (full F) l) (total (owed F) l) (p9 .0)) in
+    let g = given t q s n c fits (ltb-false F (total (share F) l + q .need * (F / q .period)) (p8 .0)) (ltb-false (total (full F) l) (total (claim F) l) (p9 .0)) in
     let a = alone-without-short-end F (t .clock) l (q .need) (q .period) g (p10 .0) in
     (g, a, rw (← same-start (start (t .clock) l (q .need) (q .period)) r (p10 .1)) (start-least F (t .clock) l (q .need) (q .period) g a))
 

@@ -9,7 +9,7 @@ use Rattle.line.specs.declared.Held.{Held}
 use Rattle.line.specs.declared.Held.the-variants.{Nothing, Running, Waiting}
 use Rattle.line.specs.declared.Slot.{Slot}
 use Rattle.line.specs.Slots.{at, Each, total}
-use Rattle.line.specs.Shares.{share, owed, full}
+use Rattle.line.specs.Shares.{share, claim, full}
 use Rattle.theory.specs.Fine.{Divides}
 use Rattle.theory.proofs.Sums.{total-eq, total-mul}
 
@@ -18,7 +18,7 @@ share-both F G Nothing f g = omega arith
 share-both F G (Running r) f g = omega (arith, share-scale (r .period) F G (r .need) f g)
 share-both F G (Waiting w) f g = omega arith
 
-owed-both : (F G : ℕ) (h : Held) → Divides F h → Divides G h → G * owed F h ≡ F * owed G h
+owed-both : (F G : ℕ) (h : Held) → Divides F h → Divides G h → G * claim F h ≡ F * claim G h
 owed-both F G Nothing f g = omega arith
 owed-both F G (Running r) f g = omega (arith, ap (λ (n : ℕ). n * r .age) (share-scale (r .period) F G (r .need) f g))
 owed-both F G (Waiting w) f g = omega arith
@@ -44,15 +44,15 @@ module _ (F G : ℕ) (l : List Slot) (f : Each (Divides F) l) (g : Each (Divides
       pos
 
   -- R16, R29: and the lag likewise
-  pub nine-scale : total (owed F) l ≤ total (full F) l → total (owed G) l ≤ total (full G) l
+  pub nine-scale : total (claim F) l ≤ total (full F) l → total (claim G) l ≤ total (full G) l
   nine-scale h =
       le-of-mul-le-mul-left {k = F}
       (omega (
         arith,
-        total-eq (λ h. G * owed F h) (λ h. F * owed G h) l (λ i c. owed-both F G (at l i) (f i c) (g i c)),
+        total-eq (λ h. G * claim F h) (λ h. F * claim G h) l (λ i c. owed-both F G (at l i) (f i c) (g i c)),
         total-eq (λ h. G * full F h) (λ h. F * full G h) l (λ i c. full-both F G (at l i)),
-        total-mul G (owed F) l,
-        total-mul F (owed G) l,
+        total-mul G (claim F) l,
+        total-mul F (claim G) l,
         total-mul G (full F) l,
         total-mul F (full G) l,
         mul-le-mul-left G h,

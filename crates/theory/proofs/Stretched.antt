@@ -1,7 +1,7 @@
 -- The lines at their T': a longer period keeps a line sound, asks for no more and does not lag more.
-use mathlib.Core.Path.{_≡_, refl, sym, ap}
-use mathlib.Core.List.{List, [], _∷_}
-use Prim.Native.Nat.{ℕ, zero, suc, _*_, _-_, _/_, _≤_, _<_}
+use mathlib.Core.Path.{sym, ap}
+use mathlib.Core.List.{List}
+use Prim.Native.Nat.{ℕ, _*_, _-_, _/_, _≤_, _<_}
 use native.Mathlib.Nat.{le-of-mul-le-mul-left, mul-le-mul-left, mul-le-mul-right}
 use native.Mathlib.Omega.{arith}
 use lib.ListN.{length}
@@ -13,7 +13,7 @@ use Rattle.line.specs.Slots.{at, Each, Waits}
 use Rattle.line.specs.Sound.{Sound}
 use Rattle.line.specs.Demand.{demand, demands}
 use Rattle.line.specs.Stretch.{stretch, stretched, Shrunk}
-use Rattle.line.specs.Shares.{owed, full}
+use Rattle.line.specs.Shares.{claim, full}
 use Rattle.line.proofs.Stretched.{length-stretched, at-stretched}
 use Rattle.theory.specs.Fine.{wanted, wantedAll, Divides, Shares, Fine, Lag, Longer}
 use Rattle.theory.proofs.Numbers.{split, due-longer}
@@ -76,7 +76,7 @@ never-ten {M} {k} {l} p f n t b =
     )
 
 -- the lag of one slot, by two common multiples: with the longer period age earns less
-owed-longer : (M N p : ℕ) (h : Held) → Divides M h → Divides N (stretch p h) → (Shrunk p h → ⊥) → M * owed N (stretch p h) ≤ N * owed M h
+owed-longer : (M N p : ℕ) (h : Held) → Divides M h → Divides N (stretch p h) → (Shrunk p h → ⊥) → M * claim N (stretch p h) ≤ N * claim M h
 owed-longer M N p Nothing d e n = omega arith
 owed-longer M N p (Running r) d e n =
     let g = not-shrunk p (r .period) n in
@@ -99,13 +99,13 @@ lag-stretched {M} {l} N p v g d n =
     le-of-mul-le-mul-left
     (omega (
       arith,
-      total-le-two (λ h. M * owed N h) (λ h. N * owed M h) (stretched l p) l (length-stretched l p)
+      total-le-two (λ h. M * claim N h) (λ h. N * claim M h) (stretched l p) l (length-stretched l p)
           (λ i b. let c : i < length l = rw (← length-stretched l p) b in
           let x : Divides N (stretch (p i) (at l i)) = rw (at-stretched l p i) at (d i b) in
           rw (at-stretched l p i) (owed-longer M N (p i) (at l i) (v .common i c) x (n i c))),
       total-le-two (λ h. N * full M h) (λ h. M * full N h) l (stretched l p) (sym (length-stretched l p)) (λ i b. rw (at-stretched l p i) (full-longer M N (p i) (at l i))),
-      total-mul M (owed N) (stretched l p),
-      total-mul N (owed M) l,
+      total-mul M (claim N) (stretched l p),
+      total-mul N (claim M) l,
       total-mul N (full M) l,
       total-mul M (full N) (stretched l p),
       mul-le-mul-left N g,

@@ -10,7 +10,7 @@ use Rattle.line.specs.declared.Slot.{Slot}
 use Rattle.line.specs.Slots.{at, Each, total}
 use Rattle.line.specs.Sound.{Sound}
 use Rattle.line.specs.Demand.{demand, newDemand, demands, endOf, lastEnd}
-use Rattle.line.specs.Shares.{share, owed, full}
+use Rattle.line.specs.Shares.{share, claim, full}
 use Rattle.theory.specs.Fine.{Divides}
 use Rattle.theory.specs.Given.{Given}
 use Rattle.theory.proofs.Numbers.{due-share, due-late}
@@ -31,21 +31,21 @@ last-each t0 (s ∷ l) (suc i) b = omega (arith, last-each t0 l i (omega arith))
 
 -- one slot from its first end on
 pub one-late : (F t0 : ℕ) (h : Held) (t : ℕ) → Sound h → Divides F h → endOf t0 h ≤ t
-    → F * demand t0 h t + full F h ≤ owed F h + share F h * (t - t0)
+    → F * demand t0 h t + full F h ≤ claim F h + share F h * (t - t0)
 one-late F t0 Nothing t s d b = omega arith
 one-late F t0 (Running r) t s d b = due-late F t0 (r .age) (r .remaining) (r .need) (r .period) t d (omega arith) b
 one-late F t0 (Waiting w) t s d b = omega arith
 
 -- R28, R29: from the last end on, F times the demand is at most what the sum of R29 leaves and the shares of the time
 pub all-late : (F t0 : ℕ) (l : List Slot) (t : ℕ) → Each Sound l → Each (Divides F) l → lastEnd t0 l ≤ t
-    → F * demands t0 l t + total (full F) l ≤ total (owed F) l + total (share F) l * (t - t0)
+    → F * demands t0 l t + total (full F) l ≤ total (claim F) l + total (share F) l * (t - t0)
 all-late F t0 l t s d b =
     omega (
       arith,
-      total-le (λ h. F * demand t0 h t + full F h) (λ h. owed F h + share F h * (t - t0)) l
+      total-le (λ h. F * demand t0 h t + full F h) (λ h. claim F h + share F h * (t - t0)) l
           (λ i c. one-late F t0 (at l i) t (s i c) (d i c) (omega (arith, last-each t0 l i c))),
       total-add (λ h. F * demand t0 h t) (full F) l,
-      total-add (owed F) (λ h. share F h * (t - t0)) l,
+      total-add (claim F) (λ h. share F h * (t - t0)) l,
       total-mul F (λ h. demand t0 h t) l,
       total-mulr (t - t0) (share F) l,
     )

@@ -1,6 +1,6 @@
 -- What the computed tests of the grounds say, and that the frame divides by every period.
 use mathlib.Core.Path.{_≡_, refl}
-use mathlib.Core.Bool.{Bool, true, false, not}
+use mathlib.Core.Bool.{Bool, true, false}
 use mathlib.Core.List.{List, [], _∷_}
 use mathlib.Core.Option.{Option, none, some}
 use Prim.Native.Nat.{ℕ, zero, suc, _∣_, _≤_, _<_}
@@ -9,6 +9,7 @@ use native.Mathlib.Omega.{arith}
 use borrow.Author.Tests.{ltb-true, leb-true, leb-false, lt-ltb}
 use lib.Dec.{leb}
 use Rattle.periods.specs.Multiples.{All}
+use Rattle.periods.proofs.Lists.{all-appended, all-of-each}
 use Rattle.line.specs.declared.Held.{Held}
 use Rattle.line.specs.declared.Held.the-variants.{Nothing, Running, Waiting}
 use Rattle.line.specs.declared.Slot.{Slot}
@@ -19,7 +20,6 @@ use Rattle.line.specs.Shares.{periodIn, periodsIn}
 use Rattle.table.specs.Ask.{isNone}
 use Rattle.line.proofs.Search.{true-false, lowest-is, lowest-none}
 use Rattle.theory.specs.Fine.{Divides}
-use Rattle.theory.proofs.Ends.{append-all, all-append}
 
 -- R19: a search finds the lowest of which P holds, where its test says P
 pub lowest-of : (P : ℕ → Type 0) (test : ℕ → Bool) (n k : ℕ) → ((i : ℕ) → test i ≡ true → P i) → ((i : ℕ) → P i → test i ≡ false → ⊥)
@@ -99,20 +99,20 @@ fits-not C P e h = go (leb 1 C) refl e
 pub periods-divide : (F : ℕ) (l : List Slot) → Each (λ h. Waits h → ⊥) l → All (λ p. p ∣ F) (periodsIn l) → Each (Divides F) l
 unfolding periodsIn
 periods-divide F [] n a i b = absurd (not-suc-le-zero b)
-periods-divide F (s ∷ l) n a zero b = one (s .held) (n 0 b) (all-append (λ p. p ∣ F) (periodIn (s .held)) (periodsIn l) a .0)
+periods-divide F (s ∷ l) n a zero b = one (s .held) (n 0 b) (all-of-each (λ p. p ∣ F) (periodIn (s .held)) (periodsIn l) a .0)
   where
     one : (h : Held) → (Waits h → ⊥) → All (λ p. p ∣ F) (periodIn h) → Divides F h
     one Nothing n a = tt
     one (Running r) n a = a .0
     one (Waiting w) n a = absurd (n tt)
 periods-divide F (s ∷ l) n a (suc i) b =
-    periods-divide F l (λ j c. n (suc j) (omega arith)) (all-append (λ p. p ∣ F) (periodIn (s .held)) (periodsIn l) a .1) i (omega arith)
+    periods-divide F l (λ j c. n (suc j) (omega arith)) (all-of-each (λ p. p ∣ F) (periodIn (s .held)) (periodsIn l) a .1) i (omega arith)
 
 -- R5: the periods of sound lines are at least 1
 pub periods-pos : (l : List Slot) → Each Sound l → All (λ p. 1 ≤ p) (periodsIn l)
 unfolding periodsIn
 periods-pos [] s = tt
-periods-pos (x ∷ l) s = append-all (λ p. 1 ≤ p) (periodIn (x .held)) (periodsIn l) (one (x .held) (s 0 (omega arith))) (periods-pos l (λ i b. s (suc i) (omega arith)))
+periods-pos (x ∷ l) s = all-appended (λ p. 1 ≤ p) (periodIn (x .held)) (periodsIn l) (one (x .held) (s 0 (omega arith))) (periods-pos l (λ i b. s (suc i) (omega arith)))
   where
     one : (h : Held) → Sound h → All (λ p. 1 ≤ p) (periodIn h)
     one Nothing s = tt

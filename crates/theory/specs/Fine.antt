@@ -14,7 +14,7 @@ use Rattle.line.specs.Slots.{at, Each, total}
 use Rattle.line.specs.Sound.{Sound}
 use Rattle.line.specs.Demand.{demand, newDemand}
 use Rattle.line.specs.Stretch.{Shrunk}
-use Rattle.line.specs.Shares.{share, owed, full}
+use Rattle.line.specs.Shares.{share, claim, full}
 use Rattle.table.specs.Words.{whichOf}
 use Rattle.line.specs.Tick.{Owed}
 use Rattle.table.specs.Step.{Earliest, serve, pass}
@@ -75,7 +75,7 @@ Kept (Waiting w) = Unit {0}
 
 -- R29: the lines are not behind their shares
 abbrev pub Lag : ℕ → List Slot → Type 0
-Lag M l = total (owed M) l ≤ total (full M) l
+Lag M l = total (claim M) l ≤ total (full M) l
 
 -- some run of n ticks, whoever is served, has no line short
 abbrev pub Reach : ℕ → List Slot → Type 0

@@ -13,7 +13,7 @@ use Rattle.line.specs.Slots.{at, Each, total, isNothing, Waits, lowestOf}
 use Rattle.line.specs.Sound.{Sound}
 use Rattle.line.specs.Demand.{firstEnd, demands, newDemand, Least}
 use Rattle.table.specs.Grounds.{entry, asked}
-use Rattle.line.specs.Shares.{frame, share, owed, full}
+use Rattle.line.specs.Shares.{frame, share, claim, full}
 use Rattle.theory.specs.Fine.{Divides, Longer}
 
 -- R24, R26, R28, R29: none of these grounds holds of the lines l at their T' and the new line (Cn, Tn), the sums taken times a common multiple F
@@ -25,7 +25,7 @@ pub record Given (F : ℕ) (l : List Slot) (Cn Tn : ℕ) : Type 0 where
   pub new-fits : Cn ≤ Tn
   pub new-divides : Tn ∣ F
   pub eight : total (share F) l + Cn * (F / Tn) ≤ F
-  pub nine : total (owed F) l ≤ total (full F) l
+  pub nine : total (claim F) l ≤ total (full F) l
 
 -- R30: nor does this one
 abbrev pub Alone : ℕ → List Slot → Type 0

@@ -13,24 +13,23 @@ use Rattle.line.specs.declared.Held.the-variants.{Nothing, Running, Waiting}
 use Rattle.line.specs.declared.Slot.{Slot}
 use Rattle.line.specs.Slots.{empty, isNothing}
 use Rattle.card.specs.Card.{slotRecord, slotRecords, oneMore, usedFrom, used}
-use Rattle.card.proofs.Marks.{false-true}
+use Rattle.line.proofs.Search.{true-false}
 use Rattle.card.proofs.Length.{records-length}
 use Rattle.writer.proofs.Parts.{put-at}
 
 used-nothing : (h : Held) (n : ℕ) → isNothing h ≡ true → usedFrom h n ≡ oneMore n
 used-nothing Nothing n e = refl
-used-nothing (Running r) n e = absurd (false-true e)
-used-nothing (Waiting w) n e = absurd (false-true e)
+used-nothing (Running r) n e = absurd (true-false e refl)
+used-nothing (Waiting w) n e = absurd (true-false e refl)
 
 used-something : (h : Held) (n : ℕ) → isNothing h ≡ false → usedFrom h n ≡ suc n
-used-something Nothing n e = absurd (false-true (sym e))
+used-something Nothing n e = absurd (true-false (sym e) refl)
 used-something (Running r) n e = refl
 used-something (Waiting w) n e = refl
 
--- an empty slot more at the end, with none used after it
-pub used-less : (ss : List Slot) (k : ℕ) → k < length ss → isNothing (getD ss k empty .held) ≡ true → used (drop (suc k) ss) ≡ 0
+used-drop : (ss : List Slot) (k : ℕ) → k < length ss → isNothing (getD ss k empty .held) ≡ true → used (drop (suc k) ss) ≡ 0
     → used (drop k ss) ≡ 0
-used-less ss k h e u =
+used-drop ss k h e u =
     ap used (drop-cons ss k empty h) ∙ used-nothing (getD ss k empty .held) (used (drop (suc k) ss)) e ∙ ap oneMore u
 
 used-front : (h : Held) (n : ℕ) → usedFrom h (suc n) ≡ suc (suc n)
@@ -38,11 +37,23 @@ used-front Nothing n = refl
 used-front (Running r) n = refl
 used-front (Waiting w) n = refl
 
--- the last slot that holds something
-pub used-at : (ss : List Slot) (k : ℕ) → k < length ss → isNothing (getD ss k empty .held) ≡ false → used (drop (suc k) ss) ≡ 0 → used ss ≡ suc k
-used-at [] k h e u = absurd (omega arith)
-used-at (s ∷ ss) zero h e u = used-something (s .held) (used ss) e ∙ ap suc u
-used-at (s ∷ ss) (suc k) h e u = ap (usedFrom (s .held)) (used-at ss k (le-of-suc-le-suc h) e u) ∙ used-front (s .held) k
+used-last : (ss : List Slot) (k : ℕ) → k < length ss → isNothing (getD ss k empty .held) ≡ false → used (drop (suc k) ss) ≡ 0 → used ss ≡ suc k
+used-last [] k h e u = absurd (omega arith)
+used-last (s ∷ ss) zero h e u = used-something (s .held) (used ss) e ∙ ap suc u
+used-last (s ∷ ss) (suc k) h e u = ap (usedFrom (s .held)) (used-last ss k (le-of-suc-le-suc h) e u) ∙ used-front (s .held) k
+
+-- n slots, and none used after them: what the last of the n says
+module _ (ss : List Slot) (n : ℕ) (p : 0 < n) (h : n ≤ length ss) (u : used (drop n ss) ≡ 0) where
+  back : n ≡ suc (n - 1)
+  back = omega arith
+
+  -- R55: it is empty, and none is used from it on
+  pub used-less : isNothing (getD ss (n - 1) empty .held) ≡ true → used (drop (n - 1) ss) ≡ 0
+  used-less e = used-drop ss (n - 1) (omega arith) e (ap (λ (k : ℕ). used (drop k ss)) (sym back) ∙ u)
+
+  -- R55: it holds something, and is the last that does
+  pub used-at : isNothing (getD ss (n - 1) empty .held) ≡ false → n ≡ used ss
+  used-at e = back ∙ sym (used-last ss (n - 1) (omega arith) e (ap (λ (k : ℕ). used (drop k ss)) (sym back) ∙ u))
 
 -- the length of a record, whatever the entry
 pub record-same : (h : Held) (t u : ℕ) → length (slotRecord h t) ≡ length (slotRecord h u)
@@ -56,6 +67,7 @@ pub records-first : (n : ℕ) (s : Slot) (ss : List Slot) (ts : List ℕ)
 records-first n s ss [] = refl
 records-first n s ss (t ∷ ts) = refl
 
+-- the length of the records, whatever the entries
 pub records-same : (n : ℕ) (ss : List Slot) (ts us : List ℕ) → length (slotRecords n ss ts) ≡ length (slotRecords n ss us)
 records-same zero ss ts us = refl
 records-same (suc n) [] ts us = refl
@@ -78,12 +90,15 @@ records-next (s ∷ ss) ts (suc i) h =
     ∙ ap₂ (λ (x : List ℕ) (y : ℕ). x ++ slotRecord (getD ss i empty .held) y) (sym (records-first i s ss ts)) w
 
 module _ (ss : List Slot) (ts : List ℕ) (i : ℕ) (h : i < length ss) where
+  -- R54: one record more, as the code counts
   pub records-on : slotRecords (i + 1) ss ts ≡ slotRecords i ss ts ++ slotRecord (getD ss i empty .held) (getD ts i 0)
   records-on = ap (λ (j : ℕ). slotRecords j ss ts) (add-one i) ∙ records-next ss ts i h
 
+  -- and how long they are then
   pub length-on : length (slotRecords (i + 1) ss ts) ≡ length (slotRecords i ss ts) + length (slotRecord (getD ss i empty .held) (getD ts i 0))
   length-on = ap length records-on ∙ length-append (slotRecords i ss ts) (slotRecord (getD ss i empty .held) (getD ts i 0))
 
+-- fewer records are not longer
 pub records-mono : (ss : List Slot) (ts : List ℕ) (i n : ℕ) → i ≤ n → length (slotRecords i ss ts) ≤ length (slotRecords n ss ts)
 records-mono ss ts zero n h = omega arith
 records-mono ss ts (suc i) zero h = absurd (omega arith)
@@ -101,13 +116,16 @@ pub record Counted (ss : List Slot) (ts : List ℕ) (n i len : ℕ) : Type 0 whe
   pub slots : n ≤ length ss
   pub count : len ≡ length (slotRecords i ss ts)
 
+-- no record is counted yet
 pub counted-start : (ss : List Slot) (ts : List ℕ) (n : ℕ) → n ≤ length ss → Counted ss ts n 0 0
 counted-start ss ts n a = record { few = omega arith; slots = a; count = refl }
 
 module _ {ss : List Slot} {ts : List ℕ} {n i len : ℕ} (m : Counted ss ts n i len) where
+  -- R53: no record has more than twelve bytes
   pub counted-small : len ≤ 12 * i
   counted-small = omega (arith, records-length i ss ts, m .count)
 
+  -- a record more
   pub counted-on : i < n → (r u : ℕ) → r ≡ length (slotRecord (getD ss i empty .held) u) → Counted ss ts n (i + 1) (len + r)
   counted-on h r u e = record {
     few = omega arith;
@@ -118,6 +136,7 @@ module _ {ss : List Slot} {ts : List ℕ} {n i len : ℕ} (m : Counted ss ts n i
         omega (arith, m .count));
   }
 
+  -- every record is counted
   pub counted-end : n ≤ i → len ≡ length (slotRecords n ss ts)
   counted-end h =
       let j : i ≡ n = omega (arith, m .few) in
@@ -131,16 +150,19 @@ pub record Put (l₀ : List ℕ) (ss : List Slot) (ts : List ℕ) (n : ℕ) (l :
   pub place : at ≡ length (slotRecords i ss ts)
   pub kept : l ≡ slotRecords i ss ts ++ drop at l₀
 
+-- no record is put yet
 pub put-start : (l₀ : List ℕ) (ss : List Slot) (ts : List ℕ) (n : ℕ) → n ≤ length ss → length (slotRecords n ss ts) ≤ length l₀
     → Put l₀ ss ts n l₀ 0 0
 put-start l₀ ss ts n a c = record { few = omega arith; slots = a; room = c; place = refl; kept = refl }
 
 module _ {l₀ : List ℕ} {ss : List Slot} {ts : List ℕ} {n : ℕ} {l : List ℕ} {at i : ℕ} (m : Put l₀ ss ts n l at i) where
+  -- the buffer keeps its length
   pub put-same : length l ≡ length l₀
   put-same =
       let e = ap length (m .kept) ∙ length-append (slotRecords i ss ts) (drop at l₀) in
       omega (arith, length-drop at l₀, records-mono ss ts i n (m .few), m .room, m .place)
 
+  -- there is room for the next record
   pub put-room : i < n → at + length (slotRecord (getD ss i empty .held) (getD ts i 0)) ≤ length l
   put-room h =
       omega (
@@ -152,6 +174,7 @@ module _ {l₀ : List ℕ} {ss : List Slot} {ts : List ℕ} {n : ℕ} {l : List 
         m .place,
       )
 
+  -- R54: the next record stands behind the last
   pub put-next : i < n → (r : ℕ) (ys : List ℕ) → r ≡ length (slotRecord (getD ss i empty .held) (getD ts i 0))
       → ys ≡ slotRecord (getD ss i empty .held) (getD ts i 0)
       ++ drop (length (slotRecord (getD ss i empty .held) (getD ts i 0))) (take (length l - at) (drop at l))
@@ -168,6 +191,7 @@ module _ {l₀ : List ℕ} {ss : List Slot} {ts : List ℕ} {n : ℕ} {l : List 
         kept = w ∙ ap₂ (λ (x : List ℕ) (k : ℕ). x ++ drop (at + k) l₀) (sym (records-on ss ts i hs)) (sym e);
       }
 
+  -- R54: every record is put
   pub put-end : n ≤ i → (at ≡ length (slotRecords n ss ts)) × (l ≡ slotRecords n ss ts ++ drop (length (slotRecords n ss ts)) l₀)
   put-end h =
       let j : i ≡ n = omega (arith, m .few) in

@@ -18,6 +18,7 @@ use Rattle.card.specs.Bytes.{le}
 use Rattle.card.specs.Card.{clockRecord, slotRecords, requestRecord, used, cardOf}
 use Rattle.card.specs.Answers.{lengthOf, filled, writeOf, bufferOf}
 use Rattle.card.proofs.Length.{length-card}
+use Rattle.writer.specs.Parts.{partsOf}
 use Rattle.writer.proofs.Slots.{records-same}
 
 two-of : (n v : ℕ) → le 2 (v % 65536) ++ le n (v / 65536) ≡ le (suc (suc n)) v
@@ -42,49 +43,52 @@ by-twos v h =
     ∙ ap (λ (x : List ℕ). le 2 (v % 65536) ++ x) (two-of 4 (v / 65536)) ∙ two-of 6 v)
 
 module _ (t : Table) (q : Request) where
-  pub too-short : (room : ℕ) → room < length (cardOf t q) → lengthOf t q room ≡ refuses (refusal 13 0)
+  -- R33: there is no room
+  too-short : (room : ℕ) → room < length (cardOf t q) → lengthOf t q room ≡ refuses (refusal 13 0)
   unfolding lengthOf
   too-short room h = ap (λ (o : Bool). pick o (gives (length (cardOf t q))) (refuses (refusal 13 0))) (lt-leb (length (cardOf t q)) room h)
 
-  pub long-enough : (room : ℕ) → length (cardOf t q) ≤ room → lengthOf t q room ≡ gives (length (cardOf t q))
+  -- there is room
+  long-enough : (room : ℕ) → length (cardOf t q) ≤ room → lengthOf t q room ≡ gives (length (cardOf t q))
   unfolding lengthOf
   long-enough room h = ap (λ (o : Bool). pick o (gives (length (cardOf t q))) (refuses (refusal 13 0))) (le-leb (length (cardOf t q)) room h)
 
-  pub all-records : (n : ℕ) → n ≡ used (t .slots)
-      → (clockRecord (t .clock) ++ slotRecords n (t .slots) (q .stretched)) ++ requestRecord (q .need) (q .period) ≡ cardOf t q
-  unfolding cardOf
-  all-records n e =
-      append-assoc (clockRecord (t .clock)) (slotRecords n (t .slots) (q .stretched)) (requestRecord (q .need) (q .period))
-      ∙ ap (λ (m : ℕ). clockRecord (t .clock) ++ (slotRecords m (t .slots) (q .stretched) ++ requestRecord (q .need) (q .period))) e
-
-  module _ (n m : ℕ) (e : n ≡ used (t .slots)) (f : m ≡ length (slotRecords n (t .slots) (replicate 16 0))) where
-    pub records-len : m ≡ length (slotRecords n (t .slots) (q .stretched))
-    records-len = f ∙ records-same n (t .slots) (replicate 16 0) (q .stretched)
-
-    pub card-len : 16 + m ≡ length (cardOf t q)
-    card-len =
-        ap (λ (x : ℕ). 16 + x) (records-len ∙ ap (λ (j : ℕ). length (slotRecords j (t .slots) (q .stretched))) e) ∙ sym (length-card t q)
-
-  -- a refusal leaves the buffer l
+  -- R17, R33: a refusal leaves the buffer l
   pub short-writing : (l : List ℕ) (r : Refusal) → r ≡ refusal 13 0 → length l < length (cardOf t q)
       → (refuses r ≡ lengthOf t q (length l)) × (l ≡ filled (cardOf t q) l (lengthOf t q (length l)))
   short-writing l r e h = rw (e, too-short (length l) h) (refl, refl)
 
-  -- the buffer l, which was l₀, behind the three parts of the card
-  pub whole-writing : (l₀ l : List ℕ) (n m len : ℕ) → n ≡ used (t .slots) → 10 + m + 6 ≡ length (cardOf t q) → len ≡ length (cardOf t q)
-      → length (cardOf t q) ≤ length l₀
-      → l ≡ ((clockRecord (t .clock) ++ slotRecords n (t .slots) (q .stretched)) ++ requestRecord (q .need) (q .period)) ++ drop (10 + m + 6) l₀
-      → (gives len ≡ lengthOf t q (length l₀)) × (l ≡ filled (cardOf t q) l₀ (lengthOf t q (length l₀)))
-  whole-writing l₀ l n m len e f g h w =
-      let a = all-records n e in
-      let b = long-enough (length l₀) h in
-      rw (b, g) (refl, w ∙ ap₂ (λ (x : List ℕ) (j : ℕ). x ++ drop j l₀) a f)
+  -- the records of n slots, where n are used
+  module _ (n : ℕ) (e : n ≡ used (t .slots)) where
+    -- R53: CK and RQ have sixteen bytes
+    pub parts-length : 16 + length (slotRecords n (t .slots) (q .stretched)) ≡ length (cardOf t q)
+    parts-length = ap (λ (j : ℕ). 16 + length (slotRecords j (t .slots) (q .stretched))) e ∙ sym (length-card t q)
+
+    -- R33: the length that the code works out, which looks at no entry of the request
+    pub card-length : (m : ℕ) → m ≡ length (slotRecords n (t .slots) (replicate 16 0)) → 16 + m ≡ length (cardOf t q)
+    card-length m f = ap (λ (x : ℕ). 16 + x) (f ∙ records-same n (t .slots) (replicate 16 0) (q .stretched)) ∙ parts-length
+
+    -- R54: the parts are the card
+    parts-card : partsOf t q n ≡ cardOf t q
+    unfolding cardOf
+    parts-card =
+        append-assoc (clockRecord (t .clock)) (slotRecords n (t .slots) (q .stretched)) (requestRecord (q .need) (q .period))
+        ∙ ap (λ (j : ℕ). clockRecord (t .clock) ++ (slotRecords j (t .slots) (q .stretched) ++ requestRecord (q .need) (q .period))) e
+
+    -- R59: the buffer m, which was l, holds the parts, and the card's length is answered
+    pub whole-writing : (l m : List ℕ) (len : ℕ) → len ≡ length (cardOf t q) → length (cardOf t q) ≤ length l
+        → m ≡ partsOf t q n ++ drop (16 + length (slotRecords n (t .slots) (q .stretched))) l
+        → (gives len ≡ lengthOf t q (length l)) × (m ≡ filled (cardOf t q) l (lengthOf t q (length l)))
+    whole-writing l m len f h w =
+        rw (long-enough (length l) h, f) (refl, w ∙ ap₂ (λ (x : List ℕ) (j : ℕ). x ++ drop j l) parts-card parts-length)
 
   module _ (o : Which) (w : slotOf o ≡ lowestOf isWaiting (t .slots)) where
+    -- R23: a waiting line is refused at its slot, whatever the buffer
     pub waiting-writing : (k : ℕ) → o ≡ At k → (r : Refusal) → r ≡ refusal 3 k → (l : List ℕ)
         → (refuses r ≡ writeOf t q (length l)) × (l ≡ bufferOf t q l)
     waiting-writing k e r f l = rw (sym w, e, f) (refl, refl)
 
+    -- R59: where none waits the room decides
     pub other-writing : o ≡ None → (l m : List ℕ) (s : Said ℕ) → (s ≡ lengthOf t q (length l)) × (m ≡ filled (cardOf t q) l (lengthOf t q (length l)))
         → (s ≡ writeOf t q (length l)) × (m ≡ bufferOf t q l)
     other-writing e l m s p = rw (sym w, e) p

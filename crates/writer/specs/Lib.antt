@@ -1,1 +1,2 @@
--- The writer has no definitions of its own: they are the card's.
+-- The parts of a card.
+pub mod Parts

@@ -3,10 +3,10 @@ ghost use mathlib.Core.Path.{_≡_};
 ghost use mathlib.Core.List.{_++_};
 ghost use Prim.Native.Nat.{_+_, _≤_, _<_};
 ghost use lib.ListN.{length, drop, replicate};
-ghost use Rattle.line.specs.Slots.{isNothing};
 ghost use Rattle.card.specs.Bytes.{le, markOf};
-ghost use Rattle.card.specs.Card.{clockRecord, lineRecord, requestRecord, slotRecord, slotRecords, used};
-ghost use Rattle.card.specs.Answers.{saidWritten, writeOf, bufferOf};
+ghost use Rattle.card.specs.Card.{clockRecord, lineRecord, requestRecord, slotRecord, slotRecords, used, cardOf};
+ghost use Rattle.card.specs.Answers.{saidWritten, lengthOf, filled, writeOf, bufferOf};
+ghost use Rattle.writer.specs.Parts.{partsOf};
 use card::WriteAnswer;
 use line::Held;
 use line::Run;
@@ -56,7 +56,7 @@ fn put_clock(out: &mut [u8], clock: u64)
 }
 
 // R53: TB and the line's five numbers, T' the third.
-fn put_line(out: &mut [u8], r: Run, stretched: u16)
+fn put_running(out: &mut [u8], r: Run, stretched: u16)
     requires { ⌜ 12 ≤ length (now out) ⌝ }
     ensures { λ _. ⌜ now (out .exit) ≡ lineRecord r stretched ++ drop 12 (now (out .entry)) ⌝ }
 {
@@ -87,7 +87,7 @@ fn put_slot(out: &mut [u8], s: Slot, stretched: u16) -> usize
             2
         }
         Held::Running(r) => {
-            put_line(out, r, stretched);
+            put_running(out, r, stretched);
             12
         }
         Held::Waiting(_) => 0,
@@ -106,17 +106,6 @@ fn slot_len(s: Slot) -> usize
     }
 }
 
-fn is_empty(s: Slot) -> bool
-    ensures { λ r. ⌜ r ≡ isNothing (s .held) ⌝ }
-{
-    let h = s.held;
-    match h {
-        Held::Nothing => true,
-        Held::Running(_) => false,
-        Held::Waiting(_) => false,
-    }
-}
-
 // R55: how many slots there are up to the last that holds something.
 fn used_slots(slots: [Slot; 16]) -> usize
     ensures { λ r. ⌜ (r ≡ used slots) × (r ≤ 16) ⌝ }
@@ -124,7 +113,8 @@ fn used_slots(slots: [Slot; 16]) -> usize
     let mut n: usize = 16;
     while 0 < n {
         let k = n - 1;
-        if is_empty(slots[k]) {
+        let s = slots[k];
+        if s.is_empty() {
             n = k;
         } else {
             return n;
@@ -163,24 +153,39 @@ fn put_records(out: &mut [u8], slots: [Slot; 16], stretched: [u16; 16], n: usize
     at
 }
 
-// R23, R33, R59: the length is known before a byte is written, so that a refusal leaves the buffer alone. The contract settles the answer and the whole buffer: both parts are equations.
+// R54: the clock, the records of the first `n` slots and the new line, one after the other.
+fn put_parts(out: &mut [u8], t: Table, q: Request, n: usize)
+    requires { ⌜ (n ≤ 16) × (16 + length (slotRecords n (t .slots) (q .stretched)) ≤ length (now out)) ⌝ }
+    ensures { λ _. ⌜ now (out .exit) ≡ partsOf t q n ++ drop (16 + length (slotRecords n (t .slots) (q .stretched))) (now (out .entry)) ⌝ }
+{
+    let slots = t.slots;
+    let stretched = q.stretched;
+    put_clock(out, t.clock);
+    let at = 10 + put_records(&mut out[10..], slots, stretched, n);
+    put_request(&mut out[at..], q.need, q.period);
+}
+
+// R33, R59: the length is known before a byte is written, so that a refusal leaves the buffer alone.
+fn write_card(t: Table, q: Request, out: &mut [u8]) -> WriteAnswer
+    ensures { λ r. ⌜ saidWritten r ≡ lengthOf t q (length (now (out .entry))) ⌝ }
+    ensures { λ _. ⌜ now (out .exit) ≡ filled (cardOf t q) (now (out .entry)) (lengthOf t q (length (now (out .entry)))) ⌝ }
+{
+    let slots = t.slots;
+    let n = used_slots(slots);
+    let len = 16 + records_len(slots, n);
+    if out.len() < len {
+        return WriteAnswer::Refused(Refusal::new(13, 0));
+    }
+    put_parts(out, t, q, n);
+    WriteAnswer::Length(len)
+}
+
+// R23, R59: a waiting line is looked for before the room is. The contract settles the answer and the whole buffer: both parts are equations.
 pub fn write(t: Table, q: Request, out: &mut [u8]) -> WriteAnswer
     ensures { λ r. ⌜ (saidWritten r ≡ writeOf t q (length (now (out .entry)))) × (now (out .exit) ≡ bufferOf t q (now (out .entry))) ⌝ }
 {
     match t.lowest_waiting() {
         Which::At(k) => WriteAnswer::Refused(Refusal::new(3, k as u64)),
-        Which::None => {
-            let slots = t.slots;
-            let stretched = q.stretched;
-            let n = used_slots(slots);
-            let len = 16 + records_len(slots, n);
-            if out.len() < len {
-                return WriteAnswer::Refused(Refusal::new(13, 0));
-            }
-            put_clock(out, t.clock);
-            let at = 10 + put_records(&mut out[10..], slots, stretched, n);
-            put_request(&mut out[at..], q.need, q.period);
-            WriteAnswer::Length(len)
-        }
+        Which::None => write_card(t, q, out),
     }
 }

@@ -2,7 +2,7 @@
 use mathlib.Core.Path.{sym, ap, _∙_}
 use Rattle.table.specs.declared.Answer.{Answer}
 use Rattle.table.specs.Ask.{says}
-use Rattle.house.specs.House.{ranIn, unlessRefused, runAdmitted}
+use Rattle.house.specs.House.{ticksRun, unlessRefused, runAdmitted}
 use borrow.Author.Needs.{needs}
 use Rattle.house.proofs.run_admitted.Statement.{statement}
 use Rattle.house.proofs.run_admitted.Tie as tie
@@ -12,14 +12,14 @@ returns c =
     let n = c .before .before .before .before .args .ticks in
     let m = c .before .before .before .admit in
     c .run-table .ensures
-    ∙ ap (λ (a : Answer). unlessRefused (says a) (ranIn n (m .result .table))) (sym (c .before .enum-told .given .1))
+    ∙ ap (λ (a : Answer). unlessRefused (says a) (ticksRun n (m .result .table))) (sym (c .before .enum-told .given .1))
     ∙ ap (runAdmitted n) (m .ensures .computed)
 
 returns-2 : tie.Need-returns-2
 returns-2 c =
     let n = c .before .before .before .before .args .ticks in
     let m = c .before .before .before .admit in
-    ap (λ (a : Answer). unlessRefused (says a) (ranIn n (m .result .table))) (sym (c .before .a .given .1))
+    ap (λ (a : Answer). unlessRefused (says a) (ticksRun n (m .result .table))) (sym (c .before .a .given .1))
     ∙ ap (runAdmitted n) (m .ensures .computed)
 
 pub run-admitted-spec : {M : Type 1} → statement M

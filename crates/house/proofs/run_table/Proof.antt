@@ -1,14 +1,14 @@
 -- Each tick moves from what is left to what was counted; the measure is the ticks that are left.
 use Prim.Native.Nat.{_-_, _≤_}
 use mathlib.Core.Path.{_≡_, _∙_}
-use Rattle.house.specs.House.{more, ranIn}
+use Rattle.house.specs.House.{more, ticksRun}
 use Rattle.house.proofs.Run.{run-start, run-on, run-stop, run-end}
 use borrow.Author.Needs.{needs}
 use Rattle.house.proofs.run_table.Statement.{statement}
 use Rattle.house.proofs.run_table.Tie as tie
 
 abbrev Inv-loop : tie.InvT-loop
-Inv-loop ticks t₀ ran₀ i₀ t ran i = (i ≤ ticks) × (ran ≤ i) × (more ran (ranIn (ticks - i) t) ≡ ranIn ticks t₀)
+Inv-loop ticks t₀ ran₀ i₀ t ran i = (i ≤ ticks) × (ran ≤ i) × (more ran (ticksRun (ticks - i) t) ≡ ticksRun ticks t₀)
 
 abbrev μ-loop : tie.MeasureT-loop
 μ-loop ticks t₀ ran₀ i₀ t ran i = ticks - i
@@ -18,23 +18,26 @@ loop-holds c = (search needs, search needs, run-start (c .args .ticks) (c .args 
 
 returns : tie.Need-returns Inv-loop μ-loop
 returns c =
-    let l = c .before .before .before .before .before in
-    run-stop (c .before .before .before .before .before .before .args .ticks) (l .loop .i) (l .loop .ran) (l .loop .t) (c .before .before .before .before .loop-test .taken) (c .before .before .before .driven .ensures) _ (c .before .o2 .given .1)
+    let d = c .before .before .before in
+    let l = d .before .before in
+    run-stop (l .before .args .ticks) (l .loop .i) (l .loop .ran) (l .loop .t) (d .before .loop-test .taken) (d .driven .ensures) _ (c .before .o2 .given .1)
     ∙ l .loop .inv .2
 
 loop-again : tie.Need-loop-again Inv-loop μ-loop
 loop-again c =
-    let l = c .before .before .before .before .before .before .before in (
+    let d = c .before .before .before .before .before in
+    let l = d .before .before in
+    let n = c .before .count-of in (
       search needs,
       search needs,
-      run-on (c .before .before .before .before .before .before .before .before .args .ticks) (l .loop .i) (l .loop .ran) (l .loop .t) (c .before .before .before .before .before .before .loop-test .taken) (c .before .before .before .before .before .driven .ensures) _ (c .before .before .before .o .given .1) (c .before .count-of .result) (c .before .count-of .ensures .0)
+      run-on (l .before .args .ticks) (l .loop .i) (l .loop .ran) (l .loop .t) (d .before .loop-test .taken) (d .driven .ensures) _ (c .before .before .before .o .given .1) (n .result) (n .ensures .0)
           ∙ l .loop .inv .2,
     )
 
 returns-2 : tie.Need-returns-2 Inv-loop μ-loop
 returns-2 c =
-    run-end (c .before .before .args .ticks) (c .before .loop .i) (c .before .loop .ran) (c .before .loop .t) (c .loop-test .left)
-    ∙ c .before .loop .inv .2
+    let l = c .before in
+    run-end (l .before .args .ticks) (l .loop .i) (l .loop .ran) (l .loop .t) (c .loop-test .left) ∙ l .loop .inv .2
 
 pub run-table-spec : {M : Type 1} → statement M
 run-table-spec =

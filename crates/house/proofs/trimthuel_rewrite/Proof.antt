@@ -1,12 +1,11 @@
 -- What was read is written anew; a card that is refused leaves the buffer.
 use mathlib.Core.Path.{sym, ap, _∙_}
 use lib.ListN.{length}
-use mir.Syntax.{w64}
-use mir.Facts.{toZ-ofZ}
 use Rattle.table.specs.Words.{Said}
 use Rattle.card.specs.Card.{Card}
-use Rattle.house.specs.House.{numberOf, rewriteFor, rewrittenFor}
+use Rattle.house.specs.House.{rewriteFor, rewrittenFor}
 use Rattle.house.proofs.Said.{was-read, was-refused}
+use Rattle.house.proofs.Sign.{number-told}
 use borrow.Author.Needs.{needs}
 use Rattle.house.proofs.trimthuel_rewrite.Statement.{statement}
 use Rattle.house.proofs.trimthuel_rewrite.Tie as tie
@@ -17,7 +16,7 @@ returns c =
     let out = x .out .now in
     let p = c .before .before .before .put-card .ensures in
     let h = sym (was-read (x .card .now) (c .before .before .before .before .before .before .before .read .ensures) (c .before .before .before .before .before .enum-told .given .1)) in (
-      toZ-ofZ {w = w64} (record { sfits = c .number .ok }) ∙ c .number .ensures ∙ ap numberOf (p .0) ∙ ap (λ (s : Said Card). numberOf (rewriteFor s (length out))) h,
+      number-told (record { sfits = c .number .ok }) (c .number .ensures) (p .0 ∙ ap (λ (s : Said Card). rewriteFor s (length out)) h),
       p .1 ∙ ap (λ (s : Said Card). rewrittenFor s out) h,
     )
 
@@ -26,7 +25,7 @@ returns-2 c =
     let x = c .before .before .before .before .before .before .before .args in
     let out = x .out .now in
     let h = sym (was-refused (x .card .now) (c .before .before .before .before .read .ensures) _ (c .before .before .said .given .1)) in (
-      toZ-ofZ {w = w64} (record { sfits = c .number2 .ok }) ∙ c .number2 .ensures ∙ ap (λ (s : Said Card). numberOf (rewriteFor s (length out))) h,
+      number-told (record { sfits = c .number2 .ok }) (c .number2 .ensures) (ap (λ (s : Said Card). rewriteFor s (length out)) h),
       ap (λ (s : Said Card). rewrittenFor s out) h,
     )
 

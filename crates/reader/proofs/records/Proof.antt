@@ -14,98 +14,54 @@ Inv-loop card slots₀ stretched₀ at₀ i₀ gap₀ slots stretched at i gap =
 abbrev μ-loop : tie.MeasureT-loop
 μ-loop card slots₀ stretched₀ at₀ i₀ gap₀ slots stretched at i gap = 16 - i
 
-free-requires : tie.Need-free-requires Inv-loop μ-loop
-free-requires c κs = tt
-
 loop-holds : tie.Need-loop-holds Inv-loop μ-loop
 loop-holds c = rw (c .free .ensures) (mid-start (c .before .before .args .card .now) (omega arith))
 
-running-requires : tie.Need-running-requires Inv-loop μ-loop
-running-requires c κs = tt
+add-at : tie.Need-add-at Inv-loop μ-loop
+add-at c =
+    let b = c .before .before .before .before in
+    omega (arith, line-room (b .before .loop .inv) (b .record-at .ensures) (c .before .before .r .given .1))
 
 loop-less : tie.Need-loop-less Inv-loop μ-loop
 loop-less c =
-    let q = c .before .before .before .before .before .loop in
-    let e = sym (c .before .before .before .before .record-at .ensures) ∙ c .before .before .r .given .1 in
-    omega (arith, line-room (q .inv) e)
-
-mul-slots : tie.Need-mul-slots Inv-loop μ-loop
-mul-slots c = omega (arith, loop-less c)
-
-array-set-from-slots : tie.Need-array-set-from-slots Inv-loop μ-loop
-array-set-from-slots c = omega (arith, loop-less c)
-
-mul-stretched : tie.Need-mul-stretched Inv-loop μ-loop
-mul-stretched c = omega (arith, loop-less c)
-
-array-write-stretched : tie.Need-array-write-stretched Inv-loop μ-loop
-array-write-stretched c = omega (arith, loop-less c)
-
-add-at : tie.Need-add-at Inv-loop μ-loop
-add-at c =
-    let q = c .before .before .before .before .before .loop in
-    let e = sym (c .before .before .before .before .record-at .ensures) ∙ c .before .before .r .given .1 in
-    omega (arith, line-room (q .inv) e)
-
-add-i : tie.Need-add-i Inv-loop μ-loop
-add-i c = omega (arith, loop-less c)
+    let b = c .before .before .before .before in
+    omega (arith, line-room (b .before .loop .inv) (b .record-at .ensures) (c .before .before .r .given .1))
 
 loop-again : tie.Need-loop-again Inv-loop μ-loop
 loop-again c =
-    let q = c .before .before .before .before .before .loop in
-    let e = sym (c .before .before .before .before .record-at .ensures) ∙ c .before .before .r .given .1 in
-    rw (c .running .ensures) (mid-line (q .inv) _ _ e)
-
-loop-less-2 : tie.Need-loop-less-2 Inv-loop μ-loop
-loop-less-2 c =
-    let q = c .before .before .before .loop in
-    let e = sym (c .before .before .record-at .ensures) ∙ c .enum-told .given .1 in
-    omega (arith, free-room (q .inv) e)
+    let b = c .before .before .before .before in
+    rw (c .running .ensures) (mid-line (b .before .loop .inv) (b .record-at .ensures) _ _ (c .before .before .r .given .1))
 
 add-at-2 : tie.Need-add-at-2 Inv-loop μ-loop
-add-at-2 c =
-    let q = c .before .before .before .loop in
-    let e = sym (c .before .before .record-at .ensures) ∙ c .enum-told .given .1 in
-    omega (arith, free-room (q .inv) e)
+add-at-2 c = omega (arith, free-room (c .before .before .before .loop .inv) (c .before .before .record-at .ensures) (c .enum-told .given .1))
 
-add-i-2 : tie.Need-add-i-2 Inv-loop μ-loop
-add-i-2 c = omega (arith, loop-less-2 c)
+loop-less-2 : tie.Need-loop-less-2 Inv-loop μ-loop
+loop-less-2 c = omega (arith, free-room (c .before .before .before .loop .inv) (c .before .before .record-at .ensures) (c .enum-told .given .1))
 
 loop-again-2 : tie.Need-loop-again-2 Inv-loop μ-loop
-loop-again-2 c =
-    let q = c .before .before .before .loop in
-    let e = sym (c .before .before .record-at .ensures) ∙ c .enum-told .given .1 in
-    mid-free (q .inv) e
-
-request-of-requires : tie.Need-request-of-requires Inv-loop μ-loop
-request-of-requires c κs = tt
+loop-again-2 c = mid-free (c .before .before .before .loop .inv) (c .before .before .record-at .ensures) (c .enum-told .given .1)
 
 closed-requires : tie.Need-closed-requires Inv-loop μ-loop
 closed-requires c κs =
-    let q = c .before .before .before .before .before .before .loop in
-    let e = sym (c .before .before .before .before .before .record-at .ensures) ∙ c .before .before .before .r2 .given .1 in
-    last-room (q .inv) e
+    let b = c .before .before .before .before .before in
+    last-room (b .before .loop .inv) (b .record-at .ensures) (c .before .before .before .r2 .given .1)
 
 returns : tie.Need-returns Inv-loop μ-loop
 returns c =
-    let q = c .before .before .before .before .before .before .before .loop in
-    let e = sym (c .before .before .before .before .before .before .record-at .ensures) ∙ c .before .before .before .before .r2 .given .1 in
+    let b = c .before .before .before .before .before .before in
     let k = c .before .before .clock in
     (rw (c .before .request-of .ensures) at (c .closed .ensures))
-    ∙ ap handed (sym (mid-last (q .inv) _ _ e (k .result) (k .ensures)))
-
-refused-requires : tie.Need-refused-requires Inv-loop μ-loop
-refused-requires c κs = tt
+    ∙ ap handed (sym (mid-last (b .before .loop .inv) (b .record-at .ensures) _ _ (c .before .before .before .before .r2 .given .1) (k .result) (k .ensures)))
 
 returns-2 : tie.Need-returns-2 Inv-loop μ-loop
 returns-2 c =
-    let q = c .before .before .before .before .before .loop in
-    let e = sym (c .before .before .before .before .record-at .ensures) ∙ c .before .before .r3 .given .1 in
-    c .refused .ensures ∙ ap handed (sym (mid-refused (q .inv) _ e))
+    let b = c .before .before .before .before in
+    c .refused .ensures ∙ ap handed (sym (mid-refused (b .before .loop .inv) (b .record-at .ensures) _ (c .before .before .r3 .given .1)))
 
 pub records-spec : {M : Type 1} → statement M
 records-spec =
     tie.close
-    (tie.spec Inv-loop μ-loop free-requires loop-holds (λ c. omega arith) (λ c κs. omega arith) (λ c. search needs) running-requires mul-slots
-    array-set-from-slots mul-stretched array-write-stretched add-at add-i loop-less loop-again (λ c. search needs) add-at-2 add-i-2 loop-less-2
-    loop-again-2 (λ c. search needs) (λ c κs. omega arith) request-of-requires closed-requires returns (λ c. search needs) refused-requires returns-2)
+    (tie.spec Inv-loop μ-loop (λ c κs. tt) loop-holds (λ c. omega arith) (λ c κs. omega arith) (λ c. search needs) (λ c κs. tt)
+    (λ c. omega (arith, loop-less c)) (λ c. omega (arith, loop-less c)) (λ c. omega (arith, loop-less c)) (λ c. omega (arith, loop-less c)) add-at
+    (λ c. omega (arith, loop-less c)) loop-less loop-again (λ c. search needs) add-at-2 (λ c. omega (arith, loop-less-2 c)) loop-less-2 loop-again-2
+    (λ c. search needs) (λ c κs. omega arith) (λ c κs. tt) closed-requires returns (λ c. search needs) (λ c κs. tt) returns-2)

@@ -1,10 +1,6 @@
 -- `reply::line_len` meets its contract, in each case of the answer: the number of a refusal has 16 bits, so at most 5 digits.
-use Prim.Native.Nat.{ℕ}
-use mathlib.Core.Path.{_≡_, ap, _∙_}
 use native.Mathlib.Omega.{arith}
-use lib.ListN.{length}
 use borrow.Author.Needs.{needs}
-use Rattle.reply.specs.Line.{digits}
 use Rattle.reply.proofs.Digits.{digits-short}
 use Rattle.reply.proofs.Line.{start-length, refused-length}
 use Rattle.reply.proofs.line_len.Statement.{statement}
@@ -17,10 +13,10 @@ returns c =
 
 returns-2 : tie.Need-returns-2
 returns-2 c =
-    let b = c .before .before .before .before .a2 .given in
-    let w = c .before .before .wide .ensures in
-    let m : c .before .places2 .result ≡ length (digits (b .0 .0 .number)) = c .before .places2 .ensures .0 ∙ ap (λ (n : ℕ). length (digits n)) (w .0) in
-    (refused-length (b .0 .0) _ _ (b .1) m (c .places3 .ensures .0), omega (arith, digits-short 4 (c .before .before .wide .result) (omega arith)))
+    let w = c .before .before in
+    let b = w .before .before .a2 .given in
+    let m = c .before .places2 .ensures .0 in
+    (refused-length (b .0 .0) _ _ _ (b .1) (w .wide .ensures .0) m (c .places3 .ensures .0), omega (arith, digits-short 4 (w .wide .result) (omega arith)))
 
 pub line-len-spec : {M : Type 1} → statement M
 line-len-spec =

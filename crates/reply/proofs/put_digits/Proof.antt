@@ -20,12 +20,6 @@ loop-holds c = (c .places .ensures .0, spell-start _ _ (c .places .ensures .0) (
 loop-again : tie.Need-loop-again Inv-loop μ-loop
 loop-again c = (c .before .before .loop .inv .0, spell-on (c .before .before .loop .inv .1) (c .before .loop-test .taken) (c .digit .ensures))
 
-digit-requires-2 : tie.Need-digit-requires-2 Inv-loop μ-loop
-digit-requires-2 c κs = spell-last (c .before .loop .inv .1) (c .loop-test .left)
-
-same-length : tie.Need-same-length Inv-loop μ-loop
-same-length c = simp length-set (c .before .before .loop .inv .1 .long)
-
 returns : tie.Need-returns Inv-loop μ-loop
 returns c = (c .before .before .loop .inv .0, spell-end (c .before .before .loop .inv .1) (c .before .loop-test .left) (c .digit2 .ensures))
 
@@ -33,4 +27,5 @@ pub put-digits-spec : {M : Type 1} → statement M
 put-digits-spec =
     tie.close
     (tie.spec Inv-loop μ-loop (λ c κs. search needs) loop-holds (λ c κs. omega arith) (λ c. omega arith) (λ c. omega arith) (λ c. omega arith)
-    (λ c. omega arith) loop-again digit-requires-2 (λ c. omega arith) (λ c. omega arith) same-length returns)
+    (λ c. omega arith) loop-again (λ c κs. spell-last (c .before .loop .inv .1) (c .loop-test .left)) (λ c. omega arith) (λ c. omega arith)
+    (λ c. simp length-set (c .before .before .loop .inv .1 .long)) returns)

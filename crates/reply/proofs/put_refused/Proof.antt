@@ -4,7 +4,7 @@ use mathlib.Core.Path.{ap}
 use native.Mathlib.Omega.{arith}
 use lib.ListN.{length}
 use borrow.Author.Needs.{needs}
-use Rattle.reply.specs.Line.{digits, refused, space, newline, lineOf}
+use Rattle.reply.specs.Line.{digits, refused, space, newline, answerLine}
 use Rattle.reply.proofs.Line.{refuses-length}
 use Rattle.reply.proofs.Laid.{lay-start, lay-on}
 use Rattle.reply.proofs.put_refused.Statement.{statement}
@@ -17,34 +17,29 @@ room c =
     let x = c .before .before .args .x in
     omega (arith, refuses-length (x .number) (x .place), ap (λ (n : ℕ). length (digits n)) (c .wide .ensures .0), c .before .before .pre)
 
-add-bytes-requires : tie.Need-add-bytes-requires
-add-bytes-requires c κs = omega (arith, room (c .before .before))
-
-add-number-requires : tie.Need-add-number-requires
-add-number-requires c κs = omega (arith, room (c .before .before .before .before .before .before))
-
-add-bytes-requires-2 : tie.Need-add-bytes-requires-2
-add-bytes-requires-2 c κs = omega (arith, room (c .before .before .before .before .before .before .before .before .before .before .before))
-
-add-number-requires-2 : tie.Need-add-number-requires-2
-add-number-requires-2 c κs = omega (arith, room (c .before .before .before .before .before .before .before .before .before .before .before .before .before .before .before))
-
-add-bytes-requires-3 : tie.Need-add-bytes-requires-3
-add-bytes-requires-3 c κs = omega (arith, room (c .before .before .before .before .before .before .before .before .before .before .before .before .before .before .before .before .before .before .before .before))
-
 returns : tie.Need-returns
-unfolding lineOf
+unfolding answerLine
 returns c =
-    let a = c .before .before .before .before .before .before .before .before .before .before .before .before .before .before .before .before .before .before .before .before .before .before .before .before .before .args in
-    let wide = c .before .before .before .before .before .before .before .before .before .before .before .before .before .before .before .before .before .before .before .before .before .before .before .wide in
-    let word = lay-on refused (lay-start (a .out .now)) (c .before .before .before .before .before .before .before .before .before .before .before .before .before .before .before .before .before .before .before .before .add-bytes .ensures) in
-    let number = lay-on (digits (wide .result)) word (c .before .before .before .before .before .before .before .before .before .before .before .before .before .before .before .before .add-number .ensures) in
-    let gap = lay-on space number (c .before .before .before .before .before .before .before .before .before .before .before .add-bytes2 .ensures) in
-    let place = lay-on (digits (a .x .place)) gap (c .before .before .before .before .before .before .before .add-number2 .ensures) in
-    rw (wide .ensures .0) at (lay-on newline place (c .before .before .add-bytes3 .ensures) .same)
+    let e5 = c .before .before in
+    let e4 = e5 .before .before .before .before .before in
+    let e3 = e4 .before .before .before .before in
+    let e2 = e3 .before .before .before .before .before in
+    let e1 = e2 .before .before .before .before in
+    let w = e1 .before .before .before in
+    let a = w .before .before .args in
+    let word = lay-on refused (lay-start (a .out .now)) (e1 .add-bytes .ensures) in
+    let number = lay-on (digits (w .wide .result)) word (e2 .add-number .ensures) in
+    let gap = lay-on space number (e3 .add-bytes2 .ensures) in
+    let place = lay-on (digits (a .x .place)) gap (e4 .add-number2 .ensures) in
+    rw (w .wide .ensures .0) at (lay-on newline place (e5 .add-bytes3 .ensures) .same)
 
 pub put-refused-spec : {M : Type 1} → statement M
 put-refused-spec =
     tie.close
-    (tie.spec (λ c κs. search needs) (λ c. search needs) add-bytes-requires add-number-requires (λ c. search needs) add-bytes-requires-2
-    add-number-requires-2 (λ c. search needs) add-bytes-requires-3 (λ c. search needs) returns)
+    (tie.spec (λ c κs. search needs) (λ c. search needs) (λ c κs. omega (arith, room (c .before .before)))
+    (λ c κs. omega (arith, room (c .before .before .before .before .before .before))) (λ c. search needs)
+    (λ c κs. omega (arith, room (c .before .before .before .before .before .before .before .before .before .before .before)))
+    (λ c κs. omega (arith, room (c .before .before .before .before .before .before .before .before .before .before .before .before .before .before .before)))
+    (λ c. search needs)
+    (λ c κs. omega (arith, room (c .before .before .before .before .before .before .before .before .before .before .before .before .before .before .before .before .before .before .before .before)))
+    (λ c. search needs) returns)

@@ -1,6 +1,6 @@
 -- `reply::reply_to` meets its contract: the line is laid on 40 bytes that are 0.
 use Rattle.table.specs.Ask.{says}
-use Rattle.reply.specs.Line.{lineOf}
+use Rattle.reply.specs.Line.{answerLine}
 use Rattle.reply.proofs.Laid.{replied}
 use borrow.Author.Needs.{needs}
 use Rattle.reply.proofs.reply_to.Statement.{statement}
@@ -9,7 +9,7 @@ use Rattle.reply.proofs.reply_to.Tie as tie
 returns : tie.Need-returns
 returns c =
     let n = c .before .before .before .line-len .ensures in
-    replied (lineOf (says (c .before .before .before .before .args .a))) _ _ (n .0) (n .1) (c .before .put-line .ensures)
+    replied (answerLine (says (c .before .before .before .before .args .a))) _ _ (n .0) (n .1) (c .before .put-line .ensures)
 
 pub reply-to-spec : {M : Type 1} → statement M
 reply-to-spec =

@@ -21,12 +21,6 @@ loop-holds c =
     let h : length (a .t2) ≡ 16 = search needs in
     put-start (a .out .now) (a .t2) (a .t3) (a .n) (omega (arith, c .before .pre .0)) (c .before .pre .1)
 
-sub-put-slot : tie.Need-sub-put-slot Inv-loop μ-loop
-sub-put-slot c = omega (arith, put-room (c .before .before .loop .inv) (omega arith))
-
-part-put-slot-start : tie.Need-part-put-slot-start Inv-loop μ-loop
-part-put-slot-start c = omega (arith, put-room (c .before .before .loop .inv) (omega arith))
-
 put-slot-requires : tie.Need-put-slot-requires Inv-loop μ-loop
 put-slot-requires c κs =
     let q = c .before .before .before .loop in
@@ -42,14 +36,10 @@ loop-again c =
     let p = c .before .before .put-slot in
     put-next (c .before .before .before .before .before .before .loop .inv) (omega arith) (p .result) (p .last .0) (p .ensures .0) (p .ensures .1)
 
-same-length : tie.Need-same-length Inv-loop μ-loop
-same-length c = put-same (c .before .loop .inv)
-
-returns : tie.Need-returns Inv-loop μ-loop
-returns c = put-end (c .before .loop .inv) (omega arith)
-
 pub put-records-spec : {M : Type 1} → statement M
 put-records-spec =
     tie.close
-    (tie.spec Inv-loop μ-loop loop-holds (λ c. omega arith) (λ c. omega arith) (λ c. omega arith) (λ c. omega arith) sub-put-slot part-put-slot-start
-    (λ c. search needs) put-slot-requires add-at (λ c. omega arith) (λ c. omega arith) loop-again same-length returns)
+    (tie.spec Inv-loop μ-loop loop-holds (λ c. omega arith) (λ c. omega arith) (λ c. omega arith) (λ c. omega arith)
+    (λ c. omega (arith, put-room (c .before .before .loop .inv) (omega arith)))
+    (λ c. omega (arith, put-room (c .before .before .loop .inv) (omega arith))) (λ c. search needs) put-slot-requires add-at (λ c. omega arith)
+    (λ c. omega arith) loop-again (λ c. put-same (c .before .loop .inv)) (λ c. put-end (c .before .loop .inv) (omega arith)))

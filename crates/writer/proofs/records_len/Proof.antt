@@ -21,18 +21,13 @@ loop-holds c =
     let h : length (c .args .t1) ≡ 16 = search needs in
     (c .pre, counted-start _ _ _ (omega (arith, c .pre)))
 
-slot-len-requires : tie.Need-slot-len-requires Inv-loop μ-loop
-slot-len-requires c κs = tt
-
 add-len : tie.Need-add-len Inv-loop μ-loop
 add-len c =
-    let s = c .before .before .before .before .args .t1 in
-    let q = c .before .before .before .loop in
-    omega (arith, counted-small (q .inv .1), record-length (getD s (q .i) empty .held) 0)
+    let l = c .before .before .before in
+    omega (arith, counted-small (l .loop .inv .1), record-length (getD (l .before .args .t1) (l .loop .i) empty .held) 0)
 
 loop-again : tie.Need-loop-again Inv-loop μ-loop
 loop-again c =
-    let s = c .before .before .before .before .args .t1 in
     let q = c .before .before .before .loop in
     (q .inv .0, counted-on (q .inv .1) (omega arith) _ 0 (c .slot-len .ensures))
 
@@ -44,5 +39,5 @@ returns c =
 pub records-len-spec : {M : Type 1} → statement M
 records-len-spec =
     tie.close
-    (tie.spec Inv-loop μ-loop loop-holds (λ c. omega arith) (λ c. omega arith) slot-len-requires add-len (λ c. omega arith) (λ c. omega arith)
-    loop-again returns)
+    (tie.spec Inv-loop μ-loop loop-holds (λ c. omega arith) (λ c. omega arith) (λ c κs. tt) add-len (λ c. omega arith) (λ c. omega arith) loop-again
+    returns)

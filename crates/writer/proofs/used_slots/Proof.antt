@@ -1,7 +1,7 @@
 -- `used_slots`: no slot from n on is used.
 use borrow.Author.Needs.{needs}
 use mathlib.Core.Path.{_≡_, sym, ap, _∙_}
-use Prim.Native.Nat.{ℕ, suc, _-_, _≤_}
+use Prim.Native.Nat.{ℕ, _≤_}
 use native.Mathlib.Omega.{arith}
 use lib.ListN.{length, drop, drop-of-length-le}
 use Rattle.card.specs.Card.{used}
@@ -20,32 +20,24 @@ loop-holds c =
     let h : length (c .args .t1) ≡ 16 = search needs in
     (omega arith, h, ap used (drop-of-length-le (c .args .t1) {i = 16} (omega arith)))
 
-is-empty-requires : tie.Need-is-empty-requires Inv-loop μ-loop
-is-empty-requires c κs = tt
-
 loop-again : tie.Need-loop-again Inv-loop μ-loop
 loop-again c =
-    let s = c .before .before .before .before .before .args .t1 in
-    let q = c .before .before .before .before .loop in
-    let e : q .n ≡ suc (q .n - 1) = omega arith in
-    let u : used (drop (suc (q .n - 1)) s) ≡ 0 = ap (λ (k : ℕ). used (drop k s)) (sym e) ∙ q .inv .2 in
-    (omega arith, q .inv .1, used-less s (q .n - 1) (omega arith) (sym (c .before .is-empty .ensures) ∙ c .if1 .taken) u)
+    let l = c .before .before .before .before in
+    (omega arith, l .loop .inv .1, used-less (l .before .args .t1) (l .loop .n) (omega arith) (omega arith) (l .loop .inv .2) (sym (c .before .is-empty .ensures) ∙ c .if1 .taken))
 
 returns : tie.Need-returns Inv-loop μ-loop
 returns c =
-    let s = c .before .before .before .before .before .args .t1 in
-    let q = c .before .before .before .before .loop in
-    let e : q .n ≡ suc (q .n - 1) = omega arith in
-    let u : used (drop (suc (q .n - 1)) s) ≡ 0 = ap (λ (k : ℕ). used (drop k s)) (sym e) ∙ q .inv .2 in
-    (e ∙ sym (used-at s (q .n - 1) (omega arith) (sym (c .before .is-empty .ensures) ∙ c .if1 .left) u), omega arith)
+    let l = c .before .before .before .before in
+    (used-at (l .before .args .t1) (l .loop .n) (omega arith) (omega arith) (l .loop .inv .2) (sym (c .before .is-empty .ensures) ∙ c .if1 .left), omega arith)
 
 returns-2 : tie.Need-returns-2 Inv-loop μ-loop
 returns-2 c =
-    let e : c .before .loop .n ≡ 0 = omega arith in
-    (sym (ap (λ (k : ℕ). used (drop k (c .before .before .args .t1))) (sym e) ∙ c .before .loop .inv .2), omega arith)
+    let l = c .before in
+    let e : l .loop .n ≡ 0 = omega arith in
+    (sym (ap (λ (k : ℕ). used (drop k (l .before .args .t1))) (sym e) ∙ l .loop .inv .2), omega arith)
 
 pub used-slots-spec : {M : Type 1} → statement M
 used-slots-spec =
     tie.close
-    (tie.spec Inv-loop μ-loop loop-holds (λ c. omega arith) (λ c. omega arith) (λ c. omega arith) is-empty-requires (λ c. omega arith) loop-again
-    returns returns-2)
+    (tie.spec Inv-loop μ-loop loop-holds (λ c. omega arith) (λ c. omega arith) (λ c. omega arith) (λ c κs. tt) (λ c. omega arith) loop-again returns
+    returns-2)

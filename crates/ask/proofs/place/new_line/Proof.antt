@@ -13,4 +13,4 @@ returns-2 c = c .fresh .ensures ∙ simp (le-ltb _ _ (c .before .if1 .left))
 
 pub new-line-spec : {M : Type 1} → statement M
 new-line-spec =
-    tie.close (tie.spec returns (search needs) returns-2)
+    tie.close (tie.spec returns (λ c. search needs) returns-2)

@@ -1,0 +1,4 @@
+-- The laws of the pass: the terms of a demand sum, and the ends one by one.
+pub mod Terms
+pub mod Passing
+pub mod Edges

@@ -1,0 +1,18 @@
+-- `last_end` meets its contract: the greatest of the ends passed, by the laws of `Last`.
+use Prim.Native.Nat.{_-_}
+use borrow.Author.Needs.{needs}
+use Rattle.pass.proofs.Passing.{Last, last-start, last-on, last-end}
+use Rattle.pass.proofs.last_end.Statement.{statement}
+use Rattle.pass.proofs.last_end.Tie as tie
+
+abbrev Inv-loop : tie.InvT-loop
+Inv-loop end count last₀ i₀ last i = Last end count i last
+
+abbrev μ-loop : tie.MeasureT-loop
+μ-loop end count last₀ i₀ last i = count - i
+
+pub last-end-spec : {M : Type 1} → statement M
+last-end-spec =
+    tie.close
+    (tie.spec Inv-loop μ-loop (λ c. last-start _ _) (λ c. search needs) (λ c. search needs) (λ c. search needs) (λ c. search needs) (λ c. search needs)
+    (λ c. search last-on) (λ c. search last-end))

@@ -1,0 +1,2 @@
+-- The pass over the ends.
+pub mod Pass

@@ -1,0 +1,30 @@
+-- `slot_record`: one law for each of the marks.
+use borrow.Author.Needs.{needs}
+use mathlib.Core.Path.{sym, _∙_}
+use Rattle.card.proofs.Records.{slot-line, slot-free, slot-old, slot-unknown}
+use Rattle.reader.proofs.slot_record.Statement.{statement}
+use Rattle.reader.proofs.slot_record.Tie as tie
+
+returns : tie.Need-returns
+returns c = c .line .ensures ∙ sym (slot-line _ (sym (c .before .before .opens .ensures) ∙ c .before .if1 .taken))
+
+returns-2 : tie.Need-returns-2
+returns-2 c =
+    let b = c .before .before .before in
+    sym (slot-free _ (sym (b .before .opens .ensures) ∙ b .if1 .left) (sym (c .before .opens2 .ensures) ∙ c .if2 .taken))
+
+returns-3 : tie.Need-returns-3
+returns-3 c =
+    let f = c .before .before .before in
+    let b = f .before .before .before in
+    sym (slot-old _ (sym (b .before .opens .ensures) ∙ b .if1 .left) (sym (f .before .opens2 .ensures) ∙ f .if2 .left) (sym (c .before .opens3 .ensures) ∙ c .if3 .taken))
+
+returns-4 : tie.Need-returns-4
+returns-4 c =
+    let f = c .before .before .before in
+    let b = f .before .before .before in
+    sym (slot-unknown _ (sym (b .before .opens .ensures) ∙ b .if1 .left) (sym (f .before .opens2 .ensures) ∙ f .if2 .left) (sym (c .before .opens3 .ensures) ∙ c .if3 .left))
+
+pub slot-record-spec : {M : Type 1} → statement M
+slot-record-spec =
+    tie.close (tie.spec (λ c. search needs) (λ c. search needs) returns (λ c. search needs) returns-2 (λ c. search needs) returns-3 returns-4)
