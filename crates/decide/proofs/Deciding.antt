@@ -1,4 +1,4 @@
--- Which case of `askOf` holds, by the tests 1 to 5 that the code makes, and what they leave of the table and the request.
+-- Which case of `askOf` holds, by the tests 1 to 6 that the code makes, and what they leave of the table and the request.
 use Prim.Native.Nat.{ℕ, _+_, _-_, _^_, _≤_, _<_}
 use mathlib.Core.Path.{_≡_, ap, sym, _∙_}
 use mathlib.Core.Bool.{Bool, true, false, not}

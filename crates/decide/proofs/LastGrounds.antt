@@ -1,4 +1,4 @@
--- Which case of `fromSix` holds, by what the sums and the pass say of the lines gathered.
+-- What the sums and the pass say of the lines gathered is the answer past the first five grounds; and which case of it holds.
 use Prim.Native.Nat.{ℕ, _+_, _*_, _/_, _≤_, _<_}
 use mathlib.Core.Path.{_≡_, refl, ap, sym, _∙_}
 use mathlib.Core.Bool.{Bool, true, false, not}

@@ -1,51 +1,25 @@
 -- The pass over the ends, end by end and line by line.
-use Prim.Native.Nat.{ℕ, zero, suc, _+_, _-_, _*_, _/_, _%_, _≤_, _<_, min, max}
+use Prim.Native.Nat.{ℕ, zero, suc, _+_, _-_, _/_, _≤_, _<_, max}
 use mathlib.Core.Path.{_≡_, refl, sym, ap, _∙_}
 use mathlib.Core.Bool.{Bool, true, false, not}
 use mathlib.Core.List.{List, [], _∷_, _++_}
-use native.Mathlib.Nat.{le-trans, add-div-right, div-eq-of-lt, div-le-self, mod-lt, mul-le-mul}
+use native.Mathlib.Nat.{le-trans, add-div-right, div-eq-of-lt}
 use native.Mathlib.Numerals.{add-one}
 use native.Mathlib.Decide.{decLt, decLe}
 use native.Mathlib.Omega.{arith}
 use lib.ListN.{getD}
-use lib.Dec.{ltb, leb}
-use borrow.Author.Tests.{lt-ltb, le-ltb, leb-true, leb-false, not-true, not-false}
+use lib.Dec.{ltb}
+use borrow.Author.Tests.{lt-ltb, le-ltb}
 use Rattle.line.specs.Slots.{pick}
 use Rattle.line.specs.Ends.{countBefore, every, endsBefore, bound, anyOf, greatest}
 use Rattle.line.proofs.Search.{true-false}
 use Rattle.sums.specs.declared.Gathered.{Gathered}
-use Rattle.sums.specs.Lines.{Packed, PackedIn}
+use Rattle.sums.specs.Lines.{PackedIn}
 use Rattle.sums.specs.Weighed.{fitting}
 use Rattle.sums.proofs.Weighing.{says-fitting}
 use Rattle.pass.specs.declared.Pass.{Pass}
 use Rattle.pass.specs.Pass.{demandTo, lastTo, endsTo, passOver, shortBy, boundBy, passBy, passIn, notPassed, passOf}
-
--- R30: a point that does not pass has more demand than time gone by
-pub point-short : {sum d : ℕ} {b : Bool} → b ≡ leb sum d → not b ≡ true → d < sum
-point-short {b = b} e h = leb-false _ _ (sym e ∙ not-true b h)
-
--- R30: a point that passes has not
-pub point-passed : {sum d : ℕ} {b : Bool} → b ≡ leb sum d → not b ≡ false → sum ≤ d
-point-passed {b = b} e h = leb-true _ _ (sym e ∙ not-false b h)
-
--- ---- the bound that one end puts on the start
-
--- R14, R3: what the slack leaves over is less than the need, and what it pays for fits
-pub bound-fits : (Cn Tn s : ℕ) → 1 ≤ Cn → Tn ≤ 65535 → s ≤ 65535 → (s % Cn < Cn) × (s / Cn ≤ 65535) × ((s / Cn + 1) * Tn ≤ 65536 * 65535)
-bound-fits Cn Tn s h w l =
-    let q = div-le-self s Cn in
-    (mod-lt s h, omega arith, mul-le-mul {n₂ = 65536} {m₂ = 65535} (omega arith) w)
-
-module _ (Cn Tn last d s : ℕ) {u : ℕ} (e : u ≡ min (d + Cn - s % Cn) last) where
-  -- R14: what the slack pays for lies past the end: no bound
-  pub bound-none : u < (s / Cn + 1) * Tn → 0 ≡ bound Cn Tn last d s
-  unfolding bound
-  bound-none h = omega arith
-
-  -- R14: the bound
-  pub bound-some : (s / Cn + 1) * Tn ≤ u → u - (s / Cn + 1) * Tn ≡ bound Cn Tn last d s
-  unfolding bound
-  bound-some h = omega arith
+use Rattle.pass.proofs.LastEnd.{last-small}
 
 -- ---- one line's ends
 
@@ -238,37 +212,6 @@ module _ (short : ℕ → Bool) (f : ℕ → ℕ) where
 bound-most : (Cn Tn last d s : ℕ) → bound Cn Tn last d s ≤ last
 unfolding bound
 bound-most Cn Tn last d s = omega arith
-
--- ---- the last end
-
--- the greatest of the first i ends of n is found
-pub record Last (e : List ℕ) (n i last : ℕ) : Type 0 where
-  pub upto : i ≤ n
-  pub same : last ≡ lastTo e i
-
--- no end is passed
-pub last-start : (e : List ℕ) (n : ℕ) → Last e n 0 0
-unfolding lastTo
-last-start e n = record { upto = omega arith; same = refl }
-
-module _ {e : List ℕ} {n i last : ℕ} (v : Last e n i last) where
-  -- R15: one end more is passed
-  pub last-on : {x : ℕ} → i < n → x ≡ max last (getD e i 0) → Last e n (i + 1) x
-  unfolding lastTo
-  last-on h g = record { upto = omega arith; same = rw add-one (g ∙ ap (λ (m : ℕ). max m (getD e i 0)) (v .same)) }
-
-  -- R15: all ends are passed
-  pub last-end : n ≤ i → last ≡ lastTo e n
-  last-end h = let z : i ≡ n = omega (arith, v .upto) in v .same ∙ ap (lastTo e) z
-
-last-most : (e : List ℕ) (n : ℕ) → ((k : ℕ) → k < n → getD e k 0 ≤ 65535) → lastTo e n ≤ 65535
-unfolding lastTo
-last-most e zero h = omega arith
-last-most e (suc n) h = let a = last-most e n (λ k l. h k (omega arith)) in let b = h n (omega arith) in omega arith
-
--- R15, R3: the last end of fit lines has sixteen bits
-pub last-small : (e c n p : List ℕ) (count : ℕ) → Packed e c n p count → lastTo e count ≤ 65535
-last-small e c n p count v = last-most e count (λ k h. let w = v .each k h in omega (arith, w .ends, w .wide))
 
 -- ---- lines that are fit, and those that are not
 

@@ -1,4 +1,4 @@
--- The edges of ask, admit and the board, by computation: each limit, order and strictness with an example on each side of it.
+-- The edges of ask and admit, by computation: each limit, order and strictness with an example on each side of it.
 use Prim.Native.Nat.{ℕ, _+_, _-_, _^_}
 use mathlib.Core.Path.{_≡_, refl}
 use mathlib.Core.List.{List, [], _∷_, _++_, map}

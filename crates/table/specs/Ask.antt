@@ -1,4 +1,4 @@
--- The answer to a request, R41, computed: the tests in their order, and the least smooth start as the greatest of the bounds that the ends put on it.
+-- The answer to a request, R41, computed: the tests in their order, and past them the start that the ends leave.
 use Prim.Native.Nat.{ℕ, _+_, _-_, _*_, _/_, _^_}
 use mathlib.Core.Bool.{Bool, true, false, not}
 use mathlib.Core.List.{List}

@@ -1,4 +1,4 @@
--- The step of the pump, R44 to R48: who gets the tick, what a tick does to a line, and the refusals 15, 4, 14.
+-- The step of the pump, R44 to R48: who gets the tick, the table a tick later, and the refusals 15, 4, 14.
 use Prim.Native.Nat.{ℕ, zero, suc, _+_, _^_, _≤_, _<_}
 use mathlib.Core.Bool.{not}
 use mathlib.Core.List.{List, map}

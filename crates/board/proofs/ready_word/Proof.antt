@@ -1,4 +1,4 @@
--- `table::Table::ready_word` meets its contract: slot i sets bit i above the word of the slots below, or leaves it.
+-- `ready_word` meets its contract: slot i sets bit i above the word of the slots below, or leaves it.
 use Prim.Native.Nat.{_-_}
 use mathlib.Core.Path.{_≡_}
 use mathlib.Core.Logic.{⊎-elim}

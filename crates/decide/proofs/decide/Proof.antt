@@ -12,15 +12,6 @@ allowed c κs =
     let x = c .before .before .before .before .before .before .before .before .before .before .before .before .before .before .before .before .args in
     allowed-all (x .t) (x .q) (c .before .before .before .before .before .before .before .lowest-unsound .ensures) (c .before .before .before .before .before .enum-told4 .given .1) (c .before .before .before .before .lowest-shrunk .ensures) (c .before .before .enum-told5 .given .1)
 
-misfit : tie.Need-returns-6
-misfit c =
-    let d = c .before .before .before in
-    let x = d .before .before .before .before .before .before .before .before .before .before .before .before .before .before .args in (
-      decide-misfit (x .t) (x .q) (d .before .before .before .before .before .before .before .before .before .before .before .before .if1 .left) (d .before .before .before .before .before .before .before .before .before .before .before .lowest-empty .ensures) (d .before .before .before .before .before .before .before .before .before .enum-told2 .given .1) (d .before .before .before .before .before .before .before .before .lowest-waiting .ensures) (d .before .before .before .before .before .before .enum-told3 .given .1)
-          (d .before .before .before .before .before .lowest-unsound .ensures) (d .before .before .before .enum-told4 .given .1) (d .before .before .lowest-shrunk .ensures) (d .enum-told5 .given .1) (c .before .before .fits-period .ensures) (c .before .if2 .taken) (c .refused6 .ensures),
-      refused-near _ (c .refused6 .ensures),
-    )
-
 -- the answer of the last two calls, past the first six grounds
 answered : tie.Need-returns-7
 answered c =
@@ -40,4 +31,4 @@ decide-spec =
     (λ c. search needs) (λ c. search needs) (λ c. search needs) (λ c. (search decide-waits, search refused-near)) (λ c. search needs)
     (λ c. search needs) (λ c. search needs) (λ c. search needs) (λ c. (search decide-unsound, search refused-near)) (λ c. search needs)
     (λ c. search needs) (λ c. search needs) (λ c. search needs) (λ c. (search decide-shrunk, search refused-near)) (λ c. search needs)
-    (λ c. search needs) (λ c. search needs) misfit allowed (λ c. search needs) answered)
+    (λ c. search needs) (λ c. search needs) (λ c. (search decide-misfit, search refused-near)) allowed (λ c. search needs) answered)

@@ -1,7 +1,7 @@
 -- `last_end` meets its contract: the greatest of the ends passed, by the laws of `Last`.
 use Prim.Native.Nat.{_-_}
 use borrow.Author.Needs.{needs}
-use Rattle.pass.proofs.Passing.{Last, last-start, last-on, last-end}
+use Rattle.pass.proofs.LastEnd.{Last, last-start, last-on, last-end}
 use Rattle.pass.proofs.last_end.Statement.{statement}
 use Rattle.pass.proofs.last_end.Tie as tie
 

@@ -3,7 +3,8 @@ use Prim.Native.Nat.{_-_}
 use native.Mathlib.Omega.{arith}
 use borrow.Author.Needs.{needs}
 use Rattle.pass.specs.Pass.{demandTo}
-use Rattle.pass.proofs.Passing.{last-small, EveryLine, each-start, each-short, each-on, each-end}
+use Rattle.pass.proofs.LastEnd.{last-small}
+use Rattle.pass.proofs.Passing.{EveryLine, each-start, each-short, each-on, each-end}
 use Rattle.pass.proofs.pass_all.Statement.{statement}
 use Rattle.pass.proofs.pass_all.Tie as tie
 

@@ -3,7 +3,8 @@ use Prim.Native.Nat.{_-_, _≤_, _<_}
 use native.Mathlib.Omega.{arith}
 use borrow.Author.Needs.{needs}
 use Rattle.pass.specs.Pass.{demandTo}
-use Rattle.pass.proofs.Passing.{point-short, point-passed, OneLine, one-start, one-short, one-on, one-end}
+use Rattle.pass.proofs.Point.{point-short, point-passed}
+use Rattle.pass.proofs.Passing.{OneLine, one-start, one-short, one-on, one-end}
 use Rattle.pass.proofs.pass_line.Statement.{statement}
 use Rattle.pass.proofs.pass_line.Tie as tie
 
