@@ -30,6 +30,10 @@ unfolding answer-with
 answer-said (WriteAnswer.Length n) = refl
 answer-said (WriteAnswer.Refused r) = refl
 
+-- R71: answers that say the same are the same
+pub one-written : (a b : WriteAnswer) → saidWritten a ≡ saidWritten b → a ≡ b
+one-written a b e = sym (answer-said a) ∙ ap answer-with e ∙ answer-said b
+
 -- R59: the answer a and the buffer m that the writer's contract allows for a buffer l
 abbrev pub Written : Table → Request → List ℕ → WriteAnswer → List ℕ → Type 0
 Written t q l a m = (saidWritten a ≡ writeOf t q (length l)) × (m ≡ bufferOf t q l)
@@ -38,4 +42,4 @@ Written t q l a m = (saidWritten a ≡ writeOf t q (length l)) × (m ≡ bufferO
 pub one-writing : (t : Table) (q : Request) (l : List ℕ) (a b : WriteAnswer) (m n : List ℕ)
     → Written t q l a m → Written t q l b n → (a ≡ b) × (m ≡ n)
 one-writing t q l a b m n p r =
-    (sym (answer-said a) ∙ ap answer-with (p .0 ∙ sym (r .0)) ∙ answer-said b, p .1 ∙ sym (r .1))
+    (one-written a b (p .0 ∙ sym (r .0)), p .1 ∙ sym (r .1))

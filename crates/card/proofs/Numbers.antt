@@ -3,7 +3,7 @@ use mathlib.Core.Path.{_≡_, refl, sym, ap, ap₂, _∙_}
 use mathlib.Core.List.{List, _∷_, _++_}
 use Prim.Native.Nat.{ℕ, zero, suc, _+_, _*_, _/_, _%_, _^_, _≤_, _<_}
 use native.Mathlib.Omega.{arith}
-use native.Mathlib.Nat.{add-zero, pow-succ'}
+use native.Mathlib.Nat.{add-zero, pow-succ', mul-add-mod-self-left}
 use native.Mathlib.Numerals.{add-one}
 use lib.ListN.{length, drop, getD}
 use lib.Seq.{drop-cons, getD-drop}
@@ -55,3 +55,12 @@ value-lt (suc n) l at b = more (getD l at 0) (value n l (suc at)) (256 ^ n) (256
 -- two bytes, as the reader adds them
 pub value-two : (l : List ℕ) (at : ℕ) → getD l at 0 + getD l (at + 1) 0 * 256 ≡ value 2 l at
 value-two l at = let e : getD l (at + 1) 0 ≡ getD l (suc at) 0 = ap (λ (i : ℕ). getD l i 0) (add-one at) in omega arith
+
+-- R52: the two lowest bytes, and the others
+pub two-of : (n v : ℕ) → le 2 (v % 65536) ++ le n (v / 65536) ≡ le (suc (suc n)) v
+two-of n v =
+    let e : v / 256 ≡ 256 * (v / 65536) + v % 65536 / 256 = omega arith in
+    let a : v % 65536 % 256 ≡ v % 256 = omega arith in
+    let b : v % 65536 / 256 % 256 ≡ v / 256 % 256 = sym (ap (λ (x : ℕ). x % 256) e ∙ mul-add-mod-self-left 256 (v / 65536) (v % 65536 / 256)) in
+    let c : v / 65536 ≡ v / 256 / 256 = omega arith in
+    rw (a, b, c)

@@ -1,4 +1,3 @@
 -- The laws of the writer's loops.
-pub mod Parts
 pub mod Slots
 pub mod Whole

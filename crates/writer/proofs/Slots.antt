@@ -15,7 +15,7 @@ use Rattle.line.specs.Slots.{empty, isNothing}
 use Rattle.card.specs.Card.{slotRecord, slotRecords, oneMore, usedFrom, used}
 use Rattle.line.proofs.Search.{true-false}
 use Rattle.card.proofs.Length.{records-length}
-use Rattle.writer.proofs.Parts.{put-at}
+use Rattle.card.proofs.Parts.{put-at}
 
 used-nothing : (h : Held) (n : ℕ) → isNothing h ≡ true → usedFrom h n ≡ oneMore n
 used-nothing Nothing n e = refl

@@ -2,7 +2,7 @@
 use mathlib.Core.Path.{_≡_, refl, sym, ap, ap₂, _∙_}
 use mathlib.Core.List.{List, _++_, append-assoc}
 use mathlib.Core.Bool.{Bool}
-use Prim.Native.Nat.{ℕ, suc, _+_, _*_, _/_, _%_, _≤_, _<_}
+use Prim.Native.Nat.{ℕ, _+_, _*_, _/_, _%_, _≤_, _<_}
 use native.Mathlib.Omega.{arith}
 use native.Mathlib.Nat.{mul-add-mod-self-left, mod-eq-of-lt}
 use lib.ListN.{length, drop, replicate}
@@ -17,17 +17,10 @@ use Rattle.table.specs.Words.{slotOf, refusal, Said, gives, refuses}
 use Rattle.card.specs.Bytes.{le}
 use Rattle.card.specs.Card.{clockRecord, slotRecords, requestRecord, used, cardOf}
 use Rattle.card.specs.Answers.{lengthOf, filled, writeOf, bufferOf}
+use Rattle.card.proofs.Numbers.{two-of}
 use Rattle.card.proofs.Length.{length-card}
 use Rattle.writer.specs.Parts.{partsOf}
 use Rattle.writer.proofs.Slots.{records-same}
-
-two-of : (n v : ℕ) → le 2 (v % 65536) ++ le n (v / 65536) ≡ le (suc (suc n)) v
-two-of n v =
-    let e : v / 256 ≡ 256 * (v / 65536) + v % 65536 / 256 = omega arith in
-    let a : v % 65536 % 256 ≡ v % 256 = omega arith in
-    let b : v % 65536 / 256 % 256 ≡ v / 256 % 256 = sym (ap (λ (x : ℕ). x % 256) e ∙ mul-add-mod-self-left 256 (v / 65536) (v % 65536 / 256)) in
-    let c : v / 65536 ≡ v / 256 / 256 = omega arith in
-    rw (a, b, c)
 
 -- the clock's eight bytes, by the numbers that the code makes of it
 pub by-twos : (v : ℕ) → v < 18446744073709551616

@@ -3,7 +3,7 @@ use mathlib.Core.Path.{refl, ap, _∙_}
 use mathlib.Core.List.{List, _++_}
 use native.Mathlib.Omega.{arith}
 use Rattle.card.specs.Bytes.{le, CK}
-use Rattle.writer.proofs.Parts.{put-at}
+use Rattle.card.proofs.Parts.{put-at}
 use Prim.Native.Nat.{ℕ, _/_, _%_}
 use lib.ListN.{drop}
 use Rattle.writer.proofs.Whole.{by-twos}

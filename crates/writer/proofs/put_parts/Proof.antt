@@ -6,9 +6,8 @@ use Prim.Native.Nat.{ℕ, _+_, _-_}
 use native.Mathlib.Omega.{arith}
 use lib.ListN.{length, drop, length-drop}
 use Rattle.card.specs.Card.{clockRecord, slotRecords, requestRecord}
-use Rattle.card.proofs.Parts.{part-all}
+use Rattle.card.proofs.Parts.{part-all, put-at}
 use Rattle.writer.specs.Parts.{partsOf}
-use Rattle.writer.proofs.Parts.{put-at}
 use Rattle.writer.proofs.put_parts.Statement.{statement}
 use Rattle.writer.proofs.put_parts.Tie as tie
 

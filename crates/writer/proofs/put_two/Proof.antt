@@ -2,7 +2,7 @@
 use mathlib.Core.Path.{refl}
 use native.Mathlib.Omega.{arith}
 use Rattle.card.specs.Bytes.{le}
-use Rattle.writer.proofs.Parts.{put-at}
+use Rattle.card.proofs.Parts.{put-at}
 use Rattle.writer.proofs.put_two.Statement.{statement}
 use Rattle.writer.proofs.put_two.Tie as tie
 

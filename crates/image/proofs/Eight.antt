@@ -1,0 +1,87 @@
+-- Four numbers of two bytes as one number of eight, and back (R81).
+use mathlib.Core.Path.{_≡_, sym, ap, _∙_}
+use mathlib.Core.List.{List, _∷_, _++_}
+use Prim.Native.Nat.{ℕ, suc, _+_, _*_, _/_, _%_, _<_}
+use native.Mathlib.Omega.{arith}
+use lib.ListN.{drop}
+use borrow.Author.Tests.{ne-eqb}
+use Rattle.line.specs.declared.Run.{Run}
+use Rattle.line.specs.declared.Wait.{Wait}
+use Rattle.line.specs.declared.Held.{Held}
+use Rattle.line.specs.declared.Held.the-variants.{Nothing, Running, Waiting}
+use Rattle.line.specs.declared.Slot.{Slot}
+use Rattle.card.specs.Bytes.{le, value}
+use Rattle.card.proofs.Numbers.{two-of}
+use Rattle.image.specs.Image.{slotBytes}
+use Rattle.image.specs.Loading.{byte, FourNarrow, heldIn}
+
+-- a number of two bytes below others
+two-more : (n a v : ℕ) → a < 65536 → le (suc (suc n)) (a + 65536 * v) ≡ le 2 a ++ le n v
+two-more n a v h =
+    let low : (a + 65536 * v) % 65536 ≡ a = omega arith in
+    let high : (a + 65536 * v) / 65536 ≡ v = omega arith in
+    sym (rw (low, high) at (two-of n (a + 65536 * v)))
+
+-- R81: one number in eight bytes is four in two bytes each
+pub four-is : (a b c d : ℕ) → a < 65536 → b < 65536 → c < 65536
+    → le 8 (a + 65536 * (b + 65536 * (c + 65536 * d))) ≡ le 2 a ++ (le 2 b ++ (le 2 c ++ le 2 d))
+four-is a b c d ha hb hc =
+    two-more 6 a (b + 65536 * (c + 65536 * d)) ha
+    ∙ ap (λ (x : List ℕ). le 2 a ++ x) (two-more 4 b (c + 65536 * d) hb ∙ ap (λ (x : List ℕ). le 2 b ++ x) (two-more 2 c d hc))
+
+value-more : (n : ℕ) (l : List ℕ) (at : ℕ) → value (suc (suc n)) l at ≡ value 2 l at + 65536 * value n l (suc (suc at))
+value-more n l at = omega arith
+
+-- the four numbers, as the code takes them out of the one
+module _ (l : List ℕ) (h : FourNarrow l) {v : ℕ} (e : v ≡ value 8 l 1) where
+  first : v % 65536 ≡ value 2 l 1
+  first = omega (arith, value-more 6 l 1, h .0)
+
+  rest : v / 65536 ≡ value 6 l 3
+  rest = omega (arith, value-more 6 l 1, h .0)
+
+  second : v / 65536 % 65536 ≡ value 2 l 3
+  second = omega (arith, rest, value-more 4 l 3, h .1)
+
+  half : v / 4294967296 ≡ value 4 l 5
+  half = omega (arith, rest, value-more 4 l 3, h .1)
+
+  third : v / 4294967296 % 65536 ≡ value 2 l 5
+  third = omega (arith, half, value-more 2 l 5, h .2)
+
+  -- the last of the four
+  pub fourth : v / 281474976710656 % 65536 ≡ value 2 l 7
+  fourth = omega (arith, half, value-more 2 l 5, h .2, h .3)
+
+  -- R81: a slot of kind 1 holds the running line of the four numbers
+  pub running-in : byte l 0 ≡ 1 → {n p a r : ℕ} → n ≡ v % 65536 → p ≡ v / 65536 % 65536 → a ≡ v / 4294967296 % 65536 → r ≡ v / 281474976710656 % 65536
+      → _≡_ {A = Slot} (record { held = Running (record { need = n; period = p; age = a; remaining = r }) }) (record { held = heldIn l })
+  unfolding heldIn
+  running-in k en ep ea er = rw (k, en ∙ first, ep ∙ second, ea ∙ third, er ∙ fourth)
+
+  -- R81: a slot of kind 2 holds the waiting line of the first three
+  pub waiting-in : byte l 0 ≡ 2 → {n p w : ℕ} → n ≡ v % 65536 → p ≡ v / 65536 % 65536 → w ≡ v / 4294967296 % 65536
+      → _≡_ {A = Slot} (record { held = Waiting (record { need = n; period = p; wait = w }) }) (record { held = heldIn l })
+  unfolding heldIn
+  waiting-in k en ep ew = rw (k, en ∙ first, ep ∙ second, ew ∙ third)
+
+-- R81: a slot of any other kind holds nothing
+pub nothing-in : (l : List ℕ) → (byte l 0 ≡ 1 → ⊥) → (byte l 0 ≡ 2 → ⊥) → _≡_ {A = Slot} (record { held = Nothing }) (record { held = heldIn l })
+unfolding heldIn
+nothing-in l p q = rw (ne-eqb (byte l 0) 1 p, ne-eqb (byte l 0) 2 q)
+
+-- nine bytes were put into a buffer that held l before
+module _ (h : Held) (l y : List ℕ) where
+  -- R81: for a slot that holds nothing
+  pub put-nothing : h ≡ Nothing → y ≡ (0 ∷ le 8 0) ++ drop 9 l → y ≡ slotBytes h ++ drop 9 l
+  put-nothing e q = q ∙ ap (λ (g : Held). slotBytes g ++ drop 9 l) (sym e)
+
+  -- R81: for a running line
+  pub put-running : (r : Run) (v : ℕ) → h ≡ Running r → le 8 v ≡ le 2 (r .need) ++ (le 2 (r .period) ++ (le 2 (r .age) ++ le 2 (r .remaining)))
+      → y ≡ (1 ∷ le 8 v) ++ drop 9 l → y ≡ slotBytes h ++ drop 9 l
+  put-running r v e f q = q ∙ ap (λ (x : List ℕ). (1 ∷ x) ++ drop 9 l) f ∙ ap (λ (g : Held). slotBytes g ++ drop 9 l) (sym e)
+
+  -- R81: for a waiting line
+  pub put-waiting : (w : Wait) (v : ℕ) → h ≡ Waiting w → le 8 v ≡ le 2 (w .need) ++ (le 2 (w .period) ++ (le 2 (w .wait) ++ le 2 0))
+      → y ≡ (2 ∷ le 8 v) ++ drop 9 l → y ≡ slotBytes h ++ drop 9 l
+  put-waiting w v e f q = q ∙ ap (λ (x : List ℕ). (2 ∷ x) ++ drop 9 l) f ∙ ap (λ (g : Held). slotBytes g ++ drop 9 l) (sym e)

@@ -1,0 +1,23 @@
+-- `slot_right`: each kind has its law, and no other kind is right.
+use borrow.Author.Needs.{needs}
+use mathlib.Core.Path.{refl}
+use native.Mathlib.Omega.{arith}
+use Rattle.line.proofs.Search.{true-false}
+use Rattle.image.proofs.Judging.{right-nothing, right-running, right-waiting}
+use Rattle.image.proofs.judge.slot_right.Statement.{statement}
+use Rattle.image.proofs.judge.slot_right.Tie as tie
+
+returns : tie.Need-returns
+returns c t = right-nothing (c .before .before .before .before .args .s .now) (omega arith) (c .before .eight .ensures) refl t
+
+returns-2 : tie.Need-returns-2
+returns-2 c t = right-running (c .before .before .before .before .args .s .now) (omega arith)
+
+returns-3 : tie.Need-returns-3
+returns-3 c t = right-waiting (c .before .before .before .before .args .s .now) (omega arith) (c .before .eight .ensures) refl t
+
+returns-4 : tie.Need-returns-4
+returns-4 c t = absurd (true-false t refl)
+
+pub slot-right-spec : {M : Type 1} → statement M
+slot-right-spec = tie.close (tie.spec (λ c. search needs) (λ c κs. search needs) returns returns-2 returns-3 returns-4)

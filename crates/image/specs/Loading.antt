@@ -1,0 +1,93 @@
+-- Loading: which byte of an image is wrong, and the table that stands in it where none is.
+use Prim.Native.Nat.{ℕ, zero, suc, _+_, _<_}
+use mathlib.Core.Bool.{Bool}
+use mathlib.Core.List.{List, [], _∷_}
+use mathlib.Core.Option.{Option, none, some}
+use lib.ListN.{length, drop, getD}
+use lib.Dec.{eqb, leb, ltb}
+use Rattle.line.specs.declared.Run.{Run}
+use Rattle.line.specs.declared.Wait.{Wait}
+use Rattle.line.specs.declared.Held.{Held}
+use Rattle.line.specs.declared.Held.the-variants.{Nothing, Running, Waiting}
+use Rattle.line.specs.declared.Slot.{Slot}
+use Rattle.line.specs.Slots.{pick, both, orElse, lowest}
+use Rattle.table.specs.declared.Table.{Table}
+use Rattle.table.specs.Words.{refusal, Said, gives, refuses}
+use Rattle.card.specs.Bytes.{value}
+use Rattle.image.specs.Image.{version, size}
+
+-- R81: the byte at an offset; one that is not there counts as 0
+abbrev pub byte : List ℕ → (at : ℕ) → ℕ
+byte l at = getD l at 0
+
+-- R81, R83: from which of its nine bytes on a slot of this kind has zeros only. Of a kind above 2 there is none: its first byte is wrong.
+unfoldable pub blankFrom : (kind : ℕ) → ℕ
+blankFrom k = pick (eqb k 0) 1 (pick (eqb k 1) 9 (pick (eqb k 2) 7 0))
+
+-- R83: byte i of the slot in front is not 0 where it should be
+abbrev pub isWrong : List ℕ → ℕ → Bool
+isWrong l i = both (leb (blankFrom (byte l 0)) i) (ltb 0 (byte l i))
+
+-- R83: the lowest wrong byte of the slot in front
+abbrev pub slotWrong : List ℕ → Option ℕ
+slotWrong l = lowest (isWrong l) 9
+
+-- so many bytes further on
+abbrev pub onBy : ℕ → Option ℕ → Option ℕ
+onBy k none = none
+onBy k (some i) = some (k + i)
+
+-- R83: the lowest wrong byte of n slots, the first of them at an offset
+unfoldable pub slotsWrong : (n at : ℕ) → List ℕ → Option ℕ
+slotsWrong zero at l = none
+slotsWrong (suc n) at l = orElse (onBy at (slotWrong l)) (slotsWrong n (at + 9) (drop 9 l))
+
+-- R83: another version
+abbrev pub versionWrong : List ℕ → Option ℕ
+versionWrong l = pick (eqb (byte l 0) version) none (some 0)
+
+-- R83: another length, at the lesser of the two
+unfoldable pub lengthWrong : (wanted given : ℕ) → Option ℕ
+lengthWrong m n = pick (eqb n m) none (some (pick (ltb n m) n m))
+
+-- R83: the lowest offset at which an image of n slots is wrong. What is wrong with a byte stands before the image's end.
+unfoldable pub wrongIn : (n : ℕ) → List ℕ → Option ℕ
+wrongIn n l = orElse (versionWrong l) (orElse (slotsWrong n 9 (drop 9 l)) (lengthWrong (size n) (length l)))
+
+-- R3: the four numbers after the first byte have sixteen bits, as every two bytes have
+abbrev pub FourNarrow : List ℕ → Type 0
+FourNarrow l = (value 2 l 1 < 65536) × (value 2 l 3 < 65536) × (value 2 l 5 < 65536) × (value 2 l 7 < 65536)
+
+-- R81: the running line in front
+abbrev pub runIn : List ℕ → Run
+runIn l = record { need = value 2 l 1; period = value 2 l 3; age = value 2 l 5; remaining = value 2 l 7 }
+
+-- R81: the waiting line in front
+abbrev pub waitIn : List ℕ → Wait
+waitIn l = record { need = value 2 l 1; period = value 2 l 3; wait = value 2 l 5 }
+
+-- R81: what the slot in front holds
+unfoldable pub heldIn : List ℕ → Held
+heldIn l = pick (eqb (byte l 0) 1) (Running (runIn l)) (pick (eqb (byte l 0) 2) (Waiting (waitIn l)) Nothing)
+
+-- R81: n slots
+abbrev pub slotsIn : (n : ℕ) → List ℕ → List Slot
+slotsIn zero l = []
+slotsIn (suc n) l = record { held = heldIn l } ∷ slotsIn n (drop 9 l)
+
+-- R81: the clock and n slots
+abbrev pub tableIn : (n : ℕ) → List ℕ → Table
+tableIn n l = record { clock = value 8 l 1; slots = slotsIn n (drop 9 l) }
+
+-- R31, R83: refused as broken where a byte is wrong
+abbrev pub unlessWrong : Option ℕ → Table → Said Table
+unlessWrong none t = gives t
+unlessWrong (some at) t = refuses (refusal 11 at)
+
+-- R83: what any bytes are as the image of a table with n slots
+unfoldable pub loadWith : (n : ℕ) → List ℕ → Said Table
+loadWith n l = unlessWrong (wrongIn n l) (tableIn n l)
+
+-- R83: for sixteen slots
+abbrev pub loadOf : List ℕ → Said Table
+loadOf l = loadWith 16 l

@@ -1,0 +1,65 @@
+// The slots in an image, one after the other, and the whole image written.
+ghost use mathlib.Core.Path.{_≡_};
+ghost use mathlib.Core.List.{_++_};
+ghost use Prim.Native.Nat.{_+_, _≤_};
+ghost use lib.ListN.{length, drop};
+ghost use Rattle.line.specs.Slots.{empty};
+ghost use Rattle.image.specs.Image.{slotsBytes, imageOf};
+ghost use Rattle.image.specs.Loading.{heldIn, slotsIn};
+use line::Held;
+use line::Slot;
+use table::Table;
+
+fn free() -> Slot
+    ensures { λ r. ⌜ r ≡ empty ⌝ }
+{
+    Slot {
+        held: Held::Nothing,
+    }
+}
+
+// The slot at an offset.
+fn slot_at(image: &[u8], at: usize) -> Slot
+    requires { ⌜ at + 9 ≤ length (now image) ⌝ }
+    ensures { λ r. ⌜ r ≡ record { held = heldIn (drop at (now (image .entry))) } ⌝ }
+{
+    crate::fields::slot_in(&image[at..])
+}
+
+// R81: the sixteen slots.
+pub(crate) fn slots_in(image: &[u8]) -> [Slot; 16]
+    requires { ⌜ 153 ≤ length (now image) ⌝ }
+    ensures { λ r. ⌜ r ≡ slotsIn 16 (drop 9 (now (image .entry))) ⌝ }
+{
+    let mut slots = [free(); 16];
+    let mut k: usize = 0;
+    while k < 16 {
+        let at = 9 + 9 * k;
+        slots[k] = slot_at(image, at);
+        k = k + 1;
+    }
+    slots
+}
+
+// R81: the sixteen slots from the buffer's start on.
+fn put_slots(out: &mut [u8], slots: [Slot; 16])
+    requires { ⌜ 144 ≤ length (now out) ⌝ }
+    ensures { λ _. ⌜ now (out .exit) ≡ slotsBytes slots ++ drop 144 (now (out .entry)) ⌝ }
+{
+    let mut k: usize = 0;
+    while k < 16 {
+        let at = 9 * k;
+        crate::fields::put_slot(&mut out[at..], slots[k]);
+        k = k + 1;
+    }
+}
+
+// R81: the version and the clock, then the slots.
+pub(crate) fn put_image(t: Table, out: &mut [u8])
+    requires { ⌜ 153 ≤ length (now out) ⌝ }
+    ensures { λ _. ⌜ now (out .exit) ≡ imageOf t ++ drop 153 (now (out .entry)) ⌝ }
+{
+    let slots = t.slots;
+    crate::fields::put_nine(out, 1, t.clock);
+    put_slots(&mut out[9..], slots);
+}
