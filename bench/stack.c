@@ -1,10 +1,10 @@
 /*
- * stack CARD...: the bytes of stack that each function of the boundary uses, the greatest over the cards.
+ * stack CARD...: the bytes of stack that each function of the boundary uses, the greatest over the cards: with the
+ * table of each, with the one that its request leaves, and with those of the ticks after that while the new line waits.
  *
- * Each call is made on a stack of its own that was painted before. An empty function of the same shape is measured
- * likewise and its use taken off, so that what is left is the function's own and that of what it calls.
+ * Each call is made on a stack of its own that was painted before. An empty function is called with the same arguments
+ * and its use taken off, so that what is left is the function's own and that of what it calls.
  */
-#include <inttypes.h>
 #include <stdio.h>
 #include <stdlib.h>
 #include <string.h>
@@ -15,132 +15,166 @@
 #define STACK_SIZE 65536
 #define TICKS 1000
 
-typedef int64_t lent_fn(const uint8_t *card, size_t card_len, uint8_t *out, size_t out_len);
-typedef int64_t run_fn(const uint8_t *card, size_t card_len, uint32_t ticks);
-
-/* One call: of `lent`, or where that is null of `run`. */
-struct call {
-    lent_fn *lent;
-    run_fn *run;
-    const uint8_t *card;
-    size_t len;
-    uint8_t paint;
+/* What the functions are called with. */
+struct scene {
+    uint8_t card[TRIMTHUEL_CARD_MAX + 1];
+    size_t card_len;
+    uint8_t table[TRIMTHUEL_TABLE_SIZE];
+    uint16_t request[TRIMTHUEL_REQUEST_SIZE];
 };
+
+typedef void any_fn(void);
 
 static uint8_t stack[STACK_SIZE];
 static uint8_t out[TRIMTHUEL_CARD_MAX];
-static struct call now;
+static struct scene now;
+static any_fn *volatile called;
+static any_fn *make_call;
 static volatile size_t untouched;
-static volatile int64_t answer;
+static volatile uint8_t paint;
 
-static int64_t empty_lent(const uint8_t *card, size_t card_len, uint8_t *lent, size_t lent_len)
+/* The empty functions. On x86-64 the caller clears its arguments, so that they may be called with any. */
+static struct trimthuel_result no_result(void)
 {
-    return card_len > lent_len || card == lent;
+    struct trimthuel_result nothing = {0, 0, 0};
+
+    return nothing;
 }
 
-static int64_t empty_run(const uint8_t *card, size_t card_len, uint32_t ticks)
+static uint32_t no_number(void)
 {
-    return card_len > ticks || card == NULL;
+    return 0;
 }
+
+#define TABLE now.table, sizeof now.table
+#define CARD now.card, now.card_len
+#define OUT out, sizeof out
+#define REQUEST now.request[TRIMTHUEL_SLOTS], now.request[TRIMTHUEL_SLOTS + 1], now.request
+
+/* Each function of the boundary, the empty one that answers likewise, and the arguments. */
+#define FUNCTIONS(F)                                  \
+    F(version, no_number)                             \
+    F(lamp, no_number, 15)                            \
+    F(empty, no_result, TABLE)                        \
+    F(ask, no_result, TABLE, REQUEST)                 \
+    F(admit, no_result, TABLE, REQUEST)               \
+    F(step, no_result, TABLE)                         \
+    F(ready, no_result, TABLE)                        \
+    F(write_card, no_result, TABLE, REQUEST, OUT)     \
+    F(read_card, no_result, CARD, TABLE, now.request) \
+    F(answer, no_result, CARD, OUT)                   \
+    F(rewrite, no_result, CARD, OUT)                  \
+    F(run, no_result, CARD, TICKS)
+
+/* Calls what is to be called now, the function or the empty one, as the function is called. */
+#define CALL(name, twin, ...)                                       \
+    static void call_##name(void)                                   \
+    {                                                               \
+        (void)((__typeof__(&trimthuel_##name))called)(__VA_ARGS__); \
+    }
+#define ROW(name, twin, ...) {"trimthuel_" #name, call_##name, (any_fn *)trimthuel_##name, (any_fn *)twin, 0},
+
+FUNCTIONS(CALL)
+
+static struct function {
+    const char *name;
+    any_fn *call, *own, *twin;
+    size_t most;
+} functions[] = {FUNCTIONS(ROW)};
+
+#define FUNCTION_COUNT (sizeof functions / sizeof *functions)
 
 /* Runs on the painted stack. It scans there itself: the way back to the caller uses that stack too. */
-static void make_call(void)
+static void call_and_scan(void)
 {
     const volatile uint8_t *painted = stack;
     size_t k = 0;
 
-    if (now.lent != NULL)
-        answer = now.lent(now.card, now.len, out, sizeof out);
-    else
-        answer = now.run(now.card, now.len, TICKS);
-    while (k < STACK_SIZE && painted[k] == now.paint)
+    make_call();
+    while (k < STACK_SIZE && painted[k] == paint)
         k++;
     untouched = k;
 }
 
-/* The bytes of stack that a call touches, from the top of the stack on. */
-static size_t touched(struct call call)
+/* The bytes of stack that a call touches, from the top of the stack on. The scene is then as it was. */
+static size_t touched(any_fn *fn)
 {
     static ucontext_t here, there;
+    struct scene before = now;
 
-    now = call;
-    memset(stack, call.paint, sizeof stack);
+    called = fn;
+    memset(stack, paint, sizeof stack);
     if (getcontext(&there) != 0)
         exit(EXIT_FAILURE);
     there.uc_stack.ss_sp = stack;
     there.uc_stack.ss_size = sizeof stack;
     there.uc_link = &here;
-    makecontext(&there, make_call, 0);
+    makecontext(&there, call_and_scan, 0);
     if (swapcontext(&here, &there) != 0)
         exit(EXIT_FAILURE);
+    now = before;
     return STACK_SIZE - untouched;
 }
 
 /* What the call uses more than an empty one, with two paints: a byte may be written in the colour of one of them. */
-static size_t used(struct call call)
+static void measure(struct function *function)
 {
     static const uint8_t paints[] = {0xA5, 0x5A};
-    size_t most = 0;
 
+    make_call = function->call;
+    /* Not measured: the first call of memcpy may stop to link it. */
+    (void)touched(function->own);
     for (size_t i = 0; i < sizeof paints; i++) {
-        struct call empty = call;
         size_t whole, bare;
 
-        call.paint = empty.paint = paints[i];
-        if (call.lent != NULL)
-            empty.lent = empty_lent;
-        else
-            empty.run = empty_run;
-        whole = touched(call);
-        bare = touched(empty);
-        if (whole > bare && whole - bare > most)
-            most = whole - bare;
+        paint = paints[i];
+        whole = touched(function->own);
+        bare = touched(function->twin);
+        if (whole > bare && whole - bare > function->most)
+            function->most = whole - bare;
     }
-    return most;
 }
 
-/* The greatest use over the cards, or -1 if a card cannot be read. */
-static long greatest(struct call call, char **paths, int count)
+static void measure_all(void)
 {
-    static uint8_t card[TRIMTHUEL_CARD_MAX + 1];
-    size_t most = 0;
+    for (size_t i = 0; i < FUNCTION_COUNT; i++)
+        measure(&functions[i]);
+}
 
-    for (int i = 0; i < count; i++) {
-        FILE *file = fopen(paths[i], "rb");
+/* R59: the writer refuses a waiting line before anything else. */
+static int line_waits(void)
+{
+    return trimthuel_write_card(TABLE, REQUEST, OUT).number == 3;
+}
 
-        if (file == NULL) {
-            perror(paths[i]);
-            return -1;
-        }
-        call.card = card;
-        call.len = fread(card, 1, sizeof card, file);
-        fclose(file);
-        /* Not measured: the first call of memcpy may stop to link it. */
-        (void)touched(call);
-        size_t one = used(call);
-        if (one > most)
-            most = one;
-    }
-    return (long)most;
+/* A card that does not read leaves the empty table and a request of zeros. */
+static void measure_card(void)
+{
+    (void)trimthuel_empty(TABLE);
+    memset(now.request, 0, sizeof now.request);
+    (void)trimthuel_read_card(CARD, TABLE, now.request);
+    measure_all();
+    if (trimthuel_admit(TABLE, REQUEST).number != 0)
+        return;
+    do
+        measure_all();
+    while (trimthuel_step(TABLE).number == 0 && line_waits());
 }
 
 int main(int argc, char **argv)
 {
-    static const struct {
-        const char *name;
-        struct call call;
-    } functions[] = {
-        {"trimthuel_answer", {.lent = trimthuel_answer}},
-        {"trimthuel_rewrite", {.lent = trimthuel_rewrite}},
-        {"trimthuel_run", {.run = trimthuel_run}},
-    };
+    for (int i = 1; i < argc; i++) {
+        FILE *file = fopen(argv[i], "rb");
 
-    for (size_t i = 0; i < sizeof functions / sizeof *functions; i++) {
-        long most = greatest(functions[i].call, argv + 1, argc - 1);
-
-        if (most < 0)
+        if (file == NULL) {
+            perror(argv[i]);
             return EXIT_FAILURE;
-        printf("%s %ld\n", functions[i].name, most);
+        }
+        now.card_len = fread(now.card, 1, sizeof now.card, file);
+        fclose(file);
+        measure_card();
     }
+    for (size_t i = 0; i < FUNCTION_COUNT; i++)
+        printf("%s %zu\n", functions[i].name, functions[i].most);
     return EXIT_SUCCESS;
 }

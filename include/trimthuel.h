@@ -1,26 +1,23 @@
 /*
- * The pump's boundary for C: numbers and byte buffers only. The rules are those of docs/RULES.md.
+ * The pump's boundary for C and C++: numbers and byte buffers only. The rules, R1 to R93, are those of
+ * docs/RULES.md.
  *
- * A card is the byte form of a table of lines and a request (R52 to R55). No function here asks
- * anything of its bytes: any bytes of any length may be handed in. Nothing is kept after a call,
- * nothing is allocated, and no byte but those of the lent buffer is written.
+ * A table of lines stands in 153 bytes that the caller keeps, its image (R81). A card is a table and a
+ * request as bytes (R52 to R55). A request is the need and the period of a new line, and a stretched
+ * period for each slot; the entry of a slot that holds no running line is never looked at (R6).
  *
- * Every function answers one number (R63). A number of 0 or above is what was asked for. A number
- * below 0 is a refusal, minus its number, and leaves every byte of the lent buffer as it was (R17).
- * Refusal n is rule R(20 + n) of docs/RULES.md:
+ * Any bytes of any length may be handed in as an image or a card: what is broken is refused. Every call
+ * answers a result, or a plain number where nothing can be refused. A refusal leaves every lent byte as
+ * it was (R17), and bytes after what is written stay as they were.
  *
- *    -1  the clock is too late to ask            -8  more than all of the pump is asked for
- *    -2  no slot is empty                        -9  the lines are behind their shares
- *    -3  a line still waits                     -10  the running lines alone come too late
- *    -4  a line's numbers are unsound           -11  a broken card
- *    -5  a period would be shortened            -12  an old-order mark on a card
- *    -6  the new line does not fit its period   -13  the buffer is too short
- *    -7  the frame is above 1,000,000           -14  a period ended short
- *                                               -15  the clock's last tick
+ * What a caller owes: each pointer is good for its length and not null, a length of 0 included; the
+ * pointers to numbers of 16 bits are aligned for them; no buffer that is written overlaps another.
  *
- * The library is libhouse.a (`rt staticlib house`), for x86-64. What a caller owes: each pointer is
- * good for its length and not null, a length of 0 included, and the lent buffer does not overlap
- * the card.
+ * The library is libhouse.a (`rt staticlib house`), for x86-64. It has no state of its own, allocates
+ * nothing, and calls nothing but memcpy and its like: any thread and any interrupt handler may call it
+ * at any time, each with buffers of its own. As the ABI of x86-64 allows, it uses the SSE registers and
+ * the 128 bytes below the stack pointer: an interrupt on the same stack has to spare both.
+ * docs/BENCHMARKS.md has the stack that each function was seen to use.
  */
 #ifndef TRIMTHUEL_H
 #define TRIMTHUEL_H
@@ -32,38 +29,130 @@
 extern "C" {
 #endif
 
-/* R55: no card that reads is longer, and no card that is written. */
+/* R93: of the boundary that this header declares. The library's own is trimthuel_version(). */
+#define TRIMTHUEL_VERSION 1
+
+/* R81: of the layout of an image, its first byte. */
+#define TRIMTHUEL_IMAGE_VERSION 1
+
+/* R2: slots of a table. */
+#define TRIMTHUEL_SLOTS 16
+
+/* R81: bytes of an image. */
+#define TRIMTHUEL_TABLE_SIZE 153
+
+/* R6: numbers of a request: sixteen stretched periods, then need and period. */
+#define TRIMTHUEL_REQUEST_SIZE 18
+
+/* R55: bytes of the longest card. */
 #define TRIMTHUEL_CARD_MAX 208
 
-/* R61: no answer line is longer, its newline included. */
+/* R61: bytes of the longest answer line, its newline included. */
 #define TRIMTHUEL_LINE_MAX 40
 
-/*
- * R64: writes the answer line of a card to the start of `out`, ended by a newline; no zero byte
- * follows. It is the reader's refusal or what ask answers (R60), in the form of R61: `release 13`, or
- * `refused 4 2` with the number first and then the place. Bytes after the line stay as they were.
- *
- * Answers the line's length in bytes, or -13 if `out_len` is less than that. -13 is the only number
- * below 0: any other refusal is a line.
- */
-int64_t trimthuel_answer(const uint8_t *card, size_t card_len, uint8_t *out, size_t out_len);
+/* R63: the slot in a result that is none. */
+#define TRIMTHUEL_NO_SLOT 255
 
 /*
- * R65: reads a card and writes it anew to the start of `out`. What is written is the card, byte for
- * byte (R72); bytes after it stay as they were.
- *
- * Answers the card's length in bytes, or -11 or -12 if it is refused by the reader, or -13 if
- * `out_len` is less than its length.
+ * R63: what a call answers. Where the number is 0 it is granted, and the value is what was asked for;
+ * the place is 0 unless the function says otherwise. Else the number is a refusal's, the place is the
+ * slot or the byte offset that it speaks of or 0 (R21 to R35), and the value is 0.
  */
-int64_t trimthuel_rewrite(const uint8_t *card, size_t card_len, uint8_t *out, size_t out_len);
+struct trimthuel_result {
+    uint64_t number;
+    uint64_t place;
+    uint64_t value;
+};
+
+/* R21 to R35: why, in words. Refusal n is rule R(20 + n). */
+static inline const char *trimthuel_why(uint64_t number)
+{
+    static const char *const why[] = {
+        /*  0 */ "no refusal has this number",
+        /*  1 */ "the clock is too late to ask",
+        /*  2 */ "no slot is empty",
+        /*  3 */ "a line still waits",
+        /*  4 */ "a line's numbers are unsound",
+        /*  5 */ "a period would be shortened",
+        /*  6 */ "the new line does not fit its period",
+        /*  7 */ "the frame is above 1,000,000",
+        /*  8 */ "more than all of the pump is asked for",
+        /*  9 */ "the lines are behind their shares",
+        /* 10 */ "the running lines alone come too late",
+        /* 11 */ "a broken card or image",
+        /* 12 */ "an old-order mark on a card",
+        /* 13 */ "the buffer is too short",
+        /* 14 */ "a period ended short",
+        /* 15 */ "the clock's last tick",
+    };
+
+    return why[number < sizeof why / sizeof *why ? number : 0];
+}
+
+/* R93: the version of the library's boundary. One that is not TRIMTHUEL_VERSION does not fit this header. */
+uint32_t trimthuel_version(void);
+
+/* R50, R90: how often the front lamp blinks for a refusal's number, 1 to 5; 0 for any other number. */
+uint8_t trimthuel_lamp(uint64_t number);
+
+/* The pump. `table` is an image, and refusal 11 comes before any other (R83). */
+
+/* R85: writes the image of the empty table, with which a pump begins. The value is 153. Refuses with 13. */
+struct trimthuel_result trimthuel_empty(uint8_t *table, size_t table_len);
 
 /*
- * R66: admits the card's request and lets the pump run for `ticks` ticks.
- *
- * Answers the number of ticks in which a line ran, or minus the first refusal's number: the
- * reader's, ask's, or that of the first refused step.
+ * R86: whether and when a new line could start. The value is the tick of its start, the place the slot
+ * that it would have. Refuses with 11, then with the first of 1 to 10 that holds (R18).
  */
-int64_t trimthuel_run(const uint8_t *card, size_t card_len, uint32_t ticks);
+struct trimthuel_result trimthuel_ask(const uint8_t *table, size_t table_len, uint16_t need, uint16_t period,
+                                      const uint16_t stretched[TRIMTHUEL_SLOTS]);
+
+/*
+ * R87: answers as trimthuel_ask does. Where it grants, the running lines have their stretched periods
+ * and the new line its slot, where it runs or waits for its start.
+ */
+struct trimthuel_result trimthuel_admit(uint8_t *table, size_t table_len, uint16_t need, uint16_t period,
+                                        const uint16_t stretched[TRIMTHUEL_SLOTS]);
+
+/*
+ * R88: one tick. The value is the slot that got it, or TRIMTHUEL_NO_SLOT. Refuses with 11, 15, 4 or 14;
+ * on a table that came from the empty one by these calls alone, with 15 only (R74).
+ */
+struct trimthuel_result trimthuel_step(uint8_t *table, size_t table_len);
+
+/* R89: the ready word (R49): bit k of the value is 1 where slot k is still owed ticks. Refuses with 11. */
+struct trimthuel_result trimthuel_ready(const uint8_t *table, size_t table_len);
+
+/* Cards. `out` and `card` may be longer than what is written to their start. */
+
+/*
+ * R91: writes the card of a table and a request. The value is its length. Refuses with 11, then with 3
+ * where a line waits, then with 13.
+ */
+struct trimthuel_result trimthuel_write_card(const uint8_t *table, size_t table_len, uint16_t need, uint16_t period,
+                                             const uint16_t stretched[TRIMTHUEL_SLOTS], uint8_t *card, size_t card_len);
+
+/*
+ * R92: reads a card into an image and a request: the sixteen stretched periods, then need and period. The
+ * value is 153. Refuses with 11 or 12 at a byte offset of the card, then with 13 where `table` is too short.
+ */
+struct trimthuel_result trimthuel_read_card(const uint8_t *card, size_t card_len, uint8_t *table, size_t table_len,
+                                            uint16_t request[TRIMTHUEL_REQUEST_SIZE]);
+
+/*
+ * R64: writes the answer line of a card (R61), `release 13` or `refused 4 2`, and its newline; no zero byte
+ * follows. The value is its length. Refuses with 13 alone: any other refusal is a line.
+ */
+struct trimthuel_result trimthuel_answer(const uint8_t *card, size_t card_len, uint8_t *out, size_t out_len);
+
+/* R65: reads a card and writes it anew, byte for byte (R72). The value is its length. Refuses with 11, 12 or 13. */
+struct trimthuel_result trimthuel_rewrite(const uint8_t *card, size_t card_len, uint8_t *out, size_t out_len);
+
+/*
+ * R66: admits a card's request and steps the pump `ticks` times. The value is in how many of them a line
+ * ran. Refuses as the reader does, or ask, or the first refused step.
+ */
+struct trimthuel_result trimthuel_run(const uint8_t *card, size_t card_len, uint16_t ticks);
 
 #ifdef __cplusplus
 }

@@ -14,6 +14,9 @@
 /* R55: one byte more than the longest card, so that a longer file is seen to be too long. */
 #define ROOM (TRIMTHUEL_CARD_MAX + 1)
 
+/* The ticks that the pump is run. */
+#define TICKS 56
+
 enum { RELEASED = 0, REFUSED = 1, TROUBLE = 2 };
 
 /* Reads the card of a file; 0 if that failed. */
@@ -30,38 +33,53 @@ static int read_card(const char *path, uint8_t card[ROOM], size_t *len)
     return fine;
 }
 
+/* R63: a name, and what a call answered: its value, or `refused` with number and place. */
+static void show(const char *name, struct trimthuel_result result)
+{
+    if (result.number == 0)
+        printf("%s %" PRIu64, name, result.value);
+    else
+        printf("%s refused %" PRIu64 " %" PRIu64, name, result.number, result.place);
+}
+
 /* R64: the line of the card, which always fits, and the exit status that it means. */
 static int show_line(const uint8_t *card, size_t len)
 {
     uint8_t line[TRIMTHUEL_LINE_MAX];
-    int64_t n = trimthuel_answer(card, len, line, sizeof line);
+    struct trimthuel_result answer = trimthuel_answer(card, len, line, sizeof line);
 
-    fwrite(line, 1, (size_t)n, stdout);
-    return memcmp(line, "release ", 8) == 0 ? RELEASED : REFUSED;
+    fwrite(line, 1, (size_t)answer.value, stdout);
+    return answer.number == 0 && memcmp(line, "release ", 8) == 0 ? RELEASED : REFUSED;
 }
 
-/* R33: a buffer that is one byte too short for the line gets -13, and every byte stays (R17). */
+/* R33: a buffer that is one byte too short for the line gets refusal 13, and every byte stays (R17). */
 static void show_short(const uint8_t *card, size_t len)
 {
     uint8_t line[TRIMTHUEL_LINE_MAX], kept[TRIMTHUEL_LINE_MAX];
-    int64_t n = trimthuel_answer(card, len, line, sizeof line);
-    int same;
+    struct trimthuel_result answer = trimthuel_answer(card, len, line, sizeof line);
 
     memset(line, '.', sizeof line);
     memset(kept, '.', sizeof kept);
-    n = trimthuel_answer(card, len, line, (size_t)n - 1);
-    same = memcmp(line, kept, sizeof line) == 0;
-    printf("short %" PRId64 "%s\n", n, same ? "" : " and changed");
+    show("short", trimthuel_answer(card, len, line, (size_t)answer.value - 1));
+    puts(memcmp(line, kept, sizeof line) == 0 ? "" : " and changed");
 }
 
 /* R65, R72: a card that reads comes back the same. */
 static void show_rewritten(const uint8_t *card, size_t len)
 {
     uint8_t anew[TRIMTHUEL_CARD_MAX];
-    int64_t n = trimthuel_rewrite(card, len, anew, sizeof anew);
-    int same = n >= 0 && (size_t)n == len && memcmp(anew, card, len) == 0;
+    struct trimthuel_result written = trimthuel_rewrite(card, len, anew, sizeof anew);
+    int same = written.number == 0 && written.value == len && memcmp(anew, card, len) == 0;
 
-    printf("rewritten %" PRId64 "%s\n", n, same ? " the same" : "");
+    show("rewritten", written);
+    puts(same ? " the same" : "");
+}
+
+/* R66 */
+static void show_ran(const uint8_t *card, size_t len)
+{
+    show("ran", trimthuel_run(card, len, TICKS));
+    printf(" of %d\n", TICKS);
 }
 
 int main(int argc, char **argv)
@@ -85,7 +103,7 @@ int main(int argc, char **argv)
     status = show_line(card, len);
     show_short(card, len);
     show_rewritten(card, len);
-    printf("ran %" PRId64 " of 56\n", trimthuel_run(card, len, 56));
+    show_ran(card, len);
     if (fclose(stdout) != 0) {
         perror("the answer could not be written");
         return TROUBLE;

@@ -3,13 +3,15 @@
 //! (a) is ESITforSNT, algorithm 1 of the published paper, with its two checks an end, (b) the project's own algorithm in plain Rust (`bench/quick`),
 //! (c) trial and error with the pump simulated, (d) one pass through the ends in time order (`bench/quick`). All start from a card's bytes and test
 //! R21 to R29, but (c), which is handed the table; (a) takes its reading and its tests from (b).
+//!
+//! A step on an image (R88) stands beside our own by value, which is what a run (R66) takes for a tick.
 
 mod asks;
 mod figures;
+mod steps;
 
 use crate::card;
 use crate::random::Random;
-use crate::types::{Content, Run};
 use asks::{best, many_ends, ours, paper, Asks};
 use figures::{Part, Row};
 use std::hint::black_box;
@@ -66,51 +68,15 @@ fn worst(fine: &mut bool) -> Part {
     )
 }
 
-/// The card of a full table, or of one with an empty slot, so that its request can be admitted.
-fn long_card(lines: usize) -> Vec<u8> {
-    let (mut table, mut request) = many_ends(0, 64, false);
-    for i in 0..lines {
-        table.slots[i] = Content::Running(Run {
-            need: 2,
-            period: 64,
-            age: 0,
-            remaining: 2,
-        });
-        request.stretched[i] = 64;
-    }
+/// The card of a full table, 208 bytes.
+fn long_card() -> Vec<u8> {
+    let (table, request) = steps::equal_lines(16);
     card::bytes(&table, &request)
-}
-
-fn step(fine: &mut bool) -> Row {
-    const TICKS: u32 = 200_000;
-    let bytes = long_card(15);
-    let ours = best(TICKS as usize, || {
-        let _ = black_box(trimthuel::run(black_box(&bytes), TICKS));
-    });
-    let mut ran = 0;
-    let plain = best(TICKS as usize, || {
-        let Ok((mut pump, request)) = quick::read(black_box(&bytes)) else {
-            return;
-        };
-        let (need, period) = (request.need, request.period);
-        pump.slots[15] = quick::Held::Running {
-            need,
-            period,
-            age: 0,
-            remaining: need,
-        };
-        ran = (0..TICKS)
-            .filter(|_| pump.step().is_ok_and(|slot| slot.is_some()))
-            .count() as u64;
-        black_box(&pump);
-    });
-    *fine &= trimthuel::run(&bytes, TICKS) == Ok(ran);
-    Row::new("step, sixteen lines".into(), vec![ours, plain])
 }
 
 fn rewrite(fine: &mut bool) -> Row {
     const TIMES: usize = 20_000;
-    let bytes = long_card(16);
+    let bytes = long_card();
     let (mut out, mut other) = ([0; trimthuel::CARD_MAX], [0; trimthuel::CARD_MAX]);
     let ours = best(TIMES, || {
         for _ in 0..TIMES {
@@ -133,7 +99,7 @@ fn rewrite(fine: &mut bool) -> Row {
 
 /// A clock that is too late is the first refusal (R21), so that this is nearly the reader alone.
 fn late() -> Row {
-    let mut bytes = long_card(16);
+    let mut bytes = long_card();
     bytes[9] = 255;
     let asks = Asks {
         questions: Vec::new(),
@@ -142,6 +108,24 @@ fn late() -> Row {
     Row::new(
         "a card of 208 bytes read, and refused by its clock".into(),
         vec![asks.ours(), asks.time(quick::answer)],
+    )
+}
+
+fn small(fine: &mut bool) -> Part {
+    let rows = vec![steps::run(fine), rewrite(fine), late(), steps::ready(fine)];
+    Part::new("Step and card", &[""], &["ours", "(b)"], rows)
+}
+
+fn image_steps(fine: &mut bool) -> Part {
+    let rows = vec![
+        steps::image_step(fine, "sixteen lines", 16),
+        steps::image_step(fine, "one line", 1),
+    ];
+    Part::new(
+        "A step over the boundary, its image read and written",
+        &["lines"],
+        &["ours", "by value", "(b)"],
+        rows,
     )
 }
 
@@ -166,9 +150,12 @@ pub fn run(runs: usize) -> bool {
     let mut all = Vec::new();
     for k in 1..=runs {
         eprintln!("run {k} of {runs}");
-        let small = vec![step(&mut fine), rewrite(&mut fine), late()];
-        let small = Part::new("Step and card", &[""], &["ours", "(b)"], small);
-        all.push([published_sets(&mut fine), worst(&mut fine), small]);
+        all.push([
+            published_sets(&mut fine),
+            worst(&mut fine),
+            small(&mut fine),
+            image_steps(&mut fine),
+        ]);
     }
     figures::print(&all);
     if !fine {

@@ -67,7 +67,7 @@ fn mark(card: &[u8], offset: usize) -> Result<&[u8], Refusal> {
 }
 
 /// R54, R57: goes through the records from the front and stops at the first that is refused.
-fn parse(card: &[u8]) -> Result<(Table, Request), Refusal> {
+pub fn parse(card: &[u8]) -> Result<(Table, Request), Refusal> {
     let (mut table, mut request) = (EMPTY, ZEROS);
     table.clock = read_clock(card)?;
     let mut offset = CLOCK_LENGTH;
@@ -199,7 +199,7 @@ pub fn judge(card: &[u8]) -> Result<u64, Refusal> {
 pub fn line(answer: Result<u64, Refusal>) -> String {
     match answer {
         Ok(start) => format!("release {start}\n"),
-        Err(refusal) => format!("refused {} {}\n", refusal.number, refusal.place),
+        Err(refusal) => format!("{refusal}\n"),
     }
 }
 

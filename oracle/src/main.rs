@@ -13,6 +13,8 @@ mod draw;
 mod edge_cards;
 mod edges;
 mod esit;
+#[cfg(any(test, feature = "house"))]
+mod image;
 mod published;
 mod random;
 mod rules;
@@ -36,9 +38,9 @@ oracle example < CARD
 oracle stored OUT_DIR
 oracle walks
 oracle sweep [FROM TO]
-oracle bench [RUNS]   (feature house)
-oracle count WAY [T0] TIMES      (feature house)
-oracle compare N      (feature house)";
+oracle bench [RUNS]             (feature house)
+oracle count WAY [T0] TIMES     (feature house)
+oracle compare CARDS IMAGES     (feature house)";
 
 /// One card from standard input; R55: 209 bytes decide every card.
 fn given_card() -> io::Result<Vec<u8>> {
@@ -71,9 +73,10 @@ fn beside_the_house(words: &[&str]) -> io::Result<bool> {
             (Ok(set), Ok(n)) => Ok(bench::count(way, Some(set), n)),
             _ => usage(),
         },
-        ["compare", count] => count
-            .parse()
-            .map_or_else(|_| usage(), |n| Ok(compare::run(n))),
+        ["compare", cards, images] => match (cards.parse(), images.parse()) {
+            (Ok(cards), Ok(images)) => Ok(compare::run(cards, images)),
+            _ => usage(),
+        },
         _ => usage(),
     }
 }

@@ -1,5 +1,7 @@
 //! Tables, lines, requests and refusals (R2 to R8, R17) as types of this program's own.
 
+use std::fmt;
+
 /// R2: slots of a table.
 pub const SLOTS: usize = 16;
 
@@ -82,6 +84,13 @@ impl Refusal {
             number,
             place: place as u64,
         }
+    }
+}
+
+/// R61: as it stands in a line.
+impl fmt::Display for Refusal {
+    fn fmt(&self, f: &mut fmt::Formatter<'_>) -> fmt::Result {
+        write!(f, "refused {} {}", self.number, self.place)
     }
 }
 

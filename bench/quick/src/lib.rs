@@ -3,10 +3,12 @@
 
 mod ask;
 mod card;
+mod image;
 mod ordered;
 mod pump;
 
 pub use ask::{answer, ask, passes};
 pub use card::{read, write};
+pub use image::{ready_image, step_image};
 pub use ordered::answer_in_order;
 pub use pump::{Held, Pump, Request};

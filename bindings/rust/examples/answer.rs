@@ -3,10 +3,11 @@
 //! Exit status: 0 the bench is released, 1 it is refused, 2 trouble: the card could not be read or the
 //! answer not be written. A card that cannot be read is not a broken card: it gets a message and no answer.
 
+use std::fmt::Display;
 use std::fs::File;
 use std::io::{self, Read, Write};
 use std::process::ExitCode;
-use trimthuel::{Told, CARD_MAX, LINE_MAX};
+use trimthuel::{Refusal, CARD_MAX, LINE_MAX};
 
 /// R55: one byte more than the longest card, so that a longer file is seen to be too long.
 fn card_of(path: &str) -> io::Result<Vec<u8>> {
@@ -16,11 +17,14 @@ fn card_of(path: &str) -> io::Result<Vec<u8>> {
     Ok(card)
 }
 
-/// R63: a number as C gets it, a refusal below 0.
-fn number(told: Told<usize>) -> String {
+/// The ticks that the pump is run.
+const TICKS: u16 = 56;
+
+/// R63: what a call answered: its value, or `refused` with number and place.
+fn shown(told: Result<impl Display, Refusal>) -> String {
     match told {
-        Ok(given) => given.to_string(),
-        Err(refused) => format!("-{}", refused.number),
+        Ok(value) => value.to_string(),
+        Err(Refusal { number, place }) => format!("refused {number} {place}"),
     }
 }
 
@@ -31,14 +35,14 @@ fn show(card: &[u8], out: &mut impl Write) -> io::Result<bool> {
     out.write_all(&line[..length])?;
     let released = line.starts_with(b"release ");
     let short = trimthuel::answer(card, &mut line[..length - 1]);
-    writeln!(out, "short {}", number(short))?;
+    writeln!(out, "short {}", shown(short))?;
     let mut anew = [0; CARD_MAX];
     let rewritten = trimthuel::rewrite(card, &mut anew);
     let same = rewritten.is_ok_and(|length| &anew[..length] == card);
     let remark = if same { " the same" } else { "" };
-    writeln!(out, "rewritten {}{remark}", number(rewritten))?;
-    let ran = trimthuel::run(card, 56).map(|ticks| ticks as usize);
-    writeln!(out, "ran {} of 56", number(ran))?;
+    writeln!(out, "rewritten {}{remark}", shown(rewritten))?;
+    let ran = trimthuel::run(card, TICKS);
+    writeln!(out, "ran {} of {TICKS}", shown(ran))?;
     out.flush()?;
     Ok(released)
 }

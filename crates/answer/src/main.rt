@@ -54,7 +54,7 @@ fn put(line: [u8; 40], len: usize) -> bool
 
 // R60: says the line of a card.
 fn answer(card: &[u8]) {
-    let a: table::Answer = house::answer(card);
+    let a: table::Answer = house::cards::answer(card);
     let r = reply::reply_to(a);
     let line = r.bytes;
     if !put(line, r.len) {

@@ -13,7 +13,7 @@ use Rattle.line.specs.Tick.{isOwed}
 abbrev pub within : (low high n : ℕ) → Bool
 within a b n = both (leb a n) (leb n b)
 
--- R50: the blinks by the range in which the number is
+-- R50, R90: the blinks by the range in which the number is, of any number
 unfoldable pub blinks : ℕ → ℕ
 blinks n = pick (within 1 3 n) 1 (pick (within 4 6 n) 2 (pick (within 7 10 n) 3 (pick (within 11 13 n) 4 (pick (within 14 15 n) 5 0))))
 

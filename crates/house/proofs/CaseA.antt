@@ -2,7 +2,6 @@
 use mathlib.Core.Path.{_≡_, refl, ap, _∙_}
 use mathlib.Core.List.{List, [], _∷_}
 use Prim.Native.Nat.{ℕ}
-use lib.IntN.{pos}
 use Rattle.periods.specs.Multiples.{euclid, gcdOf, lcmOf, frameFrom}
 use Rattle.table.specs.declared.Answer.{Answer}
 use Rattle.table.specs.declared.Answer.the-variants.{Start}
@@ -21,7 +20,8 @@ use Rattle.card.specs.Reading.{readOf}
 use Rattle.card.proofs.CaseA.{case-A-written, case-A-read}
 use Rattle.reply.specs.Line.{answerLine}
 use Rattle.reply.proofs.Line.{line-of-case-A}
-use Rattle.house.specs.House.{answerFor, lineFor, numberOf, ticksRun, runAdmitted, runFor, runOf}
+use Rattle.house.specs.Results.{grantedAs, resultOf}
+use Rattle.house.specs.Cards.{answerFor, lineFor, ticksRun, runAdmitted, runFor, runOf}
 
 -- R67: case A's card
 abbrev pub cardA : List ℕ
@@ -43,5 +43,5 @@ unfolding euclid gcdOf lcmOf frameFrom total lowest due lastEnd stretched period
 runs-A = refl
 
 -- R66: three of the 26 ticks run no line
-pub run-A : numberOf (runOf cardA 26) ≡ pos 23
-run-A = ap numberOf (ap (runFor 26) reads-A ∙ runs-A)
+pub run-A : resultOf (runOf cardA 26) ≡ grantedAs 0 23
+run-A = ap resultOf (ap (runFor 26) reads-A ∙ runs-A)

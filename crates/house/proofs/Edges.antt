@@ -1,9 +1,8 @@
--- The boundary at its edges, by computation: the numbers that stand for what is said, short buffers, refused cards, and runs that stop.
+-- The boundary at its edges, by computation: results, short buffers, refused cards, and runs that stop.
 use Prim.Native.Nat.{ℕ, _-_, _^_}
 use mathlib.Core.Path.{_≡_, refl}
 use mathlib.Core.List.{List, [], _∷_, map}
 use mathlib.Core.Option.{none, some}
-use lib.IntN.{pos, negsuc}
 use Rattle.periods.specs.Multiples.{euclid, gcdOf, lcmOf, frameFrom}
 use Rattle.table.specs.declared.Table.{Table}
 use Rattle.table.specs.declared.Answer.the-variants.{Start, Refused}
@@ -18,12 +17,21 @@ use Rattle.table.specs.Step.{chosen, advance, stepOf}
 use Rattle.table.specs.Cases.{running, tableOf}
 use Rattle.card.specs.Bytes.{marked}
 use Rattle.card.specs.Reading.{recordOf, recordsOf, readWith}
-use Rattle.house.specs.House.{answerOf, numberOf, saidPut, putOf, rewriteOf, rewrittenOf, counted, ticksRun, runAdmitted, runOf}
+use Rattle.house.specs.Results.{boundaryVersion, grantedAs, resultOf, slotNumber}
+use Rattle.house.specs.Cards.{answerOf, saidPut, putOf, rewriteOf, rewrittenOf, counted, ticksRun, runAdmitted, runOf}
 
--- R63: what is given stands for itself, 0 too, and a refusal for minus its number, whatever its place
-pub number-edges : map numberOf (gives 0 ∷ gives 11 ∷ gives 208 ∷ refuses (refusal 1 0) ∷ refuses (refusal 13 0) ∷ refuses (refusal 14 7) ∷ [])
-    ≡ pos 0 ∷ pos 11 ∷ pos 208 ∷ negsuc 0 ∷ negsuc 12 ∷ negsuc 13 ∷ []
-number-edges = refl
+-- R63: what is given is the value, 0 too, and a refusal its number and place
+pub result-edges : map resultOf (gives 0 ∷ gives 208 ∷ refuses (refusal 1 0) ∷ refuses (refusal 14 7) ∷ [])
+    ≡ grantedAs 0 0 ∷ grantedAs 0 208 ∷ record { number = 1; place = 0; value = 0 } ∷ record { number = 14; place = 7; value = 0 } ∷ []
+result-edges = refl
+
+-- R63: number, place and value in this order, and none is no slot's number
+pub slot-edges : (grantedAs 3 5 ≡ record { number = 0; place = 3; value = 5 }) × (map slotNumber (none ∷ some 0 ∷ some 15 ∷ []) ≡ 255 ∷ 0 ∷ 15 ∷ [])
+slot-edges = (refl, refl)
+
+-- R93: the first version
+pub version-edges : boundaryVersion ≡ 1
+version-edges = refl
 
 -- R33: a line that was not put is refusal 13 at place 0
 pub put-edges : map saidPut (some 0 ∷ some 40 ∷ none ∷ []) ≡ gives 0 ∷ gives 40 ∷ refuses (refusal 13 0) ∷ []

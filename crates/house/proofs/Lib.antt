@@ -1,9 +1,9 @@
--- The laws of the boundary: what is read, how long what is written is, the sign, the run; and what follows for a card's bytes.
+-- The laws of the boundary: what is read and loaded, the run, the operations; what follows for bytes; the edges.
 pub mod Said
-pub mod Wide
-pub mod Narrow
-pub mod Sign
 pub mod Run
+pub mod Operations
+pub mod Copied
 pub mod Theorems
 pub mod CaseA
 pub mod Edges
+pub mod Faults

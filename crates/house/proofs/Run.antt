@@ -10,7 +10,7 @@ use Rattle.table.specs.declared.Outcome.the-variants.{Ran, Refused}
 use Rattle.table.specs.declared.Stepped.{Stepped}
 use Rattle.table.specs.Words.{slotOf, Said, gives, refuses}
 use Rattle.table.specs.Step.{saysRan, stepOf}
-use Rattle.house.specs.House.{counted, more, andThen, ticksRun}
+use Rattle.house.specs.Cards.{counted, more, andThen, ticksRun}
 
 more-more : (a b : ℕ) (s : Said ℕ) → more (a + b) s ≡ more a (more b s)
 more-more a b (gives n) = ap gives (omega arith)

@@ -1,4 +1,4 @@
--- What the reader hands out says what was read.
+-- What the reader and the loader hand out says what was read.
 use mathlib.Core.Path.{_≡_, sym, ap, _∙_}
 use mathlib.Core.List.{List}
 use Prim.Native.Nat.{ℕ}
@@ -10,6 +10,11 @@ use Rattle.card.specs.Card.{carrying}
 use Rattle.card.specs.Reading.{readOf}
 use Rattle.card.specs.Answers.{handed, saidRead, saidWith}
 use Rattle.card.proofs.Answers.{said-handed}
+use Rattle.image.specs.declared.LoadAnswer.{LoadAnswer}
+use Rattle.image.specs.declared.Loaded.{Loaded}
+use Rattle.image.specs.Loading.{loadOf}
+use Rattle.image.specs.Answers.{handedOut, saidBeside, saidLoaded}
+use Rattle.image.proofs.Exactly.{said-loaded}
 
 module _ (card : List ℕ) {c : ReadCard} (e : c ≡ handed (readOf card)) where
   said : readOf card ≡ saidRead c
@@ -22,3 +27,15 @@ module _ (card : List ℕ) {c : ReadCard} (e : c ≡ handed (readOf card)) where
   -- R56: where the answer is a refusal, the card is refused by it
   pub was-refused : (x : Refusal) → c .answer ≡ Refused x → readOf card ≡ refuses x
   was-refused x h = said ∙ ap (saidWith (c .table) (c .request)) h
+
+module _ (l : List ℕ) {x : Loaded} (e : x ≡ handedOut (loadOf l)) where
+  told : loadOf l ≡ saidLoaded x
+  told = sym (said-loaded (loadOf l)) ∙ ap saidLoaded (sym e)
+
+  -- R84: where the answer is that the image was read, it loads as the table beside it
+  pub was-loaded : x .answer ≡ LoadAnswer.Read → loadOf l ≡ gives (x .table)
+  was-loaded h = told ∙ ap (saidBeside (x .table)) h
+
+  -- R84: where the answer is a refusal, the image is refused by it
+  pub not-loaded : (r : Refusal) → x .answer ≡ LoadAnswer.Refused r → loadOf l ≡ refuses r
+  not-loaded r h = told ∙ ap (saidBeside (x .table)) h

@@ -1,2 +1,5 @@
--- What the boundary answers, and what a lent buffer holds then.
-pub mod House
+-- What the boundary answers, and what lent bytes hold then.
+pub mod Results
+pub mod Cards
+pub mod Tables
+pub mod Moves

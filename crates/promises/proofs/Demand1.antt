@@ -2,10 +2,9 @@
 use mathlib.Core.Path.{_≡_, refl, sym, ap, _∙_, subst}
 use mathlib.Core.Bool.{Bool, true, false}
 use mathlib.Core.List.{List}
-use mathlib.Core.Option.{none, some}
+use mathlib.Core.Option.{Option, none, some}
 use Prim.Native.Nat.{ℕ}
 use native.Mathlib.Omega.{arith}
-use lib.IntN.{negsuc}
 use lib.ListN.{length}
 use Rattle.table.specs.declared.Table.{Table}
 use Rattle.table.specs.declared.Request.{Request}
@@ -17,7 +16,7 @@ use Rattle.table.specs.declared.Stepped.{Stepped}
 use Rattle.table.specs.declared.Outcome as outcome
 use Rattle.table.specs.declared.Outcome.{Outcome}
 use Rattle.line.specs.Slots.{pick}
-use Rattle.table.specs.Words.{Said, gives, refuses}
+use Rattle.table.specs.Words.{emptyTable, Said, gives, refuses}
 use Rattle.table.specs.Grounds.{grounds, FirstOf, Answers}
 use Rattle.table.specs.Ask.{says, askOf}
 use Rattle.table.specs.Admit.{admitWith, admitOf}
@@ -30,11 +29,19 @@ use Rattle.ask.proofs.Right.{asked-unique, admits-unique}
 use Rattle.card.specs.Card.{Card, cardOf}
 use Rattle.card.specs.Reading.{readOf}
 use Rattle.card.specs.Answers.{handed, saidRead, writeOf, filled}
-use Rattle.card.proofs.Answers.{said-handed, one-reading, one-writing}
+use Rattle.card.proofs.Answers.{said-handed, one-reading, one-writing, one-written}
 use Rattle.driver.proofs.Keeps.{refused-drive-keeps, drive-determined}
 use Rattle.reply.specs.Line.{answerLine, laid, fits}
 use Rattle.reply.proofs.Line.{reply-settled, put-reply-settled}
-use Rattle.house.specs.House.{lineFor, numberOf, saidPut, rewriteFor, rewrittenFor}
+use Rattle.image.specs.Image.{imageOf}
+use Rattle.image.specs.Loading.{loadOf}
+use Rattle.image.specs.Answers.{handedOut, saidLoaded, storeOf, storedIn}
+use Rattle.house.specs.declared.Result.{Result}
+use Rattle.house.specs.Results.{grantedAs, resultOf}
+use Rattle.house.specs.Cards.{lineFor, saidPut, rewriteFor, rewrittenFor}
+use Rattle.house.specs.Tables.{changed, askedAs, askFor, afterAdmit, ranAs, stepFor, afterStep, ReadyFor}
+use Rattle.house.specs.Moves.{eighteen, writeCardFor, cardAfter, readCardFor, imageAfter, numbersAfter}
+use Rattle.image.proofs.Exactly.{said-loaded}
 use Rattle.promises.specs.Contracts.{Drives}
 use Rattle.promises.specs.Demand1.{FixedAnswer, RefusalKeeps, One, Both}
 
@@ -47,6 +54,11 @@ by-equation v x y p q = p ∙ sym q
 -- and two equations one pair
 by-equations : {A B : Type 0} (v : A) (w : B) → Both (λ (x : A) (m : B). (x ≡ v) × (m ≡ w))
 by-equations v w x y m n p q = (p .0 ∙ sym (q .0), p .1 ∙ sym (q .1))
+
+-- R89: a ready word is one, and so is a refusal
+ready-one : (s : Said Table) → One (ReadyFor s)
+ready-one (gives t) x y p q = p .0 ∙ ap (grantedAs 0) (word-unique (t .slots) (x .value) (y .value) (p .1) (q .1)) ∙ sym (q .0)
+ready-one (refuses z) x y p q = p ∙ sym q
 
 -- R71: every input has one answer
 pub fixed-answer : FixedAnswer
@@ -66,6 +78,15 @@ fixed-answer = record {
   answer-card = λ card l. by-equations _ _;
   rewrite-card = λ card l. by-equations _ _;
   run-card = λ card ticks. by-equation _;
+  load = λ l. by-equation _;
+  store = λ t l x y m n p q. (one-written x y (p .0 ∙ sym (q .0)), p .1 ∙ sym (q .1));
+  empty-image = λ l. by-equations _ _;
+  ask-image = λ l q. by-equation _;
+  admit-image = λ l q. by-equations _ _;
+  step-image = λ l. by-equations _ _;
+  ready-image = λ l. ready-one (loadOf l);
+  write-image = λ l q out. by-equations _ _;
+  read-image = λ card l ns x y m n j k p q. (p .0 ∙ sym (q .0), p .1 ∙ sym (q .1), p .2 ∙ sym (q .2));
 }
 
 -- ---- what a refusal keeps
@@ -93,22 +114,52 @@ step-keeps t s x e f =
 drive-keeps : (t : Table) (o : Outcome) (u : Table) (x : Refusal) → Drives t o u → saysRan o ≡ refuses x → u ≡ t
 drive-keeps t o u x h e = h .1 ∙ refused-drive-keeps t x (step-refused (stepOf t .outcome) x (ap saysRan (sym (h .0)) ∙ e))
 
--- whether the line fits, the number below 0 or the missing length says that it does not
+-- whether the line fits, a number that is not 0 or the missing length says that it does not
 put-kept : (b : Bool) (line l : List ℕ) → pick b (some (length line)) none ≡ none → pick b (laid line l) l ≡ l
 put-kept true line l e = let z : _≡_ {A = ℕ} 0 1 = cc in absurd (omega arith)
 put-kept false line l e = refl
 
-line-kept : (b : Bool) (line l : List ℕ) (k : ℕ) → numberOf (saidPut (pick b (some (length line)) none)) ≡ negsuc k → pick b (laid line l) l ≡ l
-line-kept true line l k e = let z : _≡_ {A = ℕ} 0 1 = cc in absurd (omega arith)
-line-kept false line l k e = refl
+line-kept : (b : Bool) (line l : List ℕ) → (resultOf (saidPut (pick b (some (length line)) none)) .number ≡ 0 → ⊥) → pick b (laid line l) l ≡ l
+line-kept true line l h = absurd (h refl)
+line-kept false line l h = refl
 
--- whatever was read and written, a number below 0 says that no byte was
-card-kept : (s : Said Card) (l : List ℕ) (k : ℕ) → numberOf (rewriteFor s (length l)) ≡ negsuc k → rewrittenFor s l ≡ l
-card-kept (refuses x) l k e = refl
-card-kept (gives c) l k e = go (writeOf (c .table) (c .request) (length l)) e
+-- what was to be written stands in the buffer only where something was granted
+filled-kept : (w : Said ℕ) (bytes l : List ℕ) → (resultOf w .number ≡ 0 → ⊥) → filled bytes l w ≡ l
+filled-kept (gives n) bytes l h = absurd (h refl)
+filled-kept (refuses x) bytes l h = refl
+
+changed-kept : (w : Said ℕ) (m l : List ℕ) → (resultOf w .number ≡ 0 → ⊥) → changed w m l ≡ l
+changed-kept (gives n) m l h = absurd (h refl)
+changed-kept (refuses x) m l h = refl
+
+-- whatever was read or loaded, a refusal over the boundary says that nothing was written
+rewrite-kept : (s : Said Card) (l : List ℕ) → (resultOf (rewriteFor s (length l)) .number ≡ 0 → ⊥) → rewrittenFor s l ≡ l
+rewrite-kept (refuses x) l h = refl
+rewrite-kept (gives c) l h = filled-kept (writeOf (c .table) (c .request) (length l)) (cardOf (c .table) (c .request)) l h
+
+card-kept : (s : Said Table) (q : Request) (l : List ℕ) → (resultOf (writeCardFor s q (length l)) .number ≡ 0 → ⊥) → cardAfter s q l ≡ l
+card-kept (refuses x) q l h = refl
+card-kept (gives t) q l h = filled-kept (writeOf t q (length l)) (cardOf t q) l h
+
+image-kept : (s : Said Card) (l ns : List ℕ) → (resultOf (readCardFor s (length l)) .number ≡ 0 → ⊥) → (imageAfter s l ≡ l) × (numbersAfter s (length l) ns ≡ ns)
+image-kept (refuses x) l ns h = (refl, refl)
+image-kept (gives c) l ns h =
+    (filled-kept (storeOf (length l)) (imageOf (c .table)) l h, changed-kept (storeOf (length l)) (eighteen (c .request)) ns h)
+
+admit-kept : (s : Said Table) (q : Request) (l : List ℕ) → (askFor s q .number ≡ 0 → ⊥) → afterAdmit s q l ≡ l
+admit-kept (refuses x) q l h = refl
+admit-kept (gives t) q l h = go (says (askOf t q)) h
   where
-    go : (w : Said ℕ) → numberOf w ≡ negsuc k → filled (cardOf (c .table) (c .request)) l w ≡ l
-    go (gives n) h = let z : _≡_ {A = ℕ} 0 1 = cc in absurd (omega arith)
+    go : (w : Said ℕ) → (askedAs t w .number ≡ 0 → ⊥) → changed w (storedIn (admitOf t q .table) l) l ≡ l
+    go (gives r) h = absurd (h refl)
+    go (refuses x) h = refl
+
+step-kept : (s : Said Table) (l : List ℕ) → (stepFor s .number ≡ 0 → ⊥) → afterStep s l ≡ l
+step-kept (refuses x) l h = refl
+step-kept (gives t) l h = go (saysRan (stepOf t .outcome)) h
+  where
+    go : (w : Said (Option ℕ)) → (ranAs w .number ≡ 0 → ⊥) → changed w (storedIn (stepOf t .table) l) l ≡ l
+    go (gives o) h = absurd (h refl)
     go (refuses x) h = refl
 
 -- R17: a refusal changes no table and no lent byte
@@ -127,6 +178,17 @@ refusal-keeps = record {
       (f, rw h (ap (λ (s : Said Card). handed s .table) f), rw h (ap (λ (s : Said Card). handed s .request) f));
   write = λ t q l a m x h e. h .1 ∙ ap (filled (cardOf t q) l) (sym (h .0) ∙ e);
   put-reply = λ a l w m h e. h .1 ∙ put-kept (fits (answerLine (says a)) l) (answerLine (says a)) l (sym (h .0) ∙ e);
-  answer-card = λ card l n m k h e. h .1 ∙ line-kept (fits (lineFor card) l) (lineFor card) l k (sym (h .0) ∙ e);
-  rewrite-card = λ card l n m k h e. h .1 ∙ card-kept (readOf card) l k (sym (h .0) ∙ e);
+  load = λ l y x h e.
+      let f : loadOf l ≡ refuses x = sym (said-loaded (loadOf l)) ∙ ap saidLoaded (sym h) ∙ e in
+      (f, rw h (ap (λ (s : Said Table). handedOut s .table) f));
+  store = λ t l a m x h e. h .1 ∙ ap (filled (imageOf t) l) (sym (h .0) ∙ e);
+  answer-card = λ card l r m h e. h .1 ∙ line-kept (fits (lineFor card) l) (lineFor card) l (λ z. e (ap (λ (x : Result). x .number) (h .0) ∙ z));
+  rewrite-card = λ card l r m h e. h .1 ∙ rewrite-kept (readOf card) l (λ z. e (ap (λ (x : Result). x .number) (h .0) ∙ z));
+  empty-image = λ l r m h e. h .1 ∙ filled-kept (storeOf (length l)) (imageOf emptyTable) l (λ z. e (ap (λ (x : Result). x .number) (h .0) ∙ z));
+  admit-image = λ l q r m h e. h .1 ∙ admit-kept (loadOf l) q l (λ z. e (ap (λ (x : Result). x .number) (h .0) ∙ z));
+  step-image = λ l r m h e. h .1 ∙ step-kept (loadOf l) l (λ z. e (ap (λ (x : Result). x .number) (h .0) ∙ z));
+  write-image = λ l q out r m h e. h .1 ∙ card-kept (loadOf l) q out (λ z. e (ap (λ (x : Result). x .number) (h .0) ∙ z));
+  read-image = λ card l ns r m n h e.
+      let k = image-kept (readOf card) l ns (λ z. e (ap (λ (x : Result). x .number) (h .0) ∙ z)) in
+      (h .1 ∙ k .0, h .2 ∙ k .1);
 }

@@ -1,10 +1,11 @@
 -- The second demand is kept.
-use mathlib.Core.Path.{_≡_, refl, sym, _∙_, subst}
+use mathlib.Core.Path.{_≡_, refl, sym, ap, ap₂, _∙_, subst}
 use mathlib.Core.Logic.{_⊎_, inl, inr, ⊎-elim}
-use mathlib.Core.List.{List, [], _∷_}
+use mathlib.Core.List.{List, [], _∷_, _++_}
 use Prim.Native.Nat.{ℕ}
 use borrow.Author.Tests.{le-leb}
-use lib.ListN.{length}
+use native.Mathlib.Omega.{arith}
+use lib.ListN.{length, drop}
 use Rattle.table.specs.declared.Table.{Table}
 use Rattle.table.specs.declared.Request.{Request}
 use Rattle.table.specs.declared.Refusal.{Refusal}
@@ -13,7 +14,10 @@ use Rattle.table.specs.Grounds.{Row, grounds, FirstOf, NoneOf, Answers}
 use Rattle.table.specs.Ask.{says}
 use Rattle.card.proofs.Written.{written-reads}
 use Rattle.card.proofs.Rewritten.{write-is, buffer-is}
-use Rattle.promises.specs.Demand2.{LeastStart, SomeOf, ExactlyRefused, WrittenReadsBack, ReadWritesBack, Demand2}
+use Rattle.image.proofs.ReadsBack.{one-image}
+use Rattle.image.proofs.WritesBack.{loaded-length, stores-back}
+use Rattle.image.proofs.Stored.{has-room, room-is, stored-is, stored-loads}
+use Rattle.promises.specs.Demand2.{LeastStart, SomeOf, ExactlyRefused, WrittenReadsBack, ReadWritesBack, StoredLoadsBack, LoadedStoresBack, Demand2}
 
 -- R14: the relation says so itself
 pub least-start : LeastStart
@@ -51,11 +55,26 @@ read-writes-back card c l a m b e h w =
     let fits = le-leb (length card) (length l) h in
     (w .0 ∙ write-is 16 card l b c e fits, w .1 ∙ buffer-is 16 card l b c e fits)
 
--- R14, R18, R72: the second demand
+-- R82: a stored table loads back
+pub stored-loads-back : StoredLoadsBack
+stored-loads-back t l a m n w s e =
+    let g = room-is (length l) n (sym (s .0) ∙ e) in
+    rw (g .1, s .1) (stored-loads t l w (g .0))
+
+-- R82: an image that loads is stored byte for byte
+pub loaded-stores-back : LoadedStoresBack
+loaded-stores-back image t l a m b e h s =
+    let n : length image ≡ 153 = loaded-length 16 image t e in
+    (s .0 ∙ has-room (length l) (omega arith) ∙ ap gives (sym n), s .1 ∙ stored-is t l (omega arith) ∙ ap₂ (λ (x : List ℕ) (k : ℕ). x ++ drop k l) (stores-back 16 image b t e .0) (sym n))
+
+-- R14, R18, R72, R82: the second demand
 pub second-demand : Demand2
 second-demand = record {
   least-start = least-start;
   exactly-refused = exactly-refused;
   written-reads-back = written-reads-back;
   read-writes-back = read-writes-back;
+  stored-loads-back = stored-loads-back;
+  loaded-stores-back = loaded-stores-back;
+  one-image = one-image 16;
 }

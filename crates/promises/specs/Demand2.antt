@@ -1,4 +1,4 @@
--- The second demand: the least smooth start, R14; refused exactly on the listed grounds, R18; cards there and back, R72.
+-- The second demand: the least smooth start, R14; refused exactly on the listed grounds, R18; cards and images there and back, R72 and R82.
 use mathlib.Core.Path.{_≡_}
 use mathlib.Core.Logic.{_⊎_}
 use mathlib.Core.List.{List, [], _∷_, _++_}
@@ -18,7 +18,9 @@ use Rattle.card.specs.Bytes.{Bytes}
 use Rattle.card.specs.Card.{Card, carrying, cleared, Fits}
 use Rattle.card.specs.Reading.{readOf}
 use Rattle.card.specs.Answers.{saidWritten}
-use Rattle.promises.specs.Contracts.{Writes}
+use Rattle.image.specs.Image.{imageOf, Wide}
+use Rattle.image.specs.Loading.{loadOf}
+use Rattle.promises.specs.Contracts.{Writes, Stores}
 
 -- R14: a start that ask answers is the least smooth one
 abbrev pub LeastStart : Type 0
@@ -46,9 +48,26 @@ abbrev pub ReadWritesBack : Type 0
 ReadWritesBack = (card : List ℕ) (c : Card) (l : List ℕ) (a : WriteAnswer) (m : List ℕ) → Bytes card → readOf card ≡ gives c → length card ≤ length l
     → Writes (c .table) (c .request) l a m → (saidWritten a ≡ gives (length card)) × (m ≡ card ++ drop (length card) l)
 
--- R72: the second demand, all of it
+-- R82: what was stored loads back. `Wide` holds of every table of the code's types.
+abbrev pub StoredLoadsBack : Type 0
+StoredLoadsBack = (t : Table) (l : List ℕ) (a : WriteAnswer) (m : List ℕ) (n : ℕ) → Wide 16 t → Stores t l a m → saidWritten a ≡ gives n
+    → loadOf (take n m) ≡ gives t
+
+-- R82: what loads is stored byte for byte, into any buffer that has room for it
+abbrev pub LoadedStoresBack : Type 0
+LoadedStoresBack = (image : List ℕ) (t : Table) (l : List ℕ) (a : WriteAnswer) (m : List ℕ) → Bytes image → loadOf image ≡ gives t → length image ≤ length l
+    → Stores t l a m → (saidWritten a ≡ gives (length image)) × (m ≡ image ++ drop (length image) l)
+
+-- R82: no two tables have the same image
+abbrev pub OneImage : Type 0
+OneImage = (t u : Table) → Wide 16 t → Wide 16 u → imageOf t ≡ imageOf u → t ≡ u
+
+-- R14, R18, R72, R82: the second demand, all of it
 pub record Demand2 : Type 0 where
   pub least-start : LeastStart
   pub exactly-refused : ExactlyRefused
   pub written-reads-back : WrittenReadsBack
   pub read-writes-back : ReadWritesBack
+  pub stored-loads-back : StoredLoadsBack
+  pub loaded-stores-back : LoadedStoresBack
+  pub one-image : OneImage

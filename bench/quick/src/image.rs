@@ -1,0 +1,174 @@
+//! The image of a table, read (R83), stepped (R88), looked at (R89) and written (R84).
+
+use crate::pump::{Held, Pump, SLOTS};
+
+/// R81: bytes of an image, of a slot, and where slot 0 stands.
+const LENGTH: usize = 153;
+const SLOT: usize = 9;
+const FIRST: usize = 9;
+
+/// R81: what the nine bytes of a slot hold, or the first of them that is wrong.
+#[inline]
+fn held(slot: &[u8]) -> Result<Held, usize> {
+    let two = |at: usize| u16::from_le_bytes([slot[at], slot[at + 1]]);
+    let blank = |from: usize| match slot[from..].iter().position(|byte| *byte != 0) {
+        Some(at) => Err(from + at),
+        None => Ok(()),
+    };
+    let (need, period) = (two(1), two(3));
+    match slot[0] {
+        0 => blank(1).map(|()| Held::Nothing),
+        1 => Ok(Held::Running {
+            need,
+            period,
+            age: two(5),
+            remaining: two(7),
+        }),
+        2 => blank(7).map(|()| Held::Waiting {
+            need,
+            period,
+            wait: two(5),
+        }),
+        _ => Err(0),
+    }
+}
+
+/// R83: the refusal of bytes whose length is not 153. With zeros for what is missing, nothing is wrong behind what is there.
+#[cold]
+fn wrong_length(image: &[u8]) -> (u16, u64) {
+    let there = image.len().min(LENGTH);
+    let mut whole = [0; LENGTH];
+    whole[0] = 1;
+    whole[..there].copy_from_slice(&image[..there]);
+    read_whole(&whole).err().unwrap_or((11, there as u64))
+}
+
+#[inline]
+fn read_whole(image: &[u8; LENGTH]) -> Result<Pump, (u16, u64)> {
+    if image[0] != 1 {
+        return Err((11, 0));
+    }
+    let mut clock = [0; 8];
+    clock.copy_from_slice(&image[1..FIRST]);
+    let mut pump = Pump {
+        clock: u64::from_le_bytes(clock),
+        slots: [Held::Nothing; SLOTS],
+    };
+    let slots = image[FIRST..].chunks_exact(SLOT);
+    for (k, (place, slot)) in pump.slots.iter_mut().zip(slots).enumerate() {
+        *place = held(slot).map_err(|at| (11, (FIRST + SLOT * k + at) as u64))?;
+    }
+    Ok(pump)
+}
+
+/// R84: the table of an image.
+///
+/// # Errors
+/// R31, 11 with the byte offset.
+#[inline]
+fn read_image(image: &[u8]) -> Result<Pump, (u16, u64)> {
+    match image.try_into() {
+        Ok(whole) => read_whole(whole),
+        Err(_) => Err(wrong_length(image)),
+    }
+}
+
+/// R84: writes the image.
+#[inline]
+fn write_image(pump: &Pump, image: &mut [u8; LENGTH]) {
+    image[0] = 1;
+    image[1..FIRST].copy_from_slice(&pump.clock.to_le_bytes());
+    let slots = image[FIRST..].chunks_exact_mut(SLOT);
+    for (held, slot) in pump.slots.iter().zip(slots) {
+        let (kind, numbers) = match *held {
+            Held::Nothing => (0, [0; 4]),
+            Held::Running {
+                need,
+                period,
+                age,
+                remaining,
+            } => (1, [need, period, age, remaining]),
+            Held::Waiting { need, period, wait } => (2, [need, period, wait, 0]),
+        };
+        slot[0] = kind;
+        for (k, number) in numbers.into_iter().enumerate() {
+            slot[1 + 2 * k..3 + 2 * k].copy_from_slice(&number.to_le_bytes());
+        }
+    }
+}
+
+/// R88: reads the image, steps its table and writes the next one's.
+///
+/// # Errors
+/// R31, R35, R24 and R34, in that order; then no byte is written.
+#[inline]
+pub fn step_image(image: &mut [u8]) -> Result<Option<usize>, (u16, u64)> {
+    let mut pump = read_image(image)?;
+    let ran = pump.step()?;
+    if let Ok(whole) = image.try_into() {
+        write_image(&pump, whole);
+    }
+    Ok(ran)
+}
+
+/// R89: the ready word of the image's table.
+///
+/// # Errors
+/// R31, 11 with the byte offset.
+#[inline]
+pub fn ready_image(image: &[u8]) -> Result<u16, (u16, u64)> {
+    let pump = read_image(image)?;
+    let owed = |held: &Held| matches!(held, Held::Running { remaining, .. } if *remaining > 0);
+    let bits = pump.slots.iter().enumerate();
+    Ok(bits.fold(0, |word, (k, held)| word | u16::from(owed(held)) << k))
+}
+
+#[cfg(test)]
+mod tests {
+    use super::*;
+
+    /// A line that runs in slot 0, one that waits in slot 15.
+    fn image() -> [u8; LENGTH] {
+        let mut image = [0; LENGTH];
+        image[0] = 1;
+        image[9..18].copy_from_slice(&[1, 2, 0, 4, 0, 1, 0, 2, 0]);
+        image[144..].copy_from_slice(&[2, 1, 0, 4, 0, 1, 0, 0, 0]);
+        image
+    }
+
+    #[test]
+    fn a_step_reads_and_writes() {
+        let mut stepped = image();
+        assert_eq!(ready_image(&stepped), Ok(1));
+        assert_eq!(step_image(&mut stepped), Ok(Some(0)));
+        let mut wanted = image();
+        wanted[1] = 1;
+        wanted[9..18].copy_from_slice(&[1, 2, 0, 4, 0, 2, 0, 1, 0]);
+        wanted[144..].copy_from_slice(&[1, 1, 0, 4, 0, 0, 0, 1, 0]);
+        assert_eq!(stepped, wanted);
+        assert_eq!(ready_image(&stepped), Ok(0x8001));
+    }
+
+    #[test]
+    fn the_first_fault() {
+        for (offset, byte) in [
+            (0, 2),
+            (18, 3),
+            (19, 1),
+            (26, 9),
+            (144, 3),
+            (151, 1),
+            (152, 1),
+        ] {
+            let mut broken = image().to_vec();
+            broken[offset] = byte;
+            broken.push(0);
+            for length in 0..=154 {
+                let wanted = Err((11, offset.min(length) as u64));
+                assert_eq!(step_image(&mut broken[..length]), wanted);
+            }
+        }
+        assert_eq!(ready_image(&image()[..152]), Err((11, 152)));
+        assert_eq!(ready_image(&[&image()[..], &[0]].concat()), Err((11, 153)));
+    }
+}

@@ -1,0 +1,76 @@
+/*
+ * bare: a pump with no C library and no operating system's start-up code, linked with -nostdlib. What stands here
+ * is all that libhouse.a needs from outside.
+ *
+ * Exit status: 0 the pump did what the rules say, 1 it did not.
+ */
+#include "trimthuel.h"
+
+/* What a compiler may call by itself, also in freestanding code. */
+void *memmove(void *to, const void *from, size_t n)
+{
+    unsigned char *t = to;
+    const unsigned char *f = from;
+
+    if (t < f)
+        for (size_t i = 0; i < n; i++)
+            t[i] = f[i];
+    else
+        while (n-- > 0)
+            t[n] = f[n];
+    return to;
+}
+
+void *memcpy(void *to, const void *from, size_t n)
+{
+    return memmove(to, from, n);
+}
+
+void *memset(void *to, int byte, size_t n)
+{
+    unsigned char *t = to;
+
+    while (n-- > 0)
+        t[n] = (unsigned char)byte;
+    return to;
+}
+
+int memcmp(const void *one, const void *other, size_t n)
+{
+    const unsigned char *a = one, *b = other;
+
+    for (size_t i = 0; i < n; i++)
+        if (a[i] != b[i])
+            return a[i] < b[i] ? -1 : 1;
+    return 0;
+}
+
+/* R17, R63 */
+static int is(struct trimthuel_result result, uint64_t number, uint64_t place, uint64_t value)
+{
+    return result.number == number && result.place == place && result.value == value;
+}
+
+/* A line with 1 tick in every 2 runs at once; one that wants the whole pump beside it is refused (R28). */
+static int pump_is_right(void)
+{
+    static const uint16_t none[TRIMTHUEL_SLOTS] = {0}, kept[TRIMTHUEL_SLOTS] = {2};
+    static uint8_t pump[TRIMTHUEL_TABLE_SIZE];
+
+    return trimthuel_version() == TRIMTHUEL_VERSION && is(trimthuel_step(pump, sizeof pump), 11, 0, 0) &&
+           is(trimthuel_empty(pump, sizeof pump), 0, 0, TRIMTHUEL_TABLE_SIZE) &&
+           is(trimthuel_admit(pump, sizeof pump, 1, 2, none), 0, 0, 0) &&
+           is(trimthuel_ask(pump, sizeof pump, 2, 2, kept), 8, 0, 0) &&
+           is(trimthuel_ready(pump, sizeof pump), 0, 0, 1) &&
+           is(trimthuel_step(pump, sizeof pump), 0, 0, 0) &&
+           is(trimthuel_step(pump, sizeof pump), 0, 0, TRIMTHUEL_NO_SLOT);
+}
+
+/* Linux enters here with the stack as no caller leaves it, and is left by its call 60. */
+__attribute__((force_align_arg_pointer, noreturn)) void _start(void)
+{
+    long status = pump_is_right() ? 0 : 1;
+
+    for (;;)
+        __asm__ volatile("syscall" : : "a"(60L), "D"(status) : "rcx", "r11", "memory");
+}

@@ -1,0 +1,106 @@
+//! The pump, which owns its table.
+
+use crate::{image, Answer, Refusal, Request, IMAGE_VERSION, REQUEST_SIZE, SLOTS, TABLE_SIZE};
+
+/// A pump: the image of its table (R81), which always reads.
+#[derive(Clone, Debug, PartialEq, Eq, Hash)]
+pub struct Pump {
+    image: [u8; TABLE_SIZE],
+}
+
+impl Pump {
+    /// R4: the empty table, the version and zeros, also in a `static`. [`image::empty`] writes the same bytes.
+    #[must_use]
+    pub const fn new() -> Pump {
+        let mut image = [0; TABLE_SIZE];
+        image[0] = IMAGE_VERSION;
+        Pump { image }
+    }
+
+    /// R83: the pump that was kept as an image.
+    ///
+    /// # Errors
+    /// Refusal 11, at the lowest offset at which the image is broken.
+    pub fn from_image(bytes: &[u8]) -> Result<Pump, Refusal> {
+        // R89: to answer the ready word is to read the image.
+        image::ready(bytes)?;
+        let mut pump = Pump::new();
+        pump.image.copy_from_slice(bytes);
+        Ok(pump)
+    }
+
+    /// R92: the table and the request of a card.
+    ///
+    /// # Errors
+    /// Refusal 11 or 12, of the reader.
+    pub fn from_card(card: &[u8]) -> Result<(Pump, Request), Refusal> {
+        let mut pump = Pump::new();
+        let mut numbers = [0; REQUEST_SIZE];
+        image::read_card(card, &mut pump.image, &mut numbers)?;
+        Ok((pump, Request::from_numbers(numbers)))
+    }
+
+    /// The image, to be kept while the power is off.
+    #[must_use]
+    pub fn image(&self) -> &[u8; TABLE_SIZE] {
+        &self.image
+    }
+
+    /// A request for a new line with which every running line keeps its period; [`Request::stretch`] stretches some.
+    #[must_use]
+    pub fn request(&self, need: u16, period: u16) -> Request {
+        (0..SLOTS).fold(Request::new(need, period), |request, slot| {
+            request.stretch(slot, self.period(slot))
+        })
+    }
+
+    /// R81: the period of the line in a slot, 0 where it holds nothing.
+    fn period(&self, slot: usize) -> u16 {
+        let at = 9 + 9 * slot + 3;
+        u16::from_le_bytes([self.image[at], self.image[at + 1]])
+    }
+
+    /// R41: when the new line could start, and in which slot.
+    ///
+    /// # Errors
+    /// The first of the refusals 1 to 10 that holds.
+    pub fn ask(&self, request: &Request) -> Result<Answer, Refusal> {
+        image::ask(&self.image, request)
+    }
+
+    /// R42: the same, and the new line is admitted.
+    ///
+    /// # Errors
+    /// As [`Pump::ask`].
+    pub fn admit(&mut self, request: &Request) -> Result<Answer, Refusal> {
+        image::admit(&mut self.image, request)
+    }
+
+    /// R48: one tick; answers the slot that got it.
+    ///
+    /// # Errors
+    /// Refusal 15, 4 or 14; on a pump that began as [`Pump::new`] and was never read from bytes, 15 only (R74).
+    pub fn step(&mut self) -> Result<Option<usize>, Refusal> {
+        image::step(&mut self.image)
+    }
+
+    /// R49: bit k is 1 where slot k is still owed ticks.
+    #[must_use]
+    pub fn ready(&self) -> u16 {
+        image::ready(&self.image).expect("a pump's image reads (R82)")
+    }
+
+    /// R91: writes the card of the table and a request to the start of `card`, and answers its length.
+    ///
+    /// # Errors
+    /// Refusal 3 where a line waits, or 13 if `card` is too short.
+    pub fn write_card(&self, request: &Request, card: &mut [u8]) -> Result<usize, Refusal> {
+        image::write_card(&self.image, request, card)
+    }
+}
+
+impl Default for Pump {
+    fn default() -> Pump {
+        Pump::new()
+    }
+}

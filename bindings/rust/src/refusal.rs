@@ -1,0 +1,55 @@
+//! Refusals: a number, a place, and the words for it.
+
+use core::{error, fmt};
+
+/// R17: a refusal.
+#[derive(Clone, Copy, Debug, PartialEq, Eq, Hash)]
+pub struct Refusal {
+    /// Refusal n is rule R(20 + n) of docs/RULES.md.
+    pub number: u16,
+    /// The slot or the byte offset that it speaks of, or 0.
+    pub place: u64,
+}
+
+/// R21 to R35: why, by the refusal's number. The header has the same words.
+const WHY: [&str; 16] = [
+    "no refusal has this number",
+    "the clock is too late to ask",
+    "no slot is empty",
+    "a line still waits",
+    "a line's numbers are unsound",
+    "a period would be shortened",
+    "the new line does not fit its period",
+    "the frame is above 1,000,000",
+    "more than all of the pump is asked for",
+    "the lines are behind their shares",
+    "the running lines alone come too late",
+    "a broken card or image",
+    "an old-order mark on a card",
+    "the buffer is too short",
+    "a period ended short",
+    "the clock's last tick",
+];
+
+impl Refusal {
+    /// Why, in words.
+    #[must_use]
+    pub fn why(self) -> &'static str {
+        WHY.get(usize::from(self.number)).unwrap_or(&WHY[0])
+    }
+
+    /// R50: how often the front lamp blinks for it.
+    #[must_use]
+    pub fn blinks(self) -> u8 {
+        crate::lamp(u64::from(self.number))
+    }
+}
+
+impl fmt::Display for Refusal {
+    fn fmt(&self, f: &mut fmt::Formatter<'_>) -> fmt::Result {
+        let Refusal { number, place } = self;
+        write!(f, "refusal {number} at {place}: {}", self.why())
+    }
+}
+
+impl error::Error for Refusal {}

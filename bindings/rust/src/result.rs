@@ -1,0 +1,44 @@
+//! R63: what the three numbers of a result mean.
+
+use crate::numbers::{Numbers, NO_SLOT};
+use crate::{Answer, Refusal};
+
+impl Numbers {
+    /// What is granted, or the refusal.
+    pub(crate) fn granted<T>(self, meaning: impl FnOnce(Numbers) -> T) -> Result<T, Refusal> {
+        if self.number == 0 {
+            return Ok(meaning(self));
+        }
+        Err(Refusal {
+            // R17: it has 16 bits.
+            number: self.number as u16,
+            place: self.place,
+        })
+    }
+
+    pub(crate) fn count(self) -> u64 {
+        self.value
+    }
+
+    /// Of what was written to lent bytes, and so within theirs.
+    pub(crate) fn length(self) -> usize {
+        self.value as usize
+    }
+
+    /// R86: the value is the start, the place the new line's slot.
+    pub(crate) fn answer(self) -> Answer {
+        Answer {
+            start: self.value,
+            slot: self.place as usize,
+        }
+    }
+
+    pub(crate) fn slot(self) -> Option<usize> {
+        (self.value != NO_SLOT).then_some(self.value as usize)
+    }
+
+    /// R49: sixteen bits.
+    pub(crate) fn word(self) -> u16 {
+        self.value as u16
+    }
+}

@@ -1,0 +1,106 @@
+//! Broken images (R83): the lowest offset, before any other ground.
+
+use crate::lent::Lent;
+use crate::samples::{case_a, image, offset, refused, running, waiting, Image, BENCH, LAST_TICK};
+use trimthuel::image::{admit, ask, ready, step, write_card};
+use trimthuel::{Pump, TABLE_SIZE};
+
+/// Every function that reads an image refuses these bytes with 11 at this offset, and leaves them.
+#[track_caller]
+fn broken(bytes: &[u8], at: usize) {
+    let mut table = Lent::new(bytes);
+    assert_eq!(ask(table.lend(), &BENCH), refused(11, at));
+    assert_eq!(admit(table.lend(), &BENCH), refused(11, at));
+    assert_eq!(step(table.lend()), refused(11, at));
+    assert_eq!(ready(table.lend()), refused(11, at));
+    assert_eq!(write_card(table.lend(), &BENCH, &mut []), refused(11, at));
+    assert_eq!(Pump::from_image(table.lend()), refused(11, at));
+    table.holds(bytes);
+}
+
+fn with(mut image: Image, at: usize, byte: u8) -> Image {
+    image[at] = byte;
+    image
+}
+
+/// Each of these has a ground of its own: 1 and 15, 2, 3, 4, and none.
+fn tables() -> [Image; 5] {
+    let full: Vec<_> = (0..16).map(|slot| (slot, running(1, 64, 0, 1))).collect();
+    [
+        image(LAST_TICK, &[]),
+        image(0, &full),
+        image(0, &[(3, waiting(1, 4, 5))]),
+        image(0, &[(0, running(9, 8, 8, 10))]),
+        case_a(),
+    ]
+}
+
+#[test]
+fn another_version() {
+    for table in tables() {
+        for version in [0, 2, 0xFF] {
+            broken(&with(table, 0, version), 0);
+        }
+    }
+}
+
+#[test]
+fn an_unknown_kind() {
+    for table in tables() {
+        for slot in 0..16 {
+            for kind in [3, 0xFF] {
+                broken(&with(table, offset(slot), kind), offset(slot));
+            }
+        }
+    }
+}
+
+#[test]
+fn a_byte_where_nothing_stands() {
+    let table = image(
+        LAST_TICK,
+        &[(3, waiting(0, 0, 0)), (4, running(0, 0, 0, 0))],
+    );
+    for slot in (0..16).filter(|slot| *slot != 4) {
+        let first = if slot == 3 { 7 } else { 1 };
+        for at in offset(slot) + first..offset(slot) + 9 {
+            for byte in [1, 0x80, 0xFF] {
+                broken(&with(table, at, byte), at);
+            }
+        }
+    }
+}
+
+#[test]
+fn a_cut_and_a_byte_too_many() {
+    for table in tables() {
+        for length in 0..TABLE_SIZE {
+            broken(&table[..length], length);
+        }
+        for more in [1, 2, TABLE_SIZE] {
+            broken(&[&table[..], &table[..more]].concat(), TABLE_SIZE);
+        }
+    }
+}
+
+#[test]
+fn the_lowest_offset_of_several() {
+    let (kind, byte) = (offset(5), offset(4) + 8);
+    let twice = with(with(case_a(), kind, 3), byte, 1);
+    broken(&twice, byte);
+    broken(&with(twice, 0, 0), 0);
+    broken(&twice[..byte + 1], byte);
+    broken(&twice[..byte], byte);
+    broken(&twice[..byte - 1], byte - 1);
+    broken(&[&twice[..], &[9]].concat(), byte);
+    // What is behind a kind that is none is not looked at.
+    broken(&with(with(case_a(), kind, 0xFF), kind + 1, 1), kind);
+}
+
+#[test]
+fn any_numbers_are_taken() {
+    let line = running(0xFFFF, 0, 0xFFFF, 0xFFFF);
+    let table = image(u64::MAX, &[(0, line), (15, waiting(0, 0xFFFF, 0))]);
+    assert_eq!(ready(&table), Ok(1));
+    assert_eq!(Pump::from_image(&table).unwrap().image(), &table);
+}

@@ -1,0 +1,81 @@
+//! R63: all three numbers of a result, those too that the rest of the crate leaves out.
+
+use crate::lent::Lent;
+use crate::samples::{admitted, case_a, image, BENCH, CARD_A, LAST_TICK};
+use trimthuel::numbers::{self, Numbers, NO_SLOT};
+use trimthuel::{Request, CARD_MAX, LINE_MAX, REQUEST_SIZE, SLOTS, TABLE_SIZE};
+
+/// Number, place, value.
+#[track_caller]
+fn is(told: Numbers, wanted: [u64; 3]) {
+    assert_eq!([told.number, told.place, told.value], wanted);
+}
+
+/// A call with a request's numbers; the stretched periods are lent, and stay.
+fn with(request: Request, call: impl FnOnce(u16, u16, &[u16; SLOTS]) -> Numbers) -> Numbers {
+    let mut lent = Lent::new(&request.stretched);
+    let stretched = lent.lend().first_chunk().expect("sixteen periods");
+    let told = call(request.need, request.period, stretched);
+    lent.holds(&request.stretched);
+    told
+}
+
+#[test]
+fn ask_and_admit() {
+    for (request, wanted) in [(BENCH, [0, 2, 13]), (BENCH.stretch(1, 15), [5, 1, 0])] {
+        let mut table = case_a();
+        is(
+            with(request, |c, t, all| numbers::ask(&table, c, t, all)),
+            wanted,
+        );
+        is(
+            with(request, |c, t, all| numbers::admit(&mut table, c, t, all)),
+            wanted,
+        );
+    }
+}
+
+#[test]
+fn step_and_ready() {
+    is(numbers::step(&mut case_a()), [0, 0, 1]);
+    is(numbers::step(&mut image(0, &[])), [0, 0, NO_SLOT]);
+    is(numbers::step(&mut image(LAST_TICK, &[])), [15, 0, 0]);
+    is(numbers::step(&mut case_a()[..80]), [11, 80, 0]);
+    is(numbers::ready(&case_a()), [0, 0, 0b10]);
+    is(numbers::ready(&case_a()[..80]), [11, 80, 0]);
+}
+
+#[test]
+fn what_is_written() {
+    is(numbers::empty(&mut [0; TABLE_SIZE]), [0, 0, 153]);
+    is(numbers::empty(&mut [0; TABLE_SIZE - 1]), [13, 0, 0]);
+    for (table, room, wanted) in [
+        (case_a(), 40, [0, 0, 40]),
+        (case_a(), 39, [13, 0, 0]),
+        (admitted(), 40, [3, 2, 0]),
+    ] {
+        let card = &mut [0; CARD_MAX][..room];
+        let written = with(BENCH, |c, t, all| {
+            numbers::write_card(&table, c, t, all, card)
+        });
+        is(written, wanted);
+    }
+    let read =
+        |card, room| numbers::read_card(card, &mut [0; TABLE_SIZE][..room], &mut [0; REQUEST_SIZE]);
+    is(read(CARD_A, TABLE_SIZE), [0, 0, 153]);
+    is(read(CARD_A, TABLE_SIZE - 1), [13, 0, 0]);
+    is(read(&CARD_A[..39], TABLE_SIZE), [11, 34, 0]);
+}
+
+#[test]
+fn whole_cards() {
+    is(numbers::answer(CARD_A, &mut [0; LINE_MAX]), [0, 0, 11]);
+    is(numbers::answer(CARD_A, &mut [0; 10]), [13, 0, 0]);
+    is(numbers::rewrite(CARD_A, &mut [0; CARD_MAX]), [0, 0, 40]);
+    is(
+        numbers::rewrite(&CARD_A[..39], &mut [0; CARD_MAX]),
+        [11, 34, 0],
+    );
+    is(numbers::run(CARD_A, 56), [0, 0, 53]);
+    is(numbers::run(&CARD_A[..39], 56), [11, 34, 0]);
+}

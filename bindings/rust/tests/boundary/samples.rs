@@ -1,0 +1,73 @@
+//! Tables as images, written from R81 alone, and the card of case A.
+
+use trimthuel::{Refusal, Request, TABLE_SIZE};
+
+pub type Image = [u8; TABLE_SIZE];
+
+/// R7: the clock's last tick.
+pub const LAST_TICK: u64 = 1 << 48;
+
+/// R81: where a slot's nine bytes begin.
+pub fn offset(slot: usize) -> usize {
+    9 + 9 * slot
+}
+
+/// R81: a slot's kind and its four numbers.
+pub type Line = (u8, [u16; 4]);
+
+/// R3: C, T, age, remaining.
+pub fn running(need: u16, period: u16, age: u16, remaining: u16) -> Line {
+    (1, [need, period, age, remaining])
+}
+
+/// R3: C, T, wait.
+pub fn waiting(need: u16, period: u16, wait: u16) -> Line {
+    (2, [need, period, wait, 0])
+}
+
+/// R81: the image of a clock and some slots; the others hold nothing.
+pub fn image(clock: u64, lines: &[(usize, Line)]) -> Image {
+    let mut image = [0; TABLE_SIZE];
+    image[0] = 1;
+    image[1..9].copy_from_slice(&clock.to_le_bytes());
+    for (slot, (kind, numbers)) in lines {
+        let at = offset(*slot);
+        image[at] = *kind;
+        for (place, number) in (at + 1..).step_by(2).zip(numbers) {
+            image[place..place + 2].copy_from_slice(&number.to_le_bytes());
+        }
+    }
+    image
+}
+
+/// R67: the table of case A.
+pub fn case_a() -> Image {
+    image(8, &[(0, running(8, 16, 8, 0)), (1, running(8, 16, 8, 8))])
+}
+
+/// R67: the request of case A.
+pub const BENCH: Request = Request::new(1, 4).stretch(0, 32).stretch(1, 16);
+
+/// R42: case A after admit: the start is 13, so the new line waits 5 ticks.
+pub fn admitted() -> Image {
+    let lines = [
+        (0, running(8, 32, 8, 0)),
+        (1, running(8, 16, 8, 8)),
+        (2, waiting(1, 4, 5)),
+    ];
+    image(8, &lines)
+}
+
+/// R59: the card of case A.
+pub const CARD_A: &[u8] = b"CK\x08\0\0\0\0\0\0\0\
+    TB\x08\0\x10\0\x20\0\x08\0\0\0\
+    TB\x08\0\x10\0\x10\0\x08\0\x08\0\
+    RQ\x01\0\x04\0";
+
+/// R92: the request of case A as eighteen numbers.
+pub const NUMBERS_A: [u16; 18] = [32, 16, 0, 0, 0, 0, 0, 0, 0, 0, 0, 0, 0, 0, 0, 0, 1, 4];
+
+pub fn refused<T>(number: u16, place: usize) -> Result<T, Refusal> {
+    let place = place as u64;
+    Err(Refusal { number, place })
+}

@@ -1,0 +1,165 @@
+-- Runs over the boundary, R78, by computation: the lent bytes after a few acts, what a call answers on them, and each limit with an example on each side.
+use Prim.Native.Nat.{ℕ, zero, suc, _-_, _*_, _^_, _<_}
+use mathlib.Core.Path.{_≡_, refl, ap}
+use mathlib.Core.List.{List, [], _∷_, _++_, map}
+use native.Mathlib.Omega.{arith}
+use lib.ListN.{length, getD, replicate}
+use Rattle.periods.specs.Multiples.{euclid, gcdOf, lcmOf, frameFrom}
+use Rattle.line.specs.Slots.{total, lowest}
+use Rattle.line.specs.Demand.{due, lastEnd}
+use Rattle.line.specs.Stretch.{stretched}
+use Rattle.line.specs.Shares.{periodsIn}
+use Rattle.line.specs.Ends.{every, endsBefore, endsOf, slack, bound, greatest, anyOf, start}
+use Rattle.table.specs.declared.Request.{Request}
+use Rattle.table.specs.Words.{emptyTable, refusal}
+use Rattle.table.specs.Ask.{askIn, askOf}
+use Rattle.table.specs.Step.{chosen, advance, stepOf}
+use Rattle.table.specs.Runs.{Act, asking, admitting, stepping, run}
+use Rattle.table.specs.Cases.{tableOf}
+use Rattle.image.specs.Image.{imageOf}
+use Rattle.image.specs.Loading.{blankFrom, slotsWrong, lengthWrong, wrongIn, heldIn, loadWith, loadOf}
+use Rattle.image.specs.Answers.{storeOf, storedIn}
+use Rattle.house.specs.declared.Result.{Result}
+use Rattle.house.specs.Results.{grantedAs, refusedAs}
+use Rattle.house.specs.Tables.{askFor, stepFor}
+use Rattle.promises.specs.Images.{NarrowRequest, Narrowed, AllNarrowed, imageRun, UnfailingStep}
+
+-- ---- bytes
+
+-- the version and a clock below 256
+abbrev front : (clock : ℕ) → List ℕ
+front k = 1 ∷ k ∷ 0 ∷ 0 ∷ 0 ∷ 0 ∷ 0 ∷ 0 ∷ 0 ∷ []
+
+-- a running line whose numbers are below 256
+abbrev runs : (need period age remaining : ℕ) → List ℕ
+runs c p a r = 1 ∷ c ∷ 0 ∷ p ∷ 0 ∷ a ∷ 0 ∷ r ∷ 0 ∷ []
+
+-- a waiting one
+abbrev waits : (need period wait : ℕ) → List ℕ
+waits c p w = 2 ∷ c ∷ 0 ∷ p ∷ 0 ∷ w ∷ 0 ∷ 0 ∷ 0 ∷ []
+
+-- so many slots that hold nothing
+abbrev free : ℕ → List ℕ
+free n = replicate (9 * n) 0
+
+-- ---- acts
+
+-- a new line beside lines with these T'
+abbrev new : (T' : List ℕ) (need period : ℕ) → Request
+new ts c p = record { stretched = ts ++ replicate (16 - length ts) 0; need = c; period = p }
+
+-- some acts from the empty table, and the bytes of the image then
+pub record ImageCase : Type 0 where
+  pub acts : List Act
+  pub image : List ℕ
+
+abbrev comes : List Act → List ℕ → ImageCase
+comes done l = record { acts = done; image = l }
+
+-- a line is admitted
+abbrev one : List Act
+one = admitting (new [] 2 4) ∷ []
+
+-- two lines are admitted and run for four ticks; then the first is stretched, and the third waits for one tick
+abbrev three : List Act
+three =
+    admitting (new [] 4 8) ∷ admitting (new (8 ∷ []) 4 8) ∷ stepping ∷ stepping ∷ stepping ∷ stepping
+    ∷ admitting (new (16 ∷ 8 ∷ []) 1 4) ∷ []
+
+abbrev imageCases : List ImageCase
+imageCases =
+    comes [] (front 0 ++ free 16)
+    ∷ comes (asking (new [] 2 4) ∷ []) (front 0 ++ free 16)
+    ∷ comes (stepping ∷ []) (front 1 ++ free 16)
+    ∷ comes one (front 0 ++ (runs 2 4 0 2 ++ free 15))
+    ∷ comes (one ++ (stepping ∷ stepping ∷ [])) (front 2 ++ (runs 2 4 2 0 ++ free 15))
+    -- R86: an ask that would be granted leaves the bytes; R87: a refused admission, 8 and 5, leaves them too
+    ∷ comes (one ++ (asking (new (8 ∷ []) 1 4) ∷ [])) (front 0 ++ (runs 2 4 0 2 ++ free 15))
+    ∷ comes (one ++ (admitting (new (4 ∷ []) 3 4) ∷ admitting (new (3 ∷ []) 1 4) ∷ [])) (front 0 ++ (runs 2 4 0 2 ++ free 15))
+    ∷ comes three (front 4 ++ (runs 4 16 4 0 ++ (runs 4 8 4 4 ++ (waits 1 4 1 ++ free 13))))
+    ∷ comes (three ++ (stepping ∷ [])) (front 5 ++ (runs 4 16 5 0 ++ (runs 4 8 5 3 ++ (runs 1 4 0 1 ++ free 13))))
+    ∷ []
+
+-- R78: the bytes after the acts over the boundary
+pub image-cases : map (λ (c : ImageCase). imageRun (c .acts) (imageOf emptyTable)) imageCases ≡ map (λ (c : ImageCase). c .image) imageCases
+unfolding euclid gcdOf lcmOf frameFrom total lowest due lastEnd stretched periodsIn every endsBefore endsOf slack bound greatest anyOf start askIn askOf chosen advance stepOf imageOf blankFrom slotsWrong lengthWrong wrongIn heldIn loadWith storeOf
+image-cases = refl
+
+-- R78: and the image of the table after the same acts
+pub table-cases : map (λ (c : ImageCase). imageOf (run (c .acts) emptyTable)) imageCases ≡ map (λ (c : ImageCase). c .image) imageCases
+unfolding euclid gcdOf lcmOf frameFrom total lowest due lastEnd stretched periodsIn every endsBefore endsOf slack bound greatest anyOf start askIn askOf chosen advance stepOf imageOf
+table-cases = refl
+
+-- ---- answers
+
+-- R86, R87: what is asked or admitted over the boundary after some acts
+abbrev askAfter : List Act → Request → Result
+askAfter done q = askFor (loadOf (imageRun done (imageOf emptyTable))) q
+
+-- R88: a step over the boundary after some acts
+abbrev stepAfter : List Act → Result
+stepAfter done = stepFor (loadOf (imageRun done (imageOf emptyTable)))
+
+-- R86, R88: the start with its slot, refusals 8 and 5, the slot that ran, and 255 where none did
+pub answer-cases :
+    (askAfter [] (new [] 2 4) ∷ askAfter one (new (8 ∷ []) 1 4) ∷ askAfter one (new (4 ∷ []) 3 4) ∷ askAfter one (new (3 ∷ []) 1 4)
+    ∷ stepAfter [] ∷ stepAfter one ∷ stepAfter three ∷ stepAfter (one ++ (stepping ∷ stepping ∷ [])) ∷ [])
+    ≡ (grantedAs 0 0 ∷ grantedAs 1 0 ∷ refusedAs (refusal 8 0) ∷ refusedAs (refusal 5 0)
+    ∷ grantedAs 0 255 ∷ grantedAs 0 0 ∷ grantedAs 0 1 ∷ grantedAs 0 255 ∷ [])
+unfolding euclid gcdOf lcmOf frameFrom total lowest due lastEnd stretched periodsIn every endsBefore endsOf slack bound greatest anyOf start askIn askOf chosen advance stepOf imageOf blankFrom slotsWrong lengthWrong wrongIn heldIn loadWith storeOf
+answer-cases = refl
+
+-- R74, R35: the last tick that a step goes on from, and the one after it
+pub last-steps :
+    map (λ (k : ℕ). stepFor (loadOf (imageOf (tableOf k [])))) ((2 ^ 48 - 1) ∷ (2 ^ 48) ∷ []) ≡ grantedAs 0 255 ∷ refusedAs (refusal 15 0) ∷ []
+unfolding lowest chosen advance stepOf imageOf blankFrom slotsWrong lengthWrong wrongIn heldIn loadWith
+last-steps = refl
+
+-- R74: a step that reports 14 or 4 is none that is promised, at any clock
+pub neither-14-nor-4 : (k i : ℕ) → (UnfailingStep k (refusedAs (refusal 14 i)) → ⊥) × (UnfailingStep k (refusedAs (refusal 4 i)) → ⊥)
+neither-14-nor-4 k i = (
+  λ u. omega (arith, ap (λ (r : Result). r .number) (u .only-fifteen (λ z. omega arith) .0)),
+  λ u. omega (arith, ap (λ (r : Result). r .number) (u .only-fifteen (λ z. omega arith) .0)),
+)
+
+-- R74, R35: nor is one that reports 15 a tick before the last, or goes on at the last
+pub fifteen-edges : (UnfailingStep (2 ^ 48 - 1) (refusedAs (refusal 15 0)) → ⊥) × (UnfailingStep (2 ^ 48) (grantedAs 0 255) → ⊥)
+fifteen-edges = (
+  λ u. omega (arith, u .only-fifteen (λ z. omega arith) .1),
+  λ u. omega (arith, ap (λ (r : Result). r .number) (u .at-the-last refl)),
+)
+
+-- R74: a tick before the last every step goes on
+pub before-the-last : (r : Result) → UnfailingStep (2 ^ 48 - 1) r → r .number ≡ 0
+before-the-last r u = ap (λ (x : Result). x .number) (u .goes-on (omega arith) .1)
+
+-- ---- limits
+
+-- R85: of other bytes, 153 become the image of the empty table, 152 are left, and of 154 one is left behind it
+pub empty-edges : map (λ (n : ℕ). storedIn emptyTable (replicate n 7)) (153 ∷ 152 ∷ 154 ∷ [])
+    ≡ imageOf emptyTable ∷ replicate 152 7 ∷ (imageOf emptyTable ++ (7 ∷ [])) ∷ []
+unfolding imageOf storeOf
+empty-edges = refl
+
+zeros : (n i : ℕ) → getD (replicate n 0) i 0 < 2 ^ 16
+zeros zero i = omega arith
+zeros (suc n) zero = omega arith
+zeros (suc n) (suc i) = zeros n i
+
+-- R6: need, period and T' are at most 65,535, in what is asked as in what is admitted
+pub narrow-edges : NarrowRequest (new [] 65535 65535)
+    × (NarrowRequest (new [] 65536 65535) → ⊥) × (NarrowRequest (new [] 65535 65536) → ⊥) × (NarrowRequest (new (65536 ∷ []) 1 4) → ⊥)
+narrow-edges = ((omega arith, omega arith, zeros 16), (λ n. omega (arith, n .0)), (λ n. omega (arith, n .1)), (λ n. omega (arith, n .2 0)))
+
+-- R6, R73: every act counts, wherever it stands
+pub every-act : (Narrowed (asking (new [] 65536 65536)) → ⊥) × (Narrowed (admitting (new [] 1 65536)) → ⊥) × (AllNarrowed (stepping ∷ admitting (new [] 1 65536) ∷ []) → ⊥)
+every-act = ((λ n. omega (arith, n .0)), (λ n. omega (arith, n .1)), (λ n. omega (arith, n .1 .0 .1)))
+
+-- a period of seventeen bits is admitted, and stepped
+abbrev tooWide : List Act
+tooWide = admitting (new [] 1 65536) ∷ stepping ∷ []
+
+-- R78: where a number is wider the bytes are not the image of the run's table: its period is lost and the step is refused
+pub wider-is-lost : imageRun tooWide (imageOf emptyTable) ≡ imageOf (run tooWide emptyTable) → ⊥
+unfolding euclid gcdOf lcmOf frameFrom total lowest due lastEnd stretched periodsIn every endsBefore endsOf slack bound greatest anyOf start askIn askOf chosen advance stepOf imageOf blankFrom slotsWrong lengthWrong wrongIn heldIn loadWith storeOf
+wider-is-lost e = let z : _≡_ {A = ℕ} 0 1 = ap (λ (l : List ℕ). getD l 1 0) e in omega arith

@@ -1,0 +1,235 @@
+-- No refusal has the number 0, so that a result's number is 0 exactly where something is granted (R63).
+use mathlib.Core.Path.{_≡_, refl, sym, ap, _∙_}
+use mathlib.Core.Bool.{Bool, true, false, not}
+use mathlib.Core.Logic.{⊎-elim}
+use mathlib.Core.List.{List, [], _∷_}
+use mathlib.Core.Option.{Option, none, some}
+use Prim.Native.Nat.{ℕ, zero, suc, _+_, _^_}
+use native.Mathlib.Omega.{arith}
+use lib.ListN.{length, drop}
+use lib.Dec.{leb, ltb, eqb}
+use Rattle.line.specs.declared.Slot.{Slot}
+use Rattle.line.specs.Slots.{pick, both, isWaiting, lowestOf}
+use Rattle.table.specs.declared.Table.{Table}
+use Rattle.table.specs.declared.Request.{Request}
+use Rattle.table.specs.declared.Refusal.{Refusal}
+use Rattle.table.specs.declared.Answer.{Answer}
+use Rattle.table.specs.declared.Answer.the-variants.{Start, Refused}
+use Rattle.table.specs.declared.Stepped.{Stepped}
+use Rattle.table.specs.Words.{refusal, Said, gives, refuses}
+use Rattle.table.specs.Grounds.{Row, grounds, FirstOf, Answers}
+use Rattle.table.specs.Ask.{says, askOf}
+use Rattle.table.specs.Admit.{admitWith}
+use Rattle.table.specs.Step.{saysRan, choose, serve, refusedStep, stepUnless, advance, stepOf}
+use Rattle.line.specs.Tick.{short}
+use Rattle.line.specs.Sound.{sound}
+use Rattle.theory.proofs.Answers.{ask-answers}
+use Rattle.card.specs.declared.Record.{Record}
+use Rattle.card.specs.Bytes.{value, CK, TB, TF, TA, RQ, marked}
+use Rattle.card.specs.Card.{Card, cardOf}
+use Rattle.card.specs.Reading.{lineRecordOf, lastOf, slotRecordOf, recordOf, putInFront, step, recordsOf, readWith, readOf}
+use Rattle.card.specs.Answers.{lengthOf, unlessWaiting, writeOf}
+use Rattle.image.specs.Loading.{wrongIn, tableIn, unlessWrong, loadWith, loadOf}
+use Rattle.image.specs.Answers.{storeOf}
+use Rattle.reply.specs.Line.{fits}
+use Rattle.house.specs.Results.{resultOf}
+use Rattle.house.specs.Cards.{saidPut, putOf, rewriteFor, rewriteOf, andThen, ticksRun, runAdmitted, runFor, runOf}
+use Rattle.house.specs.Moves.{writeCardFor, readCardFor}
+
+-- R63: if it is a refusal, its number is not 0
+abbrev pub Numbered : {A : Type 0} → Said A → Type 0
+Numbered (gives a) = Unit {0}
+Numbered (refuses x) = x .number ≡ 0 → ⊥
+
+-- R63: a result with the number 0 is a grant
+pub zero-grants : (s : Said ℕ) → Numbered s → resultOf s .number ≡ 0 → (v : ℕ) × (s ≡ gives v)
+zero-grants (gives v) n e = (v, refl)
+zero-grants (refuses x) n e = absurd (n e)
+
+-- ---- ask and step
+
+-- every ground's number is not 0
+abbrev AllNumbered : List Row → Type 0
+AllNumbered [] = Unit {0}
+AllNumbered (r ∷ rs) = (r .number ≡ 0 → ⊥) × AllNumbered rs
+
+first-numbered : (rs : List Row) (t : Table) (q : Request) (x : Refusal) → AllNumbered rs → FirstOf rs t q x → x .number ≡ 0 → ⊥
+first-numbered [] t q x a f = absurd f
+first-numbered (r ∷ rs) t q x a f =
+    ⊎-elim (λ g e. a .0 (sym (ap (λ (y : Refusal). y .number) (g .2)) ∙ e)) (λ g. first-numbered rs t q x (a .1) (g .1)) f
+
+all-numbered : AllNumbered grounds
+all-numbered = (λ e. omega arith, (λ e. omega arith, (λ e. omega arith, (λ e. omega arith, (λ e. omega arith, (λ e. omega arith, (λ e. omega arith, (λ e. omega arith, (λ e. omega arith, (λ e. omega arith, tt))))))))))
+
+-- R86: ask's refusals
+pub ask-numbered : (t : Table) (q : Request) → Numbered (says (askOf t q))
+ask-numbered t q = go (says (askOf t q)) (ask-answers t q)
+  where
+    go : (s : Said ℕ) → Answers t q s → Numbered s
+    go (gives r) h = tt
+    go (refuses x) h = first-numbered grounds t q x all-numbered h
+
+step-unless : (o : Option ℕ) (n : ℕ) (t : Table) (s : Stepped) → (n ≡ 0 → ⊥) → Numbered (saysRan (s .outcome)) → Numbered (saysRan (stepUnless o n t s .outcome))
+step-unless none n t s h k = k
+step-unless (some p) n t s h k = h
+
+advance-numbered : (o : Option ℕ) (t : Table) → Numbered (saysRan (advance o t .outcome))
+unfolding advance
+advance-numbered o t = step-unless (lowestOf short (serve o (t .slots))) 14 t _ (λ e. omega arith) tt
+
+-- R88: a step's
+pub step-numbered : (t : Table) → Numbered (saysRan (stepOf t .outcome))
+unfolding stepOf
+step-numbered t =
+    go (leb (2 ^ 48) (t .clock)) _ (step-unless (lowestOf (λ h. not (sound h)) (t .slots)) 4 t (advance (choose (t .slots)) t) (λ e. omega arith) (advance-numbered (choose (t .slots)) t))
+  where
+    go : (b : Bool) (s : Stepped) → Numbered (saysRan (s .outcome)) → Numbered (saysRan (pick b (refusedStep t 15 0) s .outcome))
+    go true s k = λ e. omega arith
+    go false s k = k
+
+-- ---- image and writer
+
+-- R83: an image's
+pub load-numbered : (n : ℕ) (l : List ℕ) → Numbered (loadWith n l)
+unfolding loadWith
+load-numbered n l = go (wrongIn n l)
+  where
+    go : (o : Option ℕ) → Numbered (unlessWrong o (tableIn n l))
+    go none = tt
+    go (some p) = λ e. omega arith
+
+room-numbered : (b : Bool) (n : ℕ) → Numbered (pick b (gives n) (refuses (refusal 13 0)))
+room-numbered true n = tt
+room-numbered false n = λ e. omega arith
+
+-- R84: a buffer's
+pub store-numbered : (room : ℕ) → Numbered (storeOf room)
+unfolding storeOf
+store-numbered room = room-numbered (leb 153 room) 153
+
+-- R59: the writer's
+pub write-numbered : (t : Table) (q : Request) (room : ℕ) → Numbered (writeOf t q room)
+unfolding lengthOf
+write-numbered t q room = go (lowestOf isWaiting (t .slots))
+  where
+    go : (o : Option ℕ) → Numbered (unlessWaiting o (pick (leb (length (cardOf t q)) room) (gives (length (cardOf t q))) (refuses (refusal 13 0))))
+    go (some k) = λ e. omega arith
+    go none = room-numbered (leb (length (cardOf t q)) room) (length (cardOf t q))
+
+-- ---- reader
+
+-- a record that is refused has a number
+abbrev Marked : Record → Type 0
+Marked (Record.Line r t) = Unit {0}
+Marked Record.Free = Unit {0}
+Marked (Record.Last c n) = Unit {0}
+Marked (Record.Refused n) = n ≡ 0 → ⊥
+
+pick-marked : (b : Bool) (x y : Record) → Marked x → Marked y → Marked (pick b x y)
+pick-marked true x y p q = p
+pick-marked false x y p q = q
+
+broken : Marked (Record.Refused 11)
+broken e = omega arith
+
+old : Marked (Record.Refused 12)
+old e = omega arith
+
+record-marked : (left : ℕ) (l : List ℕ) → Marked (recordOf left l)
+unfolding recordOf
+record-marked left l =
+    let line : Marked (lineRecordOf l) = go (leb 12 (length l)) _ tt in
+    let last : Marked (lastOf l) = go (leb 6 (length l)) _ tt in
+    let unknown : Marked (pick (marked TA l) (Record.Refused 12) (Record.Refused 11)) = pick-marked (marked TA l) (Record.Refused 12) (Record.Refused 11) old broken in
+    let slot : Marked (slotRecordOf l) = pick-marked (marked TB l) (lineRecordOf l) _ line (pick-marked (marked TF l) Record.Free _ tt unknown) in
+    pick-marked (marked RQ l) (lastOf l) _ last (pick-marked (ltb 0 left) (slotRecordOf l) (Record.Refused 11) slot broken)
+  where
+    go : (b : Bool) (x : Record) → Marked x → Marked (pick b x (Record.Refused 11))
+    go b x m = pick-marked b x (Record.Refused 11) m broken
+
+in-front : (ss : List Slot) (ts : List ℕ) (s : Said Card) → Numbered s → Numbered (putInFront ss ts s)
+in-front ss ts (gives c) h = tt
+in-front ss ts (refuses x) h = h
+
+closing-numbered : (gap o : Bool) (at : ℕ) (c : Card) → Numbered (pick gap (refuses (refusal 11 at)) (pick o (gives c) (refuses (refusal 11 (at + 6)))))
+closing-numbered true o at c = λ e. omega arith
+closing-numbered false true at c = tt
+closing-numbered false false at c = λ e. omega arith
+
+-- a record's step, where what follows it is numbered
+one-step : (k left : ℕ) (gap : Bool) (at : ℕ) (l : List ℕ) (next : Bool → ℕ → List ℕ → Said Card) (r : Record) → Marked r
+    → ((g : Bool) (a : ℕ) (x : List ℕ) → Numbered (next g a x)) → Numbered (step k left gap at l next r)
+one-step k left gap at l next (Record.Line r t) m h = in-front _ _ (next false (at + 12) (drop 12 l)) (h false (at + 12) (drop 12 l))
+one-step k left gap at l next Record.Free m h = in-front _ _ (next true (at + 2) (drop 2 l)) (h true (at + 2) (drop 2 l))
+one-step k left gap at l next (Record.Last c n) m h = closing-numbered gap (eqb (length l) 6) at _
+one-step k left gap at l next (Record.Refused n) m h = m
+
+records-numbered : (k left : ℕ) (gap : Bool) (at : ℕ) (l : List ℕ) → Numbered (recordsOf k left gap at l)
+unfolding recordsOf
+records-numbered k zero gap at l = one-step k 0 gap at l _ (recordOf 0 l) (record-marked 0 l) (λ g a x e. omega arith)
+records-numbered k (suc n) gap at l = one-step k (suc n) gap at l (recordsOf k n) (recordOf (suc n) l) (record-marked (suc n) l) (records-numbered k n)
+
+-- R57, R58: the reader's
+pub read-numbered : (n : ℕ) (l : List ℕ) → Numbered (readWith n l)
+unfolding readWith
+read-numbered n l = go (both (leb 10 (length l)) (marked CK l)) (recordsOf (value 8 l 2) n false 10 (drop 10 l)) (records-numbered (value 8 l 2) n false 10 (drop 10 l))
+  where
+    go : (b : Bool) (s : Said Card) → Numbered s → Numbered (pick b s (refuses (refusal 11 0)))
+    go true s h = h
+    go false s h = λ e. omega arith
+
+-- ---- what is put together of these
+
+-- R62: a line's
+pub put-numbered : (line l : List ℕ) → Numbered (putOf line l)
+put-numbered line l = go (fits line l)
+  where
+    go : (b : Bool) → Numbered (saidPut (pick b (some (length line)) none))
+    go true = tt
+    go false = λ e. omega arith
+
+-- R65: a card's that is written anew
+pub rewrite-numbered : (card : List ℕ) (room : ℕ) → Numbered (rewriteOf card room)
+rewrite-numbered card room = go (readOf card) (read-numbered 16 card)
+  where
+    go : (s : Said Card) → Numbered s → Numbered (rewriteFor s room)
+    go (gives c) h = write-numbered (c .table) (c .request) room
+    go (refuses x) h = h
+
+then-numbered : (s : Said (Option ℕ)) (r : Said ℕ) → Numbered s → Numbered r → Numbered (andThen s r)
+then-numbered (gives o) (gives n) h k = tt
+then-numbered (gives o) (refuses x) h k = k
+then-numbered (refuses x) r h k = h
+
+ticks-numbered : (n : ℕ) (t : Table) → Numbered (ticksRun n t)
+unfolding ticksRun
+ticks-numbered zero t = tt
+ticks-numbered (suc n) t = then-numbered (saysRan (stepOf t .outcome)) (ticksRun n (stepOf t .table)) (step-numbered t) (ticks-numbered n (stepOf t .table))
+
+-- R66: a run's
+pub run-numbered : (card : List ℕ) (ticks : ℕ) → Numbered (runOf card ticks)
+run-numbered card ticks = go (readOf card) (read-numbered 16 card)
+  where
+    admitted : (t : Table) (q : Request) (a : Answer) → Numbered (says a) → Numbered (runAdmitted ticks (admitWith t q a))
+    admitted t q (Start r) h = ticks-numbered ticks (admitWith t q (Start r) .table)
+    admitted t q (Refused x) h = h
+
+    go : (s : Said Card) → Numbered s → Numbered (runFor ticks s)
+    go (gives c) h = admitted (c .table) (c .request) (askOf (c .table) (c .request)) (ask-numbered (c .table) (c .request))
+    go (refuses x) h = h
+
+-- R91: a table's that is written as a card
+pub card-numbered : (l : List ℕ) (q : Request) (room : ℕ) → Numbered (writeCardFor (loadOf l) q room)
+card-numbered l q room = go (loadOf l) (load-numbered 16 l)
+  where
+    go : (s : Said Table) → Numbered s → Numbered (writeCardFor s q room)
+    go (gives t) h = write-numbered t q room
+    go (refuses x) h = h
+
+-- R92: a card's that is read as a table
+pub image-numbered : (card : List ℕ) (room : ℕ) → Numbered (readCardFor (readOf card) room)
+image-numbered card room = go (readOf card) (read-numbered 16 card)
+  where
+    go : (s : Said Card) → Numbered s → Numbered (readCardFor s room)
+    go (gives c) h = store-numbered room
+    go (refuses x) h = h

@@ -1,0 +1,170 @@
+-- Every act keeps the code's widths: numbers of sixteen bits stay so in a tick and in an admission, and the clock ends long before its own width.
+use mathlib.Core.Path.{_≡_, refl, sym, _∙_, subst}
+use mathlib.Core.Bool.{Bool, true, false, not}
+use mathlib.Core.List.{List, [], _∷_}
+use mathlib.Core.Option.{Option, none, some}
+use Prim.Native.Nat.{ℕ, zero, suc, _+_, _-_, _^_, _<_}
+use native.Mathlib.Omega.{arith}
+use borrow.Author.Tests.{lt-ltb, le-ltb, lt-leb}
+use lib.Dec.{ltb}
+use lib.ListN.{set}
+use Rattle.line.specs.declared.Held.{Held}
+use Rattle.line.specs.declared.Held.the-variants.{Nothing, Running, Waiting}
+use Rattle.line.specs.declared.Slot.{Slot}
+use Rattle.table.specs.declared.Table.{Table}
+use Rattle.table.specs.declared.Request.{Request}
+use Rattle.table.specs.declared.Answer.{Answer}
+use Rattle.table.specs.declared.Answer.the-variants.{Start, Refused}
+use Rattle.table.specs.declared.Stepped.{Stepped}
+use Rattle.line.specs.Slots.{pick, at, isNothing, lowestOf}
+use Rattle.line.specs.Sound.{sound}
+use Rattle.line.specs.Demand.{endOf, lastEnd}
+use Rattle.line.specs.Stretch.{stretch, stretched}
+use Rattle.line.specs.Tick.{fresh, served, passed, short}
+use Rattle.table.specs.Grounds.{entry, asked}
+use Rattle.table.specs.Ask.{askOf}
+use Rattle.table.specs.Admit.{newLine, putAt, admitWith}
+use Rattle.table.specs.Step.{choose, serve, pass, stepUnless, advance, stepOf}
+use Rattle.table.specs.Runs.{Act, asking, admitting, stepping, after}
+use Rattle.image.specs.Image.{Narrow, AllNarrow, Wide}
+use Rattle.theory.specs.Fine.{ticked}
+use Rattle.theory.proofs.Numbers.{split}
+use Rattle.theory.proofs.Start.{least-by-last}
+use Rattle.theory.proofs.Granted.{granted}
+use Rattle.theory.proofs.Trace.{length-tick}
+use Rattle.promises.specs.Images.{NarrowRequest, Narrowed}
+use Rattle.promises.proofs.Good.{at-last}
+use Rattle.promises.proofs.Kept.{admit-clock, admit-length}
+
+-- ---- slot by slot
+
+-- R3: any slot, also one beyond the last
+narrow-at : (l : List Slot) → AllNarrow l → (i : ℕ) → Narrow (at l i)
+narrow-at [] n i = tt
+narrow-at (s ∷ l) n zero = n .0
+narrow-at (s ∷ l) n (suc i) = narrow-at l (n .1) i
+
+-- R3: another line in a slot
+narrow-set : (l : List Slot) (j : ℕ) (v : Held) → AllNarrow l → Narrow v → AllNarrow (set l j (record { held = v }))
+narrow-set [] j v n m = tt
+narrow-set (s ∷ l) zero v n m = (m, n .1)
+narrow-set (s ∷ l) (suc j) v n m = (n .0, narrow-set l j v (n .1) m)
+
+narrow-put : (o : Option ℕ) (h : Held) (l : List Slot) → Narrow h → AllNarrow l → AllNarrow (putAt o h l)
+narrow-put none h l m n = n
+narrow-put (some k) h l m n = narrow-set l k h n m
+
+-- ---- a tick
+
+narrow-served : (h : Held) → Narrow h → Narrow (served h)
+narrow-served Nothing n = n
+narrow-served (Running r) n = omega arith
+narrow-served (Waiting w) n = n
+
+narrow-serve : (o : Option ℕ) (l : List Slot) → AllNarrow l → AllNarrow (serve o l)
+narrow-serve none l n = n
+narrow-serve (some j) l n = narrow-put (some j) (served (at l j)) l (narrow-served (at l j) (narrow-at l n j)) n
+
+-- R45 to R47: an age rises only where it stays below its period
+narrow-passed : (h : Held) → Narrow h → Narrow (passed h)
+narrow-passed Nothing n = n
+narrow-passed (Running r) n =
+    split (r .period) (r .age + 1) (λ g. rw (le-ltb (r .age + 1) (r .period) g) (omega arith)) (λ g. rw (lt-ltb (r .age + 1) (r .period) g) (omega arith))
+narrow-passed (Waiting w) n =
+    split (w .wait) 1 (λ g. rw (le-ltb 1 (w .wait) g) (omega arith)) (λ g. rw (lt-ltb 1 (w .wait) g) (omega arith))
+
+narrow-pass : (l : List Slot) → AllNarrow l → AllNarrow (pass l)
+narrow-pass [] n = tt
+narrow-pass (s ∷ l) n = (narrow-passed (s .held) (n .0), narrow-pass l (n .1))
+
+-- R45: a tick before the last
+wide-ticked : (o : Option ℕ) (t : Table) → Wide 16 t → t .clock < 2 ^ 48 → Wide 16 (ticked o t .table)
+wide-ticked o t w h = record {
+  slots = length-tick o (t .slots) ∙ w .slots;
+  clock = omega arith;
+  lines = narrow-pass (serve o (t .slots)) (narrow-serve o (t .slots) (w .lines));
+}
+
+wide-unless : (o : Option ℕ) (n : ℕ) (t : Table) (s : Stepped) → Wide 16 t → Wide 16 (s .table) → Wide 16 (stepUnless o n t s .table)
+wide-unless none n t s v w = w
+wide-unless (some k) n t s v w = v
+
+wide-advance : (o : Option ℕ) (t : Table) → Wide 16 t → t .clock < 2 ^ 48 → Wide 16 (advance o t .table)
+unfolding advance
+wide-advance o t w h = wide-unless (lowestOf short (serve o (t .slots))) 14 t (ticked o t) w (wide-ticked o t w h)
+
+early-step : (t : Table) → t .clock < 2 ^ 48 → stepOf t ≡ stepUnless (lowestOf (λ h. not (sound h)) (t .slots)) 4 t (advance (choose (t .slots)) t)
+unfolding stepOf
+early-step t h = rw (lt-leb (2 ^ 48) (t .clock) h)
+
+-- R48: a step keeps the code's widths, refused or not
+pub wide-step : (t : Table) → Wide 16 t → Wide 16 (stepOf t .table)
+wide-step t w =
+    split (2 ^ 48) (t .clock)
+    (λ h. subst (λ (s : Stepped). Wide 16 (s .table)) (sym (at-last t h)) w)
+    (λ h. subst (λ (s : Stepped). Wide 16 (s .table)) (sym (early-step t h))
+    (wide-unless (lowestOf (λ x. not (sound x)) (t .slots)) 4 t (advance (choose (t .slots)) t) w (wide-advance (choose (t .slots)) t w h)))
+
+-- ---- an admission
+
+narrow-stretch : (p : ℕ) (h : Held) → p < 65536 → Narrow h → Narrow (stretch p h)
+narrow-stretch p Nothing b n = n
+narrow-stretch p (Running r) b n = omega arith
+narrow-stretch p (Waiting w) b n = n
+
+-- R42: every running line at its T'
+narrow-stretched : (l : List Slot) (p : ℕ → ℕ) → ((i : ℕ) → p i < 2 ^ 16) → AllNarrow l → AllNarrow (stretched l p)
+unfolding stretched
+narrow-stretched [] p b n = tt
+narrow-stretched (s ∷ l) p b n = (narrow-stretch (p 0) (s .held) (b 0) (n .0), narrow-stretched l (λ i. p (suc i)) (λ i. b (suc i)) (n .1))
+
+-- R43: the new line, at once or with a wait
+narrow-new : (C T w : ℕ) → C < 65536 → T < 65536 → w < 65536 → Narrow (newLine C T w)
+narrow-new C T w c p h = go (ltb 0 w)
+  where
+    go : (b : Bool) → Narrow (pick b (Waiting (record { need = C; period = T; wait = w })) (fresh C T))
+    go true = (c, p, h)
+    go false = (c, p, omega arith, c)
+
+end-near : (t0 : ℕ) (h : Held) → Narrow h → endOf t0 h < t0 + 65536
+end-near t0 Nothing n = omega arith
+end-near t0 (Running r) n = omega arith
+end-near t0 (Waiting w) n = omega arith
+
+-- R15: the last end is within sixteen bits of the clock
+last-near : (t0 : ℕ) (l : List Slot) → AllNarrow l → lastEnd t0 l < t0 + 65536
+unfolding lastEnd
+last-near t0 [] n = omega arith
+last-near t0 (s ∷ l) n = omega (arith, end-near t0 (s .held) (n .0), last-near t0 l (n .1))
+
+-- R15, R42: so is a start that is granted
+wait-near : (t : Table) (q : Request) (r : ℕ) → AllNarrow (asked t q) → askOf t q ≡ Start r → r - t .clock < 65536
+wait-near t q r n e =
+    let g = granted t q r e in
+    omega (arith, least-by-last _ (t .clock) _ (q .need) (q .period) r (g .given) (g .alone) (g .least), last-near (t .clock) (asked t q) n)
+
+narrow-admitted : (t : Table) (q : Request) → NarrowRequest q → AllNarrow (t .slots) → AllNarrow (after (admitting q) t .slots)
+narrow-admitted t q f n = go (askOf t q) refl
+  where
+    lines : AllNarrow (asked t q)
+    lines = narrow-stretched (t .slots) (entry q) (f .2) n
+
+    go : (a : Answer) → askOf t q ≡ a → AllNarrow (admitWith t q a .table .slots)
+    go (Start r) e =
+        narrow-put (lowestOf isNothing (t .slots)) (newLine (q .need) (q .period) (r - t .clock)) (asked t q)
+        (narrow-new (q .need) (q .period) (r - t .clock) (f .0) (f .1) (wait-near t q r lines e)) lines
+    go (Refused x) e = n
+
+-- R42: an admission keeps the code's widths, granted or not
+pub wide-admit : (t : Table) (q : Request) → NarrowRequest q → Wide 16 t → Wide 16 (after (admitting q) t)
+wide-admit t q f w = record {
+  slots = admit-length t q ∙ w .slots;
+  clock = rw (admit-clock t q) (w .clock);
+  lines = narrow-admitted t q f (w .lines);
+}
+
+-- R3, R73: every act keeps the code's widths
+pub wide-after : (a : Act) (t : Table) → Narrowed a → Wide 16 t → Wide 16 (after a t)
+wide-after (asking q) t f w = w
+wide-after (admitting q) t f w = wide-admit t q f w
+wide-after stepping t f w = wide-step t w

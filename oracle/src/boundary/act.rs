@@ -1,0 +1,301 @@
+//! The calls of the boundary, and what should happen in each.
+
+use super::desk::Desk;
+use super::{cards, images};
+use crate::rules;
+use crate::types::{Refusal, Request};
+
+/// R93: the version of the boundary.
+const VERSION: u64 = 1;
+
+/// R63: the slot of a result that is none.
+const NO_SLOT: u64 = 255;
+
+/// R6: the need and the period of a new line. The stretched periods of the request stand on the desk.
+#[derive(Clone, Copy, Debug, PartialEq, Eq)]
+pub struct NewLine {
+    pub need: u16,
+    pub period: u16,
+}
+
+impl From<Request> for NewLine {
+    fn from(request: Request) -> NewLine {
+        NewLine {
+            need: request.need,
+            period: request.period,
+        }
+    }
+}
+
+/// A call, one for each function of the boundary; its buffers stand on a desk.
+#[derive(Clone, Copy, Debug, PartialEq, Eq)]
+pub enum Act {
+    Answer,
+    Rewrite,
+    Run(u16),
+    Empty,
+    Ask(NewLine),
+    Admit(NewLine),
+    Step,
+    Ready,
+    Lamp(u64),
+    WriteCard(NewLine),
+    ReadCard,
+    Version,
+}
+
+/// R63: what a call answers.
+#[derive(Clone, Copy, Debug, PartialEq, Eq)]
+pub struct Told {
+    pub number: u64,
+    pub place: u64,
+    pub value: u64,
+}
+
+impl Told {
+    /// R63: granted, with no place.
+    pub fn value(value: u64) -> Told {
+        Told::placed(value, 0)
+    }
+
+    /// R86: granted, with a place.
+    pub fn placed(value: u64, place: usize) -> Told {
+        Told {
+            number: 0,
+            place: place as u64,
+            value,
+        }
+    }
+
+    /// R84, R59, R62: granted, the length of what was written.
+    pub fn length(length: usize) -> Told {
+        Told::value(length as u64)
+    }
+
+    /// R88: granted, the slot that ran or none.
+    pub fn slot(slot: Option<usize>) -> Told {
+        Told::value(slot.map_or(NO_SLOT, |slot| slot as u64))
+    }
+
+    pub fn refused(number: impl Into<u64>, place: u64) -> Told {
+        Told {
+            number: number.into(),
+            place,
+            value: 0,
+        }
+    }
+}
+
+impl From<Refusal> for Told {
+    fn from(refusal: Refusal) -> Told {
+        Told::refused(refusal.number, refusal.place)
+    }
+}
+
+/// What should be told of an act, and left on its desk.
+pub fn should(act: &Act, desk: &mut Desk) -> Told {
+    attempt(act, desk).unwrap_or_else(Told::from)
+}
+
+fn attempt(act: &Act, desk: &mut Desk) -> Result<Told, Refusal> {
+    let placed = |(start, slot)| Told::placed(start, slot);
+    match act {
+        Act::Answer => cards::answer(desk.card.part(), desk.out.part_mut()).map(Told::length),
+        Act::Rewrite => cards::rewrite(desk.card.part(), desk.out.part_mut()).map(Told::length),
+        Act::Run(ticks) => cards::run(desk.card.part(), *ticks).map(Told::value),
+        Act::Empty => images::empty(desk.image.part_mut()).map(Told::length),
+        Act::Ask(line) => images::ask(desk.image.part(), &desk.request(line)).map(placed),
+        Act::Admit(line) => {
+            let request = desk.request(line);
+            images::admit(desk.image.part_mut(), &request).map(placed)
+        }
+        Act::Step => images::step(desk.image.part_mut()).map(Told::slot),
+        Act::Ready => images::ready(desk.image.part()).map(|word| Told::value(word.into())),
+        Act::Lamp(number) => Ok(Told::value(rules::lamp(*number))),
+        Act::WriteCard(line) => {
+            let request = desk.request(line);
+            let (image, out) = (desk.image.part(), desk.out.part_mut());
+            images::write_card(image, &request, out).map(Told::length)
+        }
+        Act::ReadCard => {
+            let (card, image) = (desk.card.part(), desk.image.part_mut());
+            images::read_card(card, image, desk.numbers.array_mut()).map(Told::length)
+        }
+        Act::Version => Ok(Told::value(VERSION)),
+    }
+}
+
+#[cfg(test)]
+mod tests {
+    use super::*;
+    use crate::boundary::desk::Lent;
+    use crate::card;
+    use crate::cases::{self, CARD_A};
+    use crate::image;
+    use crate::types::{Content, Table, Wait, EMPTY, LAST_TICK, SLOTS, ZEROS};
+
+    const FILL: u8 = 7;
+    const GUARD: u8 = 9;
+
+    /// A desk with an image and card A on it, and `out` bytes lent for what is written.
+    fn desk(image: &[u8], out: usize) -> Desk {
+        Desk {
+            image: Lent::new(image, GUARD),
+            card: Lent::new(&CARD_A, GUARD),
+            out: Lent::new(&vec![FILL; out], GUARD),
+            stretched: Lent::new(&case_a().1.stretched, GUARD.into()),
+            numbers: Lent::new(&[FILL.into(); 18], GUARD.into()),
+        }
+    }
+
+    fn on_table(table: &Table) -> Desk {
+        desk(&image::bytes(table), 208)
+    }
+
+    fn case_a() -> (Table, Request) {
+        let a = &cases::all()[0];
+        (a.table, a.request)
+    }
+
+    /// The act is told this, and leaves its desk as it was.
+    fn changes_nothing(act: Act, desk: &Desk, told: Told) {
+        let mut after = desk.clone();
+        assert_eq!(should(&act, &mut after), told, "{act:?}");
+        assert_eq!(after, *desk, "{act:?}");
+    }
+
+    fn refused(number: u64, place: u64) -> Told {
+        Told::refused(number, place)
+    }
+
+    #[test]
+    fn numbers_alone() {
+        let desk = on_table(&EMPTY);
+        changes_nothing(Act::Version, &desk, Told::value(1));
+        for (number, blinks) in [(0, 0), (3, 1), (4, 2), (15, 5), (16, 0), (1 << 32 | 1, 0)] {
+            changes_nothing(Act::Lamp(number), &desk, Told::value(blinks));
+        }
+    }
+
+    #[test]
+    fn the_empty_table_in_a_lent_buffer() {
+        changes_nothing(Act::Empty, &desk(&[FILL; 152], 0), refused(13, 0));
+        let mut lent = desk(&[FILL; 155], 0);
+        assert_eq!(should(&Act::Empty, &mut lent), Told::value(153));
+        let wanted = [image::bytes(&EMPTY), vec![FILL; 2]].concat();
+        assert_eq!(lent, desk(&wanted, 0));
+    }
+
+    #[test]
+    fn case_a_asked_admitted_and_stepped() {
+        let (table, request) = case_a();
+        let mut now = on_table(&table);
+        let told = Told::placed(13, 2);
+        changes_nothing(Act::Ask(request.into()), &now, told);
+        changes_nothing(Act::Ready, &now, Told::value(2));
+        assert_eq!(should(&Act::Admit(request.into()), &mut now), told);
+        let (_, admitted) = rules::admit(&table, &request).expect("case A");
+        assert_eq!(now, on_table(&admitted));
+        changes_nothing(Act::Ask(request.into()), &now, refused(3, 2));
+        changes_nothing(Act::WriteCard(request.into()), &now, refused(3, 2));
+        // The second line is owed eight ticks, and slot 0 is owed none before its period ends.
+        for _ in 0..8 {
+            assert_eq!(should(&Act::Step, &mut now), Told::value(1));
+        }
+        changes_nothing(Act::Ready, &now, Told::value(0b110));
+    }
+
+    #[test]
+    fn a_step_that_serves_nothing() {
+        let mut now = on_table(&EMPTY);
+        assert_eq!(should(&Act::Step, &mut now), Told::value(255));
+        assert_eq!(now, on_table(&Table { clock: 1, ..EMPTY }));
+        let last = Table {
+            clock: LAST_TICK,
+            ..EMPTY
+        };
+        changes_nothing(Act::Step, &on_table(&last), refused(15, 0));
+        changes_nothing(Act::Ask(ZEROS.into()), &on_table(&last), refused(1, 0));
+    }
+
+    #[test]
+    fn a_broken_image_is_refused_first() {
+        // An unsound waiting line behind the last tick, and no buffer to write into: R83 comes before all of these.
+        let mut table = Table {
+            clock: u64::MAX,
+            ..EMPTY
+        };
+        table.slots[9] = Content::Waiting(Wait {
+            need: 0,
+            period: 0,
+            wait: 0,
+        });
+        let mut bytes = image::bytes(&table);
+        bytes[152] = 1;
+        let acts = [
+            Act::Ask(ZEROS.into()),
+            Act::Admit(ZEROS.into()),
+            Act::Step,
+            Act::Ready,
+            Act::WriteCard(ZEROS.into()),
+        ];
+        for act in acts {
+            changes_nothing(act, &desk(&bytes, 0), refused(11, 152));
+            changes_nothing(act, &desk(&bytes[..80], 0), refused(11, 80));
+        }
+        bytes[152] = 0;
+        let grounds = [(1, 0), (1, 0), (15, 0), (0, 0), (3, 9)];
+        for (act, (number, place)) in acts.into_iter().zip(grounds) {
+            changes_nothing(act, &desk(&bytes, 0), refused(number, place));
+        }
+    }
+
+    #[test]
+    fn a_table_to_its_card() {
+        let (table, request) = case_a();
+        let bytes = image::bytes(&table);
+        changes_nothing(
+            Act::WriteCard(request.into()),
+            &desk(&bytes, 39),
+            refused(13, 0),
+        );
+        let mut now = desk(&bytes, 42);
+        assert_eq!(
+            should(&Act::WriteCard(request.into()), &mut now),
+            Told::value(40)
+        );
+        assert_eq!(now.out.part(), [&CARD_A[..], &[FILL; 2]].concat());
+        now.out = desk(&bytes, 42).out;
+        assert_eq!(now, desk(&bytes, 42));
+    }
+
+    #[test]
+    fn a_card_to_its_table() {
+        changes_nothing(Act::ReadCard, &desk(&[FILL; 152], 0), refused(13, 0));
+        let mut cut = desk(&[], 0);
+        cut.card = Lent::new(&CARD_A[..33], GUARD);
+        changes_nothing(Act::ReadCard, &cut, refused(11, 22));
+        let mut now = desk(&[FILL; 154], 0);
+        assert_eq!(should(&Act::ReadCard, &mut now), Told::value(153));
+        let mut wanted = desk(&[image::bytes(&case_a().0), vec![FILL]].concat(), 0);
+        let mut numbers = [0; 18];
+        (numbers[0], numbers[1]) = (32, 16);
+        (numbers[SLOTS], numbers[SLOTS + 1]) = (1, 4);
+        wanted.numbers = Lent::new(&numbers, GUARD.into());
+        assert_eq!(now, wanted);
+    }
+
+    #[test]
+    fn the_operations_on_cards() {
+        let mut now = desk(&[], 40);
+        assert_eq!(should(&Act::Answer, &mut now), Told::value(11));
+        assert_eq!(&now.out.part()[..12], b"release 13\n\x07");
+        assert_eq!(should(&Act::Rewrite, &mut now), Told::value(40));
+        assert_eq!(now.out.part(), CARD_A);
+        changes_nothing(Act::Run(26), &now, Told::value(23));
+        changes_nothing(Act::Answer, &desk(&[], 10), refused(13, 0));
+        changes_nothing(Act::Rewrite, &desk(&[], 39), refused(13, 0));
+        now.card = Lent::new(&card::bytes(&EMPTY, &ZEROS), GUARD);
+        changes_nothing(Act::Run(1), &now, refused(6, 0));
+    }
+}

@@ -1,0 +1,354 @@
+//! The image of a table (R81 to R84): judge, reader and writer.
+
+use crate::card;
+use crate::types::{Content, Refusal, Run, Table, Wait, EMPTY, SLOTS};
+
+/// R81: bytes of every image.
+pub const LENGTH: usize = 153;
+
+/// R81: the only version there is.
+const VERSION: u8 = 1;
+
+/// R81: where the clock and slot 0 stand, and the bytes of a slot.
+const CLOCK: usize = 1;
+const FIRST_SLOT: usize = 9;
+const SLOT_LENGTH: usize = 9;
+
+/// R81: the kinds of a slot.
+const NOTHING: u8 = 0;
+const RUNNING: u8 = 1;
+const WAITING: u8 = 2;
+
+/// R81: where slot k begins.
+fn slot_at(slot: usize) -> usize {
+    FIRST_SLOT + SLOT_LENGTH * slot
+}
+
+/// R81: whether a slot of this kind has a 0 at this of its bytes.
+fn is_blank(kind: u8, byte_of_slot: usize) -> bool {
+    match kind {
+        NOTHING => byte_of_slot >= 1,
+        WAITING => byte_of_slot >= 7,
+        _ => false,
+    }
+}
+
+/// R83: whether the byte at this offset, which is there, is wrong.
+fn is_wrong(image: &[u8], offset: usize) -> bool {
+    let byte = image[offset];
+    if offset == 0 {
+        return byte != VERSION;
+    }
+    if offset < FIRST_SLOT {
+        return false;
+    }
+    let byte_of_slot = (offset - FIRST_SLOT) % SLOT_LENGTH;
+    if byte_of_slot == 0 {
+        return byte > WAITING;
+    }
+    let kind = image[offset - byte_of_slot];
+    is_blank(kind, byte_of_slot) && byte != 0
+}
+
+/// R83: the lowest offset at which something is wrong. A byte that is missing, or one behind the last, is a wrong length.
+fn fault(image: &[u8]) -> Option<usize> {
+    let missing_or_wrong = |offset: &usize| *offset >= image.len() || is_wrong(image, *offset);
+    let longer = (image.len() > LENGTH).then_some(LENGTH);
+    (0..LENGTH).find(missing_or_wrong).or(longer)
+}
+
+/// R81: a number of two bytes, the lowest first.
+fn number(image: &[u8], offset: usize) -> u16 {
+    u16::from(image[offset]) + 256 * u16::from(image[offset + 1])
+}
+
+/// R81: the clock, eight bytes, the lowest first.
+fn clock(image: &[u8]) -> u64 {
+    let bytes = image[CLOCK..FIRST_SLOT].iter().rev();
+    bytes.fold(0, |clock, byte| 256 * clock + u64::from(*byte))
+}
+
+/// R81: what a slot holds; R83 has let no fourth kind through.
+fn content(image: &[u8], slot: usize) -> Content {
+    let at = slot_at(slot);
+    let (need, period) = (number(image, at + 1), number(image, at + 3));
+    match image[at] {
+        NOTHING => Content::Nothing,
+        RUNNING => Content::Running(Run {
+            need,
+            period,
+            age: number(image, at + 5),
+            remaining: number(image, at + 7),
+        }),
+        _ => Content::Waiting(Wait {
+            need,
+            period,
+            wait: number(image, at + 5),
+        }),
+    }
+}
+
+/// R83, R84: the table of an image, whatever its numbers, or refusal 11.
+pub fn read(image: &[u8]) -> Result<Table, Refusal> {
+    if let Some(offset) = fault(image) {
+        return Err(Refusal::at(11, offset));
+    }
+    let mut table = EMPTY;
+    table.clock = clock(image);
+    for slot in 0..SLOTS {
+        table.slots[slot] = content(image, slot);
+    }
+    Ok(table)
+}
+
+/// R81: the kind and the four numbers of what a slot holds.
+fn kind_and_numbers(content: &Content) -> (u8, [u16; 4]) {
+    match content {
+        Content::Nothing => (NOTHING, [0; 4]),
+        Content::Running(run) => (RUNNING, [run.need, run.period, run.age, run.remaining]),
+        Content::Waiting(line) => (WAITING, [line.need, line.period, line.wait, 0]),
+    }
+}
+
+/// R81, R82: the one image of a table.
+pub fn bytes(table: &Table) -> Vec<u8> {
+    let mut image = vec![VERSION];
+    image.extend(table.clock.to_le_bytes());
+    for content in &table.slots {
+        let (kind, numbers) = kind_and_numbers(content);
+        image.push(kind);
+        image.extend(numbers.map(u16::to_le_bytes).concat());
+    }
+    image
+}
+
+/// R84: the image into a lent buffer, all of it or nothing.
+pub fn write(table: &Table, buffer: &mut [u8]) -> Result<usize, Refusal> {
+    card::put(&bytes(table), buffer)
+}
+
+#[cfg(test)]
+mod tests {
+    use super::*;
+    use crate::cases;
+    use crate::draw;
+    use crate::random::Random;
+
+    /// Slots of each kind, and no byte of their numbers is 0.
+    fn three_kinds() -> Table {
+        let run = Content::Running(Run {
+            need: 0x0201,
+            period: 0x0403,
+            age: 0x0605,
+            remaining: 0x0807,
+        });
+        let wait = Content::Waiting(Wait {
+            need: 0x0A09,
+            period: 0x0C0B,
+            wait: 0x0E0D,
+        });
+        let mut table = EMPTY;
+        table.clock = 0x1817_1615_1413_1211;
+        (table.slots[0], table.slots[2]) = (run, wait);
+        (table.slots[14], table.slots[15]) = (wait, run);
+        table
+    }
+
+    fn refused(image: &[u8]) -> Option<usize> {
+        let refusal = read(image).err()?;
+        assert_eq!(refusal.number, 11);
+        Some(refusal.place as usize)
+    }
+
+    fn with(image: &[u8], offset: usize, byte: u8) -> Vec<u8> {
+        let mut changed = image.to_vec();
+        changed[offset] = byte;
+        changed
+    }
+
+    #[test]
+    fn the_layout_byte_by_byte() {
+        let mut wanted = vec![
+            1, 0x11, 0x12, 0x13, 0x14, 0x15, 0x16, 0x17, 0x18, // version, clock
+            1, 1, 2, 3, 4, 5, 6, 7, 8, // slot 0 runs
+            0, 0, 0, 0, 0, 0, 0, 0, 0, // slot 1
+            2, 9, 10, 11, 12, 13, 14, 0, 0, // slot 2 waits
+        ];
+        wanted.extend([0; 11 * 9]);
+        wanted.extend([2, 9, 10, 11, 12, 13, 14, 0, 0]);
+        wanted.extend([1, 1, 2, 3, 4, 5, 6, 7, 8]);
+        assert_eq!(bytes(&three_kinds()), wanted);
+        assert_eq!(wanted.len(), 153);
+        assert_eq!(read(&wanted), Ok(three_kinds()));
+    }
+
+    #[test]
+    fn the_empty_table() {
+        let mut wanted = [0; 153];
+        wanted[0] = 1;
+        assert_eq!(bytes(&EMPTY), wanted);
+        assert_eq!(read(&wanted), Ok(EMPTY));
+    }
+
+    #[test]
+    fn version_1_alone() {
+        let image = bytes(&three_kinds());
+        for version in 0..=255 {
+            let wanted = (version != 1).then_some(0);
+            assert_eq!(refused(&with(&image, 0, version)), wanted, "{version}");
+        }
+    }
+
+    #[test]
+    fn kinds_up_to_2() {
+        let zeros = bytes(&EMPTY);
+        for slot in 0..SLOTS {
+            let at = 9 + 9 * slot;
+            for kind in 0..=255 {
+                let wanted = (kind > 2).then_some(at);
+                assert_eq!(refused(&with(&zeros, at, kind)), wanted, "{slot} {kind}");
+            }
+        }
+    }
+
+    #[test]
+    fn each_blank_byte() {
+        for slot in 0..SLOTS {
+            let at = 9 + 9 * slot;
+            for kind in 0..=2 {
+                let image = with(&bytes(&EMPTY), at, kind);
+                let blank = match kind {
+                    0 => 1..9,
+                    1 => 9..9,
+                    _ => 7..9,
+                };
+                for byte_of_slot in 1..9 {
+                    let offset = at + byte_of_slot;
+                    let wanted = blank.contains(&byte_of_slot).then_some(offset);
+                    for byte in [1, 128, 255] {
+                        assert_eq!(refused(&with(&image, offset, byte)), wanted, "{offset}");
+                    }
+                }
+            }
+        }
+    }
+
+    #[test]
+    fn every_length() {
+        let mut long = bytes(&three_kinds());
+        long.extend([0; 20]);
+        for length in 0..long.len() {
+            let wanted = match length {
+                153 => None,
+                0..=152 => Some(length),
+                _ => Some(153),
+            };
+            assert_eq!(refused(&long[..length]), wanted, "{length}");
+        }
+        // The length is wrong at its own offset, whatever the last byte that is there belongs to.
+        for length in [0, 1, 8, 9, 152, 154] {
+            assert_eq!(refused(&long[..length]), Some(length.min(153)));
+        }
+    }
+
+    #[test]
+    fn a_fault_before_a_wrong_length_and_one_behind_it() {
+        let mut long = bytes(&three_kinds());
+        long.push(0);
+        // The kinds of slots 0, 5 and 15, two blank bytes, and the version.
+        for offset in [0, 9, 18 + 1, 27 + 7, 27 + 8, 54, 144] {
+            let broken = with(&long, offset, 3);
+            for length in 0..=154 {
+                let wanted = offset.min(length);
+                assert_eq!(
+                    refused(&broken[..length]),
+                    Some(wanted),
+                    "{offset} {length}"
+                );
+            }
+        }
+    }
+
+    #[test]
+    fn the_lower_of_two_faults() {
+        let image = bytes(&EMPTY);
+        let offsets = [0, 9, 17, 18, 25, 144, 152];
+        for one in offsets {
+            for other in offsets {
+                let both = with(&with(&image, one, 9), other, 9);
+                assert_eq!(refused(&both), Some(one.min(other)));
+            }
+        }
+    }
+
+    #[test]
+    fn a_buffer_of_153_bytes_against_152() {
+        let table = three_kinds();
+        let mut buffer = [7; 160];
+        let short = write(&table, &mut buffer[..152]);
+        assert_eq!((short, buffer), (Err(Refusal::at(13, 0)), [7; 160]));
+        assert_eq!(write(&table, &mut []), Err(Refusal::at(13, 0)));
+        assert_eq!(write(&table, &mut buffer[..153]), Ok(153));
+        assert_eq!(
+            (&buffer[..153], &buffer[153..]),
+            (&bytes(&table)[..], &[7; 7][..])
+        );
+        buffer = [8; 160];
+        assert_eq!(write(&table, &mut buffer), Ok(153));
+        assert_eq!(&buffer[153..], [8; 7]);
+    }
+
+    #[test]
+    fn an_image_reads_back_as_its_table() {
+        let mut random = Random::new(41);
+        for round in 0..5_000 {
+            let (table, _) = match round % 2 {
+                0 => draw::any(&mut random),
+                _ => draw::damaged(&mut random),
+            };
+            assert_eq!(read(&bytes(&table)), Ok(table));
+        }
+        for case in cases::all() {
+            assert_eq!(read(&bytes(&case.table)), Ok(case.table));
+        }
+    }
+
+    /// R82: what reads is written back byte for byte; so no two images read as one table.
+    fn written_back_if_it_reads(image: &[u8]) -> bool {
+        let Ok(table) = read(image) else { return false };
+        assert_eq!(bytes(&table), image);
+        true
+    }
+
+    #[test]
+    fn every_change_of_one_byte() {
+        for table in [EMPTY, three_kinds()] {
+            let image = bytes(&table);
+            let mut reading = 0;
+            for offset in 0..LENGTH {
+                for byte in 0..=255 {
+                    let changed = with(&image, offset, byte);
+                    let reads = written_back_if_it_reads(&changed);
+                    assert_eq!(reads && read(&changed) == Ok(table), changed == image);
+                    reading += usize::from(reads);
+                }
+            }
+            assert!((2_000..39_168).contains(&reading), "{reading}");
+        }
+    }
+
+    #[test]
+    fn random_bytes_that_read_are_written_back() {
+        let mut random = Random::new(42);
+        let mut reading = 0;
+        for _ in 0..5_000 {
+            let mut image = bytes(&draw::any(&mut random).0);
+            for _ in 0..1 + random.below(3) {
+                let offset = random.below(153) as usize;
+                image[offset] = random.below(if offset % 9 == 0 { 4 } else { 256 }) as u8;
+            }
+            reading += usize::from(written_back_if_it_reads(&image));
+        }
+        assert!((500..4_500).contains(&reading), "{reading}");
+    }
+}
