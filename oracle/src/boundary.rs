@@ -9,12 +9,8 @@ mod example;
 #[cfg(any(test, feature = "house"))]
 mod images;
 
-#[cfg(feature = "house")]
-pub use act::{should, Act, NewLine, Told};
-#[cfg(feature = "house")]
-pub use cards::{admitted, ran};
-#[cfg(feature = "house")]
-pub use desk::{Desk, Lent};
+#[cfg(any(test, feature = "house"))]
+pub use act::{should, Act, NewLine, Told, NO_SLOT};
+#[cfg(any(test, feature = "house"))]
+pub use desk::{Desk, Lent, GUARD};
 pub use example::example;
-#[cfg(feature = "house")]
-pub use images::NUMBERS;

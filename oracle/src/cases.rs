@@ -1,6 +1,6 @@
 //! R67: cases A to M, and a first few inputs on both sides of a limit; `edges.rs` has the others.
 
-use crate::types::{Content, Refusal, Request, Run, Table, Wait, EMPTY, ZEROS};
+use crate::types::{Content, Refusal, Request, Run, Table, EMPTY, ZEROS};
 
 /// R7: 2^48 − 65,536 in digits of its own, so that the rows hold the program's limit to it.
 pub const LAST_CLOCK: u64 = 281_474_976_645_120;
@@ -18,16 +18,10 @@ pub type Line = (u16, u16, u16, u16, u16);
 
 /// R67: the table and the request of a row, lines from slot 0 up.
 pub fn row(clock: u64, lines: &[Line], new: (u16, u16)) -> (Table, Request) {
-    let placed: Vec<(usize, Line)> = lines.iter().copied().enumerate().collect();
-    row_at(clock, &placed, new)
-}
-
-/// A row whose lines stand in the slots beside them.
-pub fn row_at(clock: u64, lines: &[(usize, Line)], new: (u16, u16)) -> (Table, Request) {
     let (mut table, mut request) = (EMPTY, ZEROS);
     table.clock = clock;
     (request.need, request.period) = new;
-    for (slot, (need, period, stretched, age, remaining)) in lines.iter().copied() {
+    for (slot, (need, period, stretched, age, remaining)) in lines.iter().copied().enumerate() {
         table.slots[slot] = Content::Running(Run {
             need,
             period,
@@ -37,11 +31,6 @@ pub fn row_at(clock: u64, lines: &[(usize, Line)], new: (u16, u16)) -> (Table, R
         request.stretched[slot] = stretched;
     }
     (table, request)
-}
-
-/// R3: a waiting line of (C, T, w) put into a slot; no row of R67 has one.
-pub fn put_wait(table: &mut Table, slot: usize, (need, period, wait): (u16, u16, u16)) {
-    table.slots[slot] = Content::Waiting(Wait { need, period, wait });
 }
 
 /// A row with its answer.

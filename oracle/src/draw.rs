@@ -1,5 +1,4 @@
-//! Tables and requests drawn from the shared generator, for tests, vectors and `compare`.
-//! (The walks draw in a way of their own, stated in WALKS.md.)
+//! Tables and requests drawn from the generator, for tests, vectors and histories.
 
 use crate::random::Random;
 use crate::rules;
@@ -20,7 +19,7 @@ const WIDE_SPANS: [u64; 4] = [5_040, 9_240, 12_600, 13_860];
 const WIDE_BASES: [u64; 5] = [720_720, 831_600, 997_920, 999_999, 1_000_000];
 
 /// The greatest divisor of `base` that is at most `most` and fits sixteen bits.
-fn divisor(base: u64, most: u64) -> u16 {
+pub fn divisor(base: u64, most: u64) -> u16 {
     let mut candidate = most.clamp(1, 65_535);
     while base % candidate != 0 {
         candidate -= 1;
@@ -134,7 +133,7 @@ fn lag(base: u64, run: &Run, stretched: u16) -> i64 {
 }
 
 /// What R28 leaves for a new line, times `base`.
-fn room(base: u64, table: &Table, request: &Request) -> u64 {
+pub fn room(base: u64, table: &Table, request: &Request) -> u64 {
     let share = |(slot, run): (usize, &Run)| {
         u64::from(run.need) * (base / u64::from(request.stretched[slot]).max(1))
     };
@@ -142,7 +141,7 @@ fn room(base: u64, table: &Table, request: &Request) -> u64 {
 }
 
 /// A new line that takes all or nearly all the load that is left.
-fn newcomer(random: &mut Random, base: u64, room: u64, request: &mut Request) {
+pub fn newcomer(random: &mut Random, base: u64, room: u64, request: &mut Request) {
     let most = [6, 30, 62, 4_096][random.below(4) as usize];
     request.period = divisor(base, 2 + random.below(most));
     for _ in 0..6 {
@@ -201,27 +200,38 @@ fn exact(random: &mut Random, spans: &[u64]) -> (Table, Request) {
     let base = parts * span * times;
     let drawn = parted_lines(random, parts, span);
     let mut table = lay(random, &drawn);
-    let mut request = ZEROS;
     let real = random.below(4) > 0;
     if real {
         table = run_for(table, random.below(2 * parts * span.min(200)));
     } else {
-        stretch_by(random, times, &table, &mut request);
+        let request = stretched_by(random, base, times, &table);
         invent(random, base, &mut table, &request);
     }
-    stretch_by(random, times, &table, &mut request);
-    if room(base, &table, &request) == 0 {
-        stretch_first(times, &table, &mut request);
-    }
-    let left = room(base, &table, &request);
+    let request = rest(random, base, times, &table);
+    table.clock = clock(random);
+    (table, request)
+}
+
+/// Part of the lines stretched by one factor, and a new line for exactly the load that this leaves, or a tick less.
+pub fn rest(random: &mut Random, base: u64, times: u64, table: &Table) -> Request {
+    let mut request = stretched(random, base, times, table);
+    let left = room(base, table, &request);
     let common = common_divisor(base, left);
     request.need = (left / common) as u16;
     request.period = (base / common).min(65_535) as u16;
     if random.below(8) == 0 {
         request.need = request.need.saturating_sub(1).max(1);
     }
-    table.clock = clock(random);
-    (table, request)
+    request
+}
+
+/// Part of the lines stretched by one factor; at least one, where that is needed to leave room for a new line.
+pub fn stretched(random: &mut Random, base: u64, times: u64, table: &Table) -> Request {
+    let mut request = stretched_by(random, base, times, table);
+    if room(base, table, &request) == 0 {
+        stretch_first(base, times, table, &mut request);
+    }
+    request
 }
 
 /// Two or more lines with periods of `parts` times a divisor of `span`, load together 1.
@@ -243,21 +253,32 @@ fn parted_lines(random: &mut Random, parts: u64, span: u64) -> Vec<Run> {
     drawn
 }
 
-/// T' = T × times for seven in eight of the lines that owe nothing and one in eight of the others.
-fn stretch_by(random: &mut Random, times: u64, table: &Table, request: &mut Request) {
-    for (slot, run) in table.running() {
-        let odds = if run.remaining == 0 { 7 } else { 1 };
-        let longer = random.below(8) < odds;
-        let stretched = u64::from(run.period) * if longer { times } else { 1 };
-        request.stretched[slot] = stretched.min(65_535) as u16;
+/// T × times where that divides the base, else T.
+fn longer(base: u64, period: u16, times: u64) -> u16 {
+    let longer = u64::from(period) * times;
+    if base % longer.max(1) == 0 {
+        longer.min(65_535) as u16
+    } else {
+        period
     }
 }
 
-/// T' = T × times for the lowest line, to leave room for a new one.
-fn stretch_first(times: u64, table: &Table, request: &mut Request) {
-    if let Some((slot, run)) = table.running().next() {
-        let stretched = u64::from(run.period) * times;
-        request.stretched[slot] = stretched.min(65_535) as u16;
+/// T' = T × times for seven in eight of the lines that owe nothing and one in eight of the others.
+fn stretched_by(random: &mut Random, base: u64, times: u64, table: &Table) -> Request {
+    let mut request = ZEROS;
+    for (slot, run) in table.running() {
+        let odds = if run.remaining == 0 { 7 } else { 1 };
+        let times = if random.below(8) < odds { times } else { 1 };
+        request.stretched[slot] = longer(base, run.period, times);
+    }
+    request
+}
+
+/// T' = T × times for the lowest line of which that divides the base.
+fn stretch_first(base: u64, times: u64, table: &Table, request: &mut Request) {
+    let grows = |(_, run): &(usize, &Run)| longer(base, run.period, times) > run.period;
+    if let Some((slot, run)) = table.running().find(grows) {
+        request.stretched[slot] = longer(base, run.period, times);
     }
 }
 
@@ -352,10 +373,19 @@ pub fn any(random: &mut Random) -> (Table, Request) {
     (table, request)
 }
 
-/// One number of a table or a request that is otherwise near full load is changed.
+/// A table and a request that are otherwise near full load, with one number changed.
 pub fn damaged(random: &mut Random) -> (Table, Request) {
     let (mut table, mut request) = near_full(random);
+    damage(random, &mut table, &mut request);
+    (table, request)
+}
+
+/// One number of a running line, of the request or of the clock is changed, if a line runs.
+pub fn damage(random: &mut Random, table: &mut Table, request: &mut Request) {
     let slots: Vec<usize> = table.running().map(|(slot, _)| slot).collect();
+    if slots.is_empty() {
+        return;
+    }
     let slot = slots[random.below(slots.len() as u64) as usize];
     let number = match random.below(3) {
         0 => edge(random),
@@ -370,8 +400,8 @@ pub fn damaged(random: &mut Random) -> (Table, Request) {
             4 => run.remaining = run.need,
             5 => run.remaining = run.remaining.saturating_add(1),
             6 => run.remaining = run.need.saturating_add(1),
-            7 => run.age = run.period - random.small(2),
-            8 => request.stretched[slot] = run.period - random.small(2),
+            7 => run.age = run.period.saturating_sub(random.small(2)),
+            8 => request.stretched[slot] = run.period.saturating_sub(random.small(2)),
             9 => request.stretched[slot] = number,
             10 => request.need = number,
             11 => request.period = number,
@@ -379,5 +409,4 @@ pub fn damaged(random: &mut Random) -> (Table, Request) {
             _ => table.clock = any_clock(random),
         }
     }
-    (table, request)
 }

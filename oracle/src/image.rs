@@ -10,9 +10,9 @@ pub const LENGTH: usize = 153;
 const VERSION: u8 = 1;
 
 /// R81: where the clock and slot 0 stand, and the bytes of a slot.
-const CLOCK: usize = 1;
-const FIRST_SLOT: usize = 9;
-const SLOT_LENGTH: usize = 9;
+pub const CLOCK: usize = 1;
+pub const FIRST_SLOT: usize = 9;
+pub const SLOT_LENGTH: usize = 9;
 
 /// R81: the kinds of a slot.
 const NOTHING: u8 = 0;
@@ -20,7 +20,7 @@ const RUNNING: u8 = 1;
 const WAITING: u8 = 2;
 
 /// R81: where slot k begins.
-fn slot_at(slot: usize) -> usize {
+pub fn slot_at(slot: usize) -> usize {
     FIRST_SLOT + SLOT_LENGTH * slot
 }
 
@@ -62,14 +62,14 @@ fn number(image: &[u8], offset: usize) -> u16 {
     u16::from(image[offset]) + 256 * u16::from(image[offset + 1])
 }
 
-/// R81: the clock, eight bytes, the lowest first.
-fn clock(image: &[u8]) -> u64 {
+/// R81: the clock of an image that is long enough to have one, eight bytes, the lowest first.
+pub fn clock(image: &[u8]) -> u64 {
     let bytes = image[CLOCK..FIRST_SLOT].iter().rev();
     bytes.fold(0, |clock, byte| 256 * clock + u64::from(*byte))
 }
 
-/// R81: what a slot holds; R83 has let no fourth kind through.
-fn content(image: &[u8], slot: usize) -> Content {
+/// R81: what a slot of an image that is long enough to have it holds; R83 has let no fourth kind through.
+pub fn content(image: &[u8], slot: usize) -> Content {
     let at = slot_at(slot);
     let (need, period) = (number(image, at + 1), number(image, at + 3));
     match image[at] {
@@ -110,15 +110,17 @@ fn kind_and_numbers(content: &Content) -> (u8, [u16; 4]) {
     }
 }
 
+/// R81: the bytes of a slot.
+pub fn slot_bytes(content: &Content) -> Vec<u8> {
+    let (kind, numbers) = kind_and_numbers(content);
+    [&[kind], &numbers.map(u16::to_le_bytes).concat()[..]].concat()
+}
+
 /// R81, R82: the one image of a table.
 pub fn bytes(table: &Table) -> Vec<u8> {
     let mut image = vec![VERSION];
     image.extend(table.clock.to_le_bytes());
-    for content in &table.slots {
-        let (kind, numbers) = kind_and_numbers(content);
-        image.push(kind);
-        image.extend(numbers.map(u16::to_le_bytes).concat());
-    }
+    image.extend(table.slots.iter().flat_map(slot_bytes));
     image
 }
 

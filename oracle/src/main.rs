@@ -2,32 +2,28 @@
 
 #[cfg(feature = "house")]
 mod bench;
-mod benches;
 mod boundary;
 mod card;
 mod cases;
-#[cfg(feature = "house")]
-mod compare;
 mod digest;
 mod draw;
 mod edge_cards;
 mod edges;
 mod esit;
 #[cfg(any(test, feature = "house"))]
+mod history;
+#[cfg(any(test, feature = "house"))]
 mod image;
 mod published;
 mod random;
 mod rules;
 mod samples;
-mod scene;
 #[cfg(any(test, feature = "house"))]
 mod slow;
 mod spoil;
 mod stored;
-mod ticks;
 mod types;
 mod vectors;
-mod walks;
 
 use std::io::{self, Read, Write};
 use std::path::Path;
@@ -36,11 +32,11 @@ use std::process::ExitCode;
 const USAGE: &str = "oracle answer < CARD
 oracle example < CARD
 oracle stored OUT_DIR
-oracle walks
 oracle sweep [FROM TO]
 oracle bench [RUNS]             (feature house)
 oracle count WAY [T0] TIMES     (feature house)
-oracle compare CARDS IMAGES     (feature house)";
+oracle compare CALLS SEED|new   (feature house)
+oracle replay FILE              (feature house)";
 
 /// One card from standard input; R55: 209 bytes decide every card.
 fn given_card() -> io::Result<Vec<u8>> {
@@ -58,6 +54,12 @@ fn say(text: &str) -> io::Result<bool> {
     Ok(true)
 }
 
+/// The text of a history; an error names its file.
+#[cfg(feature = "house")]
+fn written_history(file: &str) -> io::Result<String> {
+    std::fs::read_to_string(file).map_err(|error| io::Error::other(format!("{file}: {error}")))
+}
+
 /// What needs the project's library.
 #[cfg(feature = "house")]
 fn beside_the_house(words: &[&str]) -> io::Result<bool> {
@@ -73,10 +75,18 @@ fn beside_the_house(words: &[&str]) -> io::Result<bool> {
             (Ok(set), Ok(n)) => Ok(bench::count(way, Some(set), n)),
             _ => usage(),
         },
-        ["compare", cards, images] => match (cards.parse(), images.parse()) {
-            (Ok(cards), Ok(images)) => Ok(compare::run(cards, images)),
+        ["compare", calls, "new"] => calls.parse().map_or_else(
+            |_| usage(),
+            |calls| Ok(history::compare(calls, history::new_seed())),
+        ),
+        ["compare", calls, seed] => match (calls.parse(), seed.parse()) {
+            (Ok(calls), Ok(seed)) => Ok(history::compare(calls, seed)),
             _ => usage(),
         },
+        ["replay", file] => {
+            let (replayed, same) = history::replay(&written_history(file)?)?;
+            say(&replayed).map(|_| same)
+        }
         _ => usage(),
     }
 }
@@ -92,7 +102,6 @@ fn command(words: &[&str]) -> io::Result<bool> {
         ["answer"] => say(&card::answer(&given_card()?)),
         ["example"] => say(&boundary::example(&given_card()?)),
         ["stored", folder] => stored::write(Path::new(folder)).map(|()| true),
-        ["walks"] => walks::print().map(|()| true),
         ["sweep"] => {
             published::sweep(0, u64::MAX);
             Ok(true)

@@ -126,7 +126,7 @@ fn house_says(_table: &Table, _request: &Request, _start: u64) -> bool {
 }
 
 /// Every request tick of the sets with T0 in `from` ..= `to`, asked. Prints a line for each set,
-/// its digest that of WALKS.md with a word for each start in rising order of the tick; then the
+/// its digest that of `digest.rs` with a word for each start in rising order of the tick; then the
 /// counts and the time.
 pub fn sweep(from: u64, to: u64) {
     let begun = Instant::now();

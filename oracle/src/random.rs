@@ -1,4 +1,4 @@
-//! The generator that this program and its counterpart in another language share.
+//! The generator of all that is drawn; README.md states it too.
 
 /// A 64-bit linear congruence: x ← x × 6364136223846793005 + 1442695040888963407 (mod 2^64); the
 /// value drawn is the new x shifted right by 33, a number of 31 bits.

@@ -217,7 +217,7 @@ enum Beyond {
     /// One whole frame: settles all t by the first argument at the head of this module alone.
     Frame,
     /// None: the second argument shows that with 9 passed no excess stands from the last end on,
-    /// whatever the start. Used for the millions of asks of the published sweep only.
+    /// whatever the start. No answer of the boundary is compared with it.
     Nothing,
 }
 
@@ -251,7 +251,7 @@ pub fn ask(table: &Table, request: &Request) -> Result<u64, Refusal> {
     delay(table, request, Beyond::Frame).map(|delay| table.clock + delay as u64)
 }
 
-/// The same answer, looking before the last end only; for the published sweep.
+/// The same answer, looking before the last end only; for the published sweep, and to draw a request whose start is late.
 pub fn ask_before_last_end(table: &Table, request: &Request) -> Result<u64, Refusal> {
     delay(table, request, Beyond::Nothing).map(|delay| table.clock + delay as u64)
 }
@@ -347,6 +347,7 @@ fn older(content: Content) -> Option<Content> {
 }
 
 /// R50: how often the front lamp blinks.
+#[cfg(any(test, feature = "house"))]
 pub fn lamp(number: u64) -> u64 {
     match number {
         1..=3 => 1,
@@ -359,6 +360,7 @@ pub fn lamp(number: u64) -> u64 {
 }
 
 /// R49: a bit for each slot whose line is owed ticks.
+#[cfg(any(test, feature = "house"))]
 pub fn ready(table: &Table) -> u16 {
     let owing = table.running().filter(|(_, run)| run.remaining > 0);
     owing.fold(0, |word, (slot, _)| word | 1 << slot)

@@ -190,8 +190,8 @@ pub fn random_card(random: &mut Random) -> Vec<u8> {
     card
 }
 
-/// A random card of one of the kinds of `compare`: near full load, wide, damaged, any, broken.
-#[cfg(feature = "house")]
+/// A random card of one of the kinds of the histories: near full load, wide, damaged, any, broken.
+#[cfg(any(test, feature = "house"))]
 pub fn mixed_card(random: &mut Random) -> Vec<u8> {
     let of = |(table, request)| card::bytes(&table, &request);
     match random.below(100) {

@@ -5,7 +5,7 @@ use crate::cases;
 use crate::edge_cards;
 use crate::edges;
 use crate::samples;
-use crate::{benches, ticks, vectors};
+use crate::vectors;
 use std::fs;
 use std::io;
 use std::path::Path;
@@ -47,8 +47,6 @@ pub fn write(folder: &Path) -> io::Result<()> {
     let line = card::answer(&cases::CARD_A);
     put(folder, "crates/answer/stdin", &cases::CARD_A)?;
     put(folder, "crates/answer/stdout", line.as_bytes())?;
-    put(folder, "crates/benches/stdout", benches::text().as_bytes())?;
-    put(folder, "crates/ticks/stdout", ticks::text().as_bytes())?;
     put(folder, "crates/vectors/stdin", &input)?;
     put(folder, "crates/vectors/stdout", output.as_bytes())?;
     for sample in samples::all() {

@@ -4,12 +4,13 @@ use super::desk::Desk;
 use super::{cards, images};
 use crate::rules;
 use crate::types::{Refusal, Request};
+use std::fmt;
 
 /// R93: the version of the boundary.
 const VERSION: u64 = 1;
 
 /// R63: the slot of a result that is none.
-const NO_SLOT: u64 = 255;
+pub const NO_SLOT: u64 = 255;
 
 /// R6: the need and the period of a new line. The stretched periods of the request stand on the desk.
 #[derive(Clone, Copy, Debug, PartialEq, Eq)]
@@ -42,6 +43,63 @@ pub enum Act {
     WriteCard(NewLine),
     ReadCard,
     Version,
+}
+
+impl Act {
+    /// The word for it.
+    pub fn name(&self) -> &'static str {
+        match self {
+            Act::Answer => "answer",
+            Act::Rewrite => "rewrite",
+            Act::Run(_) => "run",
+            Act::Empty => "empty",
+            Act::Ask(_) => "ask",
+            Act::Admit(_) => "admit",
+            Act::Step => "step",
+            Act::Ready => "ready",
+            Act::Lamp(_) => "lamp",
+            Act::WriteCard(_) => "write_card",
+            Act::ReadCard => "read_card",
+            Act::Version => "version",
+        }
+    }
+
+    /// The act of these words: its name and its numbers.
+    pub fn from_words(words: &[&str]) -> Option<Act> {
+        let line = |need: &str, period: &str| {
+            let (need, period) = (need.parse().ok()?, period.parse().ok()?);
+            Some(NewLine { need, period })
+        };
+        Some(match words {
+            ["answer"] => Act::Answer,
+            ["rewrite"] => Act::Rewrite,
+            ["run", ticks] => Act::Run(ticks.parse().ok()?),
+            ["empty"] => Act::Empty,
+            ["ask", need, period] => Act::Ask(line(need, period)?),
+            ["admit", need, period] => Act::Admit(line(need, period)?),
+            ["step"] => Act::Step,
+            ["ready"] => Act::Ready,
+            ["lamp", number] => Act::Lamp(number.parse().ok()?),
+            ["write_card", need, period] => Act::WriteCard(line(need, period)?),
+            ["read_card"] => Act::ReadCard,
+            ["version"] => Act::Version,
+            _ => return None,
+        })
+    }
+}
+
+impl fmt::Display for Act {
+    fn fmt(&self, f: &mut fmt::Formatter<'_>) -> fmt::Result {
+        let name = self.name();
+        match self {
+            Act::Run(ticks) => write!(f, "{name} {ticks}"),
+            Act::Lamp(number) => write!(f, "{name} {number}"),
+            Act::Ask(line) | Act::Admit(line) | Act::WriteCard(line) => {
+                write!(f, "{name} {} {}", line.need, line.period)
+            }
+            _ => f.write_str(name),
+        }
+    }
 }
 
 /// R63: what a call answers.
@@ -83,6 +141,17 @@ impl Told {
             place,
             value: 0,
         }
+    }
+}
+
+impl fmt::Display for Told {
+    fn fmt(&self, f: &mut fmt::Formatter<'_>) -> fmt::Result {
+        let Told {
+            number,
+            place,
+            value,
+        } = self;
+        write!(f, "number {number} place {place} value {value}")
     }
 }
 

@@ -2,7 +2,7 @@
 
 use crate::card;
 use crate::rules;
-use crate::types::{Refusal, Table};
+use crate::types::Refusal;
 
 /// R64: the line of a card.
 pub fn answer(bytes: &[u8], buffer: &mut [u8]) -> Result<usize, Refusal> {
@@ -15,19 +15,10 @@ pub fn rewrite(bytes: &[u8], buffer: &mut [u8]) -> Result<usize, Refusal> {
     card::write(&table, &request, buffer)
 }
 
-/// The start of a card's request, and the table that its admission leaves.
-pub fn admitted(bytes: &[u8]) -> Result<(u64, Table), Refusal> {
-    let (table, request) = card::parse(bytes)?;
-    rules::admit(&table, &request)
-}
-
 /// R66: in how many of the ticks after the admission a line ran.
 pub fn run(bytes: &[u8], ticks: u16) -> Result<u64, Refusal> {
-    ran(admitted(bytes)?.1, ticks)
-}
-
-/// In how many of so many ticks of a table a line ran.
-pub fn ran(mut table: Table, ticks: u16) -> Result<u64, Refusal> {
+    let (table, request) = card::parse(bytes)?;
+    let (_, mut table) = rules::admit(&table, &request)?;
     let mut ran = 0;
     for _ in 0..ticks {
         let (next, slot) = rules::step(&table)?;

@@ -1,10 +1,12 @@
 //! Everything that a call over the boundary is handed or lent, with guards around it.
 
 use super::act::NewLine;
-use crate::types::Request;
+use super::images::NUMBERS;
+use crate::image;
+use crate::types::{Request, EMPTY, LONGEST_CARD, SLOTS};
 
 /// How many bytes or numbers stand on each side of what is lent.
-const GUARD: usize = 16;
+pub const GUARD: usize = 16;
 
 /// What is lent for a call, between two guards that no call may change.
 #[derive(Clone, Debug, PartialEq, Eq)]
@@ -20,9 +22,20 @@ impl<T: Copy> Lent<T> {
     }
 
     /// What is lent, and its guards.
-    #[cfg(feature = "house")]
     pub fn all(&self) -> &[T] {
         &self.all
+    }
+
+    /// Another part between the same guards.
+    pub fn replace(&mut self, part: &[T]) {
+        *self = Lent::new(part, self.all[0]);
+    }
+
+    /// Other guards around the same part.
+    pub fn guard(&mut self, guard: T) {
+        let end = self.all.len() - GUARD;
+        self.all[..GUARD].fill(guard);
+        self.all[end..].fill(guard);
     }
 
     pub fn part(&self) -> &[T] {
@@ -60,6 +73,32 @@ pub struct Desk {
 }
 
 impl Desk {
+    /// The empty table, no card, a request of zeros, and a buffer that every card and every line fits.
+    pub fn new() -> Desk {
+        Desk {
+            image: Lent::new(&image::bytes(&EMPTY), 0),
+            card: Lent::new(&[], 0),
+            out: Lent::new(&[0; LONGEST_CARD], 0),
+            stretched: Lent::new(&[0; SLOTS], 0),
+            numbers: Lent::new(&[0; NUMBERS], 0),
+        }
+    }
+
+    /// What is lent to be written into is of this length, and full of this byte, as are all guards.
+    pub fn lend(&mut self, length: usize, fill: u8) {
+        let wide = u16::from_le_bytes([fill, fill]);
+        self.image.guard(fill);
+        self.card.guard(fill);
+        self.out = Lent::new(&vec![fill; length], fill);
+        self.stretched.guard(wide);
+        self.numbers = Lent::new(&[wide; NUMBERS], wide);
+    }
+
+    /// The byte of all guards.
+    pub fn fill(&self) -> u8 {
+        self.out.all[0]
+    }
+
     /// R6: the request of a new line with the stretched periods that lie here.
     pub fn request(&self, line: &NewLine) -> Request {
         Request {

@@ -43,7 +43,7 @@ mod tests {
 
     #[test]
     fn the_example_on_card_a() {
-        // Three of the 56 ticks find no line owed: 21, 23 and 24 of `ticks.rs`.
+        // Three of the 56 ticks find no line owed: 21, 23 and 24 of histories/controller.history.
         let wanted = "release 13\nshort refused 13 0\nrewritten 40 the same\nran 53 of 56\n";
         assert_eq!(example(&CARD_A), wanted);
     }

@@ -1,0 +1,184 @@
+//! What may be wrong with a table and its request, or with an image.
+
+use crate::draw;
+use crate::image;
+use crate::random::Random;
+use crate::types::{Content, Request, Run, Table, Wait, SLOTS};
+
+fn byte(random: &mut Random) -> u8 {
+    random.below(256) as u8
+}
+
+fn bytes(random: &mut Random, length: usize) -> Vec<u8> {
+    (0..length).map(|_| byte(random)).collect()
+}
+
+fn any_slot(random: &mut Random) -> usize {
+    random.below(SLOTS as u64) as usize
+}
+
+/// A sound line with a short period, so that ends and ties are frequent.
+fn short_line(random: &mut Random) -> Run {
+    let period = 1 + random.small(8);
+    let need = 1 + random.small(period.into());
+    Run {
+        need,
+        period,
+        age: random.small(period.into()),
+        remaining: random.small(u64::from(need) + 1),
+    }
+}
+
+/// R22: no slot holds nothing.
+fn fill(random: &mut Random, table: &mut Table) {
+    for content in &mut table.slots {
+        if *content == Content::Nothing {
+            *content = Content::Running(short_line(random));
+        }
+    }
+}
+
+/// R23: a line that waits for up to three ticks; one that waits for none, or whose need does not fit, is not sound.
+fn put_waiting(random: &mut Random, table: &mut Table) {
+    let line = short_line(random);
+    let more = random.small(8).saturating_sub(6);
+    table.slots[any_slot(random)] = Content::Waiting(Wait {
+        need: line.need * random.small(8).min(1) + more * line.period,
+        period: line.period,
+        wait: random.small(4),
+    });
+}
+
+/// A running line, if there is one.
+fn any_running<'a>(random: &mut Random, table: &'a mut Table) -> Option<&'a mut Run> {
+    let mut running: Vec<&mut Run> = table
+        .slots
+        .iter_mut()
+        .filter_map(|content| match content {
+            Content::Running(run) => Some(run),
+            _ => None,
+        })
+        .collect();
+    let lines = running.len() as u64;
+    (lines > 0).then(|| running.swap_remove(random.below(lines) as usize))
+}
+
+/// R30, R34: a line owes its whole need with some ticks left, often one, and half the time the others owe nothing.
+fn hurry(random: &mut Random, table: &mut Table) {
+    if random.below(2) == 0 {
+        for content in &mut table.slots {
+            if let Content::Running(run) = content {
+                run.remaining = 0;
+            }
+        }
+    }
+    if let Some(run) = any_running(random, table) {
+        let most = if random.below(2) == 0 { 1 } else { run.period };
+        run.age = run.period.saturating_sub(1 + random.small(most.into()));
+        run.remaining = run.need;
+    }
+}
+
+/// R5: a need of all the period, or of a tick more.
+fn full_need(random: &mut Random, table: &mut Table) {
+    if let Some(run) = any_running(random, table) {
+        run.need = run.period.saturating_add(random.small(2));
+    }
+}
+
+/// R29, R30: sound ages and remainings that no run has led to.
+fn scatter(random: &mut Random, table: &mut Table) {
+    for content in &mut table.slots {
+        if let Content::Running(run) = content {
+            run.age = random.small(run.period.into());
+            run.remaining = random.small(u64::from(run.need) + 1);
+        }
+    }
+}
+
+/// Short lines of all kinds, most of them sound.
+fn short_lines(random: &mut Random, table: &mut Table) {
+    for slot in 0..SLOTS {
+        table.slots[slot] = match random.below(16) {
+            0..=6 => Content::Running(short_line(random)),
+            _ => Content::Nothing,
+        };
+    }
+    if random.below(2) == 0 {
+        put_waiting(random, table);
+    }
+}
+
+/// One thing that is wrong with a table or its request, or merely not what a run leads to.
+pub fn table(random: &mut Random, table: &mut Table, request: &mut Request) {
+    match random.below(20) {
+        0..=6 => draw::damage(random, table, request),
+        7 => full_need(random, table),
+        8 => fill(random, table),
+        9 | 10 => put_waiting(random, table),
+        11 | 12 => hurry(random, table),
+        13..=15 => scatter(random, table),
+        16 => table.clock = draw::any_clock(random),
+        17 => (*table, *request) = draw::any(random),
+        18 => short_lines(random, table),
+        // R27: a prime number, so that the frame is long.
+        _ => request.period = 9_973,
+    }
+}
+
+/// A byte of an image changed, where it is still there.
+fn put(image: &mut [u8], offset: usize, byte: u8) {
+    if let Some(place) = image.get_mut(offset) {
+        *place = byte;
+    }
+}
+
+/// R83: one change of an image's bytes: its version, a kind, a byte that may be blank, its length, any byte.
+fn spoil(random: &mut Random, image: &mut Vec<u8>) {
+    let slot = image::slot_at(any_slot(random));
+    let any = random.below(image::LENGTH as u64) as usize;
+    let drawn = byte(random);
+    match random.below(8) {
+        0 => put(image, 0, drawn % 3),
+        1 => put(image, slot, drawn % 4),
+        2 => put(image, slot, drawn),
+        3 => put(image, slot + 1 + any % 8, drawn),
+        4 => {
+            put(image, slot, 2);
+            put(image, slot + 7 + any % 2, drawn);
+        }
+        5 => image.truncate(any),
+        6 => image.extend(bytes(random, 1 + any % 17)),
+        _ => put(image, any, drawn),
+    }
+}
+
+/// Bytes of any length up to 170, half of them with the version of an image.
+pub fn no_image(random: &mut Random) -> Vec<u8> {
+    let length = random.below(171) as usize;
+    let mut drawn = bytes(random, length);
+    if let Some(first) = drawn.first_mut() {
+        *first = if random.below(2) == 0 { 1 } else { *first };
+    }
+    drawn
+}
+
+/// An image with up to three changes of its bytes, or any bytes in its place.
+pub fn image(random: &mut Random, image: &[u8]) -> Vec<u8> {
+    let mut spoilt = image.to_vec();
+    match random.below(8) {
+        0 => no_image(random),
+        _ => {
+            (0..=random.below(3)).for_each(|_| spoil(random, &mut spoilt));
+            spoilt
+        }
+    }
+}
+
+/// An image cut, or with drawn bytes behind it, to a length.
+pub fn resized(random: &mut Random, image: &[u8], length: usize) -> Vec<u8> {
+    let mut resized = image.to_vec();
+    resized.extend(bytes(random, length.saturating_sub(image.len())));
+    resized.truncate(length);
+    resized
+}

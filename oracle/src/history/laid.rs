@@ -1,0 +1,68 @@
+//! The operations that lay something wanted on a desk.
+
+use super::operation::Operation;
+use crate::boundary::Desk;
+use crate::image;
+use crate::types::{EMPTY, SLOTS};
+
+/// The operations that turn an image into another: clock and slots in words as far as they can be, else bytes.
+pub fn image(now: &[u8], wanted: &[u8]) -> Vec<Operation> {
+    let mut operations = Vec::new();
+    if now.len() > wanted.len() {
+        operations.push(Operation::Cut(wanted.len()));
+    }
+    let common = now.len().min(wanted.len());
+    let whole = common.saturating_sub(image::FIRST_SLOT) / image::SLOT_LENGTH;
+    let whole = whole.min(SLOTS);
+    let in_words = match common {
+        0..image::FIRST_SLOT => 0,
+        _ => image::slot_at(whole),
+    };
+    push_bytes(now, wanted, 0..in_words.min(image::CLOCK), &mut operations);
+    if in_words > 0
+        && now[image::CLOCK..image::FIRST_SLOT] != wanted[image::CLOCK..image::FIRST_SLOT]
+    {
+        operations.push(Operation::Clock(image::clock(wanted)));
+    }
+    for slot in 0..whole {
+        push_slot(now, wanted, slot, &mut operations);
+    }
+    push_bytes(now, wanted, in_words..common, &mut operations);
+    if wanted.len() > now.len() {
+        operations.push(Operation::More(wanted[now.len()..].to_vec()));
+    }
+    operations
+}
+
+fn push_bytes(
+    now: &[u8],
+    wanted: &[u8],
+    offsets: std::ops::Range<usize>,
+    operations: &mut Vec<Operation>,
+) {
+    let differing = offsets.filter(|at| now[*at] != wanted[*at]);
+    operations.extend(differing.map(|at| Operation::Byte(at, wanted[at])));
+}
+
+/// R83: a slot whose bytes are not what its content has is laid byte by byte.
+fn push_slot(now: &[u8], wanted: &[u8], slot: usize, operations: &mut Vec<Operation>) {
+    let offsets = image::slot_at(slot)..image::slot_at(slot + 1);
+    if now[offsets.clone()] == wanted[offsets.clone()] {
+        return;
+    }
+    let content = image::content(wanted, slot);
+    if image::slot_bytes(&content) == wanted[offsets.clone()] {
+        operations.push(Operation::Slot(slot, content));
+    } else {
+        push_bytes(now, wanted, offsets, operations);
+    }
+}
+
+/// The operations that lay on a new desk what a call on this one reads, and lend what it is lent.
+pub fn desk(desk: &Desk) -> Vec<Operation> {
+    let mut operations = vec![Operation::Lend(desk.out.part().len(), desk.fill())];
+    operations.extend(image(&image::bytes(&EMPTY), desk.image.part()));
+    operations.push(Operation::Stretched(*desk.stretched.array()));
+    operations.push(Operation::Card(desk.card.part().to_vec()));
+    operations
+}

@@ -1,0 +1,216 @@
+//! A history that differs, made short.
+
+use super::beside::{first_difference, Beside, Doer};
+use super::laid;
+use super::operation::Operation;
+use crate::boundary::{Act, NewLine};
+use crate::types::{Content, Run, Wait};
+
+/// How many histories are tried at most.
+const TRIALS: usize = 20_000;
+
+/// The shortest history found that differs; it ends with the call that does.
+pub fn shrunk(library: Doer, history: &[Operation]) -> Vec<Operation> {
+    let history = &one_by_one(history)[..];
+    let Some((last, _)) = first_difference(library, history) else {
+        return history.to_vec();
+    };
+    let mut shrinking = Shrinking {
+        library,
+        best: history[..=last].to_vec(),
+        trials: TRIALS,
+    };
+    // No call remembers another: what lay on the desk before the last one is enough, if that is so.
+    let from_desk = described(library, &history[..last], &history[last]);
+    shrinking.attempt(from_desk);
+    while shrinking.shorter() || shrinking.simpler() {}
+    shrinking.best
+}
+
+/// The same history with single steps.
+fn one_by_one(history: &[Operation]) -> Vec<Operation> {
+    let single = |operation: &Operation| match operation {
+        Operation::Steps(times) => vec![Operation::Steps(1); *times as usize],
+        _ => vec![operation.clone()],
+    };
+    history.iter().flat_map(single).collect()
+}
+
+/// The history that lays out the desk before its last operation at once.
+fn described(library: Doer, before: &[Operation], last: &Operation) -> Vec<Operation> {
+    let mut beside = Beside::new(library);
+    for operation in before {
+        // Nothing differs before the last one.
+        let _ = beside.operate(operation);
+    }
+    let mut history = laid::desk(&beside.desk);
+    history.push(last.clone());
+    history
+}
+
+struct Shrinking {
+    library: Doer,
+    best: Vec<Operation>,
+    trials: usize,
+}
+
+impl Shrinking {
+    /// Takes a history over if it differs too.
+    fn attempt(&mut self, history: Vec<Operation>) -> bool {
+        if self.trials == 0 {
+            return false;
+        }
+        self.trials -= 1;
+        let differs = first_difference(self.library, &history).is_some();
+        if differs {
+            self.best = history;
+        }
+        differs
+    }
+
+    /// Leaves operations out, many at once at first; true if any could be.
+    fn shorter(&mut self) -> bool {
+        let before = self.best.len();
+        let mut size = before.div_ceil(2);
+        while size > 0 {
+            let mut at = 0;
+            while at < self.best.len() {
+                let end = self.best.len().min(at + size);
+                let less = [&self.best[..at], &self.best[end..]].concat();
+                if !self.attempt(less) {
+                    at += size;
+                }
+            }
+            size /= 2;
+        }
+        self.best.len() < before
+    }
+
+    /// Puts a simpler operation in the place of one; true if any could be.
+    fn simpler(&mut self) -> bool {
+        let mut any = false;
+        for at in 0..self.best.len() {
+            while at < self.best.len() && self.simpler_at(at) {
+                any = true;
+            }
+        }
+        any
+    }
+
+    fn simpler_at(&mut self, at: usize) -> bool {
+        simpler(&self.best[at]).into_iter().any(|operation| {
+            let mut history = self.best.clone();
+            history[at] = operation;
+            self.attempt(history)
+        })
+    }
+}
+
+/// Lesser numbers, the least first.
+fn less(number: u64) -> Vec<u64> {
+    let mut lesser = vec![0, 1, number / 2, number.saturating_sub(1)];
+    lesser.retain(|candidate| *candidate < number);
+    lesser.dedup();
+    lesser
+}
+
+/// Arrays of which one number is less.
+fn one_less<const N: usize>(numbers: [u16; N]) -> Vec<[u16; N]> {
+    let changed = |at: usize| {
+        less(numbers[at].into()).into_iter().map(move |number| {
+            let mut changed = numbers;
+            changed[at] = number as u16;
+            changed
+        })
+    };
+    (0..N).flat_map(changed).collect()
+}
+
+/// Bytes without some of them, or with a 0 in the place of one.
+fn fewer(bytes: &[u8]) -> Vec<Vec<u8>> {
+    let without = |at: usize, size: usize| {
+        let end = bytes.len().min(at + size);
+        [&bytes[..at], &bytes[end..]].concat()
+    };
+    let sizes = [bytes.len() / 2, 12, 2, 1]
+        .into_iter()
+        .filter(|size| *size > 0);
+    let mut fewer: Vec<Vec<u8>> = sizes
+        .flat_map(|size| (0..bytes.len()).step_by(size).map(move |at| (at, size)))
+        .map(|(at, size)| without(at, size))
+        .collect();
+    for at in (0..bytes.len()).filter(|at| bytes[*at] != 0) {
+        let mut zeroed = bytes.to_vec();
+        zeroed[at] = 0;
+        fewer.push(zeroed);
+    }
+    fewer
+}
+
+fn simpler_content(content: &Content) -> Vec<Content> {
+    match content {
+        Content::Nothing => vec![],
+        Content::Running(run) => one_less([run.need, run.period, run.age, run.remaining])
+            .into_iter()
+            .map(|[need, period, age, remaining]| {
+                Content::Running(Run {
+                    need,
+                    period,
+                    age,
+                    remaining,
+                })
+            })
+            .collect(),
+        Content::Waiting(line) => one_less([line.need, line.period, line.wait])
+            .into_iter()
+            .map(|[need, period, wait]| Content::Waiting(Wait { need, period, wait }))
+            .collect(),
+    }
+}
+
+fn simpler_line(line: &NewLine, act: fn(NewLine) -> Act) -> Vec<Operation> {
+    one_less([line.need, line.period])
+        .into_iter()
+        .map(|[need, period]| Operation::Call(act(NewLine { need, period })))
+        .collect()
+}
+
+/// What may stand in an operation's place; each has lesser numbers or fewer bytes, so that this ends.
+fn simpler(operation: &Operation) -> Vec<Operation> {
+    let numbers =
+        |number: u64, of: fn(u64) -> Operation| less(number).into_iter().map(of).collect();
+    match operation {
+        Operation::Clock(clock) => numbers(*clock, Operation::Clock),
+        Operation::Slot(slot, content) => simpler_content(content)
+            .into_iter()
+            .map(|content| Operation::Slot(*slot, content))
+            .collect(),
+        Operation::Byte(at, byte) => less((*byte).into())
+            .into_iter()
+            .map(|byte| Operation::Byte(*at, byte as u8))
+            .collect(),
+        Operation::Cut(length) => numbers(*length as u64, |n| Operation::Cut(n as usize)),
+        Operation::More(bytes) => fewer(bytes).into_iter().map(Operation::More).collect(),
+        Operation::Stretched(periods) => one_less(*periods)
+            .into_iter()
+            .map(Operation::Stretched)
+            .collect(),
+        Operation::Card(bytes) => fewer(bytes).into_iter().map(Operation::Card).collect(),
+        Operation::Lend(length, fill) => less(*length as u64)
+            .into_iter()
+            .map(|length| Operation::Lend(length as usize, *fill))
+            .collect(),
+        Operation::Table => vec![],
+        Operation::Steps(times) => numbers(*times, Operation::Steps),
+        Operation::Call(Act::Run(ticks)) => {
+            numbers((*ticks).into(), |n| Operation::Call(Act::Run(n as u16)))
+        }
+        Operation::Call(Act::Lamp(number)) => {
+            numbers(*number, |number| Operation::Call(Act::Lamp(number)))
+        }
+        Operation::Call(Act::Ask(line)) => simpler_line(line, Act::Ask),
+        Operation::Call(Act::Admit(line)) => simpler_line(line, Act::Admit),
+        Operation::Call(Act::WriteCard(line)) => simpler_line(line, Act::WriteCard),
+        Operation::Call(_) => vec![],
+    }
+}

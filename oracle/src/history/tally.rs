@@ -1,0 +1,91 @@
+//! How often each operation came, with which answers.
+
+use super::operation::Operation;
+use crate::boundary::{Act, Desk, Told};
+use crate::image;
+use std::collections::BTreeMap;
+use std::fmt;
+
+/// The greatest number of a refusal.
+const REFUSALS: usize = 15;
+
+/// How often a call was granted, at 0, and refused by each number.
+type Counts = [u64; REFUSALS + 1];
+
+#[derive(Default)]
+pub struct Tally {
+    pub histories: u64,
+    calls: BTreeMap<&'static str, Counts>,
+    laid: BTreeMap<&'static str, u64>,
+    starts: u64,
+    later: u64,
+}
+
+impl Tally {
+    /// One operation, what its calls were told, and the desk after them.
+    pub fn count(&mut self, operation: &Operation, all: &[Told], desk: &Desk) {
+        let name = operation.name();
+        let Some((act, _)) = operation.calls() else {
+            *self.laid.entry(name).or_default() += 1;
+            return;
+        };
+        let counts = self.calls.entry(name).or_default();
+        for told in all {
+            counts[told.number as usize] += 1;
+        }
+        if matches!(act, Act::Ask(_) | Act::Admit(_)) {
+            let granted = all.iter().filter(|told| told.number == 0);
+            for told in granted {
+                self.starts += 1;
+                // An admission keeps the clock.
+                self.later += u64::from(told.value > image::clock(desk.image.part()));
+            }
+        }
+    }
+
+    /// How many calls were compared.
+    pub fn compared(&self) -> u64 {
+        self.calls.values().flatten().sum()
+    }
+
+    fn all(&self) -> Counts {
+        let mut sum = Counts::default();
+        for counts in self.calls.values() {
+            for (total, count) in sum.iter_mut().zip(counts) {
+                *total += count;
+            }
+        }
+        sum
+    }
+
+    /// The refusals that no call was told.
+    pub fn unmet(&self) -> Vec<usize> {
+        let all = self.all();
+        (1..=REFUSALS).filter(|number| all[*number] == 0).collect()
+    }
+}
+
+/// A line for each call and one for all, the starts, and what was laid on the desk.
+impl fmt::Display for Tally {
+    fn fmt(&self, f: &mut fmt::Formatter<'_>) -> fmt::Result {
+        for (name, counts) in &self.calls {
+            write_counts(f, name, counts)?;
+        }
+        write_counts(f, "all", &self.all())?;
+        let (starts, later) = (self.starts, self.later);
+        writeln!(f, "starts {starts}, later than the clock {later}")?;
+        let laid = self
+            .laid
+            .iter()
+            .map(|(name, count)| format!(" {name}:{count}"));
+        writeln!(f, "laid{}", laid.collect::<String>())
+    }
+}
+
+fn write_counts(f: &mut fmt::Formatter<'_>, name: &str, counts: &Counts) -> fmt::Result {
+    let met = (1..=REFUSALS).filter(|number| counts[*number] > 0);
+    let refused: String = met.map(|n| format!(" {n}:{}", counts[n])).collect();
+    let calls: u64 = counts.iter().sum();
+    let word = if refused.is_empty() { "" } else { " refused" };
+    writeln!(f, "{name} {calls} granted {}{word}{refused}", counts[0])
+}

@@ -1,0 +1,253 @@
+//! The comparison finds what it should find, and its histories are short and can be done again.
+
+use super::beside::{Beside, Doer};
+use super::drawn::Drawn;
+use super::operation::Operation;
+use super::tally::Tally;
+use super::{compared, damage, laid, replay};
+use crate::boundary::{should, Act, Desk, Told};
+use crate::draw;
+use crate::image;
+use crate::random::Random;
+
+const CALLS: u64 = 30_000;
+const SEED: u64 = 6;
+
+#[test]
+fn the_rules_do_not_differ_from_themselves_and_meet_every_refusal() {
+    let mut tally = Tally::default();
+    assert_eq!(compared(should, CALLS, SEED, &mut tally), None);
+    assert!(tally.compared() >= CALLS);
+    assert_eq!(tally.unmet(), Vec::<usize>::new(), "{tally}");
+    let text = tally.to_string();
+    let later = text.split("later than the clock ").nth(1);
+    let later = later.and_then(|rest| rest.lines().next()?.parse::<u64>().ok());
+    assert!(later > Some(300), "{text}");
+}
+
+/// What a library would do that has a fault: the rules, and then a change of what they told or left.
+fn with(act: &Act, desk: &mut Desk, fault: impl FnOnce(&mut Told, &mut Desk)) -> Told {
+    let mut told = should(act, desk);
+    fault(&mut told, desk);
+    told
+}
+
+fn granted(told: &Told) -> bool {
+    told.number == 0
+}
+
+/// After a tick of slot 2 the clock stands.
+fn step_stands(act: &Act, desk: &mut Desk) -> Told {
+    with(act, desk, |told, desk| {
+        if *act == Act::Step && granted(told) && told.value == 2 {
+            let clock = image::clock(desk.image.part()) - 1;
+            Operation::Clock(clock).lay(desk);
+        }
+    })
+}
+
+/// A start that is later than the clock is a tick too late.
+fn ask_late(act: &Act, desk: &mut Desk) -> Told {
+    with(act, desk, |told, desk| {
+        if matches!(act, Act::Ask(_)) && granted(told) {
+            let later = told.value > image::clock(desk.image.part());
+            told.value += u64::from(later);
+        }
+    })
+}
+
+/// The period of slot 1 is not stretched.
+fn admit_forgets(act: &Act, desk: &mut Desk) -> Told {
+    let slot = image::slot_at(1);
+    let kept = desk
+        .image
+        .part()
+        .get(slot + 3..slot + 5)
+        .map(<[u8]>::to_vec);
+    with(act, desk, |told, desk| {
+        if matches!(act, Act::Admit(_)) && granted(told) {
+            let kept = kept.expect("an image was granted");
+            desk.image.part_mut()[slot + 3..slot + 5].copy_from_slice(&kept);
+        }
+    })
+}
+
+/// The last byte of a card is not written.
+fn card_short(act: &Act, desk: &mut Desk) -> Told {
+    let fill = desk.fill();
+    with(act, desk, |told, desk| {
+        if matches!(act, Act::WriteCard(_)) && granted(told) {
+            desk.out.part_mut()[told.value as usize - 1] = fill;
+        }
+    })
+}
+
+/// A broken image is refused where its slot begins.
+fn image_slot(act: &Act, desk: &mut Desk) -> Told {
+    with(act, desk, |told, _| {
+        if *act == Act::Step && told.number == 11 && told.place > 9 {
+            told.place -= told.place % 9;
+        }
+    })
+}
+
+/// Slot 3 is never ready.
+fn ready_blind(act: &Act, desk: &mut Desk) -> Told {
+    with(act, desk, |told, _| {
+        if *act == Act::Ready && granted(told) {
+            told.value &= !8;
+        }
+    })
+}
+
+/// A byte before a line's buffer is written.
+fn line_outside(act: &Act, desk: &mut Desk) -> Told {
+    with(act, desk, |told, desk| {
+        if *act == Act::Answer && granted(told) {
+            let other = desk.fill().wrapping_add(1);
+            desk.out.guard(other);
+        }
+    })
+}
+
+/// A refused admission changes the stretched periods.
+fn refusal_writes(act: &Act, desk: &mut Desk) -> Told {
+    with(act, desk, |told, desk| {
+        if matches!(act, Act::Admit(_)) && told.number == 5 {
+            desk.stretched.part_mut()[told.place as usize] += 1;
+        }
+    })
+}
+
+/// What is told has the wrong kind of value in a bit that no answer uses.
+fn lamp_wide(act: &Act, desk: &mut Desk) -> Told {
+    with(act, desk, |told, _| {
+        if matches!(act, Act::Lamp(number) if number >> 63 == 1) {
+            told.value |= 1 << 40;
+        }
+    })
+}
+
+/// The request that a card carries loses the period of slot 1.
+fn reading_loses(act: &Act, desk: &mut Desk) -> Told {
+    with(act, desk, |told, desk| {
+        if *act == Act::ReadCard && granted(told) {
+            desk.numbers.part_mut()[1] = 0;
+        }
+    })
+}
+
+#[test]
+fn each_fault_is_found_and_made_a_short_history_that_can_be_done_again() {
+    let faults: [(&str, Doer, usize); 10] = [
+        ("step stands", step_stands, 2),
+        ("ask late", ask_late, 5),
+        ("admit forgets", admit_forgets, 3),
+        ("card short", card_short, 2),
+        ("image slot", image_slot, 2),
+        ("ready blind", ready_blind, 2),
+        ("line outside", line_outside, 1),
+        ("refusal writes", refusal_writes, 2),
+        ("lamp wide", lamp_wide, 1),
+        ("reading loses", reading_loses, 2),
+    ];
+    for (name, library, most) in faults {
+        let mut tally = Tally::default();
+        let text = compared(library, CALLS, SEED, &mut tally).expect(name);
+        let operations = text.lines().filter(|line| !line.starts_with('#')).count();
+        assert!(operations <= most, "{name}:\n{text}");
+        let again = replay::replayed(library, &text);
+        assert_eq!(again, Ok((text.clone(), false)), "{name}");
+        let right = replay::replayed(should, &text).expect(name);
+        assert!(right.1, "{name}");
+    }
+}
+
+/// The operations of some drawn histories.
+fn drawn() -> Vec<Operation> {
+    let (mut random, mut tally) = (Random::new(SEED), Tally::default());
+    let mut all = Vec::new();
+    for _ in 0..50 {
+        let mut history = Drawn::new(should, &mut random, &mut tally);
+        history.history().expect("the rules alone");
+        all.append(&mut history.operations);
+    }
+    all
+}
+
+#[test]
+fn every_operation_is_read_as_it_is_written() {
+    for operation in drawn() {
+        let line = operation.to_string();
+        assert_eq!(Operation::from_line(&line), Some(operation), "{line}");
+    }
+}
+
+#[test]
+fn a_line_that_is_no_operation_is_refused() {
+    let lines = [
+        "",
+        "stap",
+        "step x",
+        "step -1",
+        "ask 1",
+        "ask 1 65536",
+        "slot 16 nothing",
+        "slot 0",
+        "slot 0 runs 1 2 3",
+        "slot 0 waits 1 2 3 4",
+        "byte 1 256",
+        "card 1",
+        "card XY",
+        "more 123",
+        "stretched x",
+        "lend 3",
+        "lamp",
+        "stretched 0 0 0 0 0 0 0 0 0 0 0 0 0 0 0 0 0",
+        "clock 18446744073709551616",
+        "empty 1",
+        "table 1",
+    ];
+    for line in lines {
+        assert_eq!(Operation::from_line(line), None, "{line}");
+    }
+    assert!(
+        replay::replayed(should, "step\nstap\n").is_err_and(|error| error.starts_with("line 2:"))
+    );
+}
+
+#[test]
+fn a_wanted_image_is_laid() {
+    let mut random = Random::new(SEED);
+    let random = &mut random;
+    let mut beside = Beside::new(should);
+    for round in 0..20_000 {
+        let image = image::bytes(&draw::any(random).0);
+        let wanted = match round % 4 {
+            0 => damage::no_image(random),
+            1 => damage::image(random, &image),
+            _ => image,
+        };
+        for operation in laid::image(beside.desk.image.part(), &wanted) {
+            beside.operate(&operation).expect("nothing is called");
+        }
+        assert_eq!(beside.desk.image.part(), wanted);
+    }
+}
+
+#[test]
+fn a_difference_among_steps_says_which() {
+    let text = "slot 0 runs 1 4 3 1\nslot 2 runs 2 4 0 2\nstep 4\n";
+    let (said, same) = replay::replayed(step_stands, text).expect("a history");
+    let wanted = "step 4\n# steps before it: 1\n# table clock 1, ";
+    assert!(!same && said.contains(wanted), "{said}");
+}
+
+#[test]
+fn a_history_says_what_it_was_told() {
+    let text = "# a remark\n\nadmit 8 16: anything\nstretched 16\nadmit 8 16\nstep 8\nready\nbyte 0 2\nstep 2\ntable\n";
+    let said = "# a remark\n\nadmit 8 16: start 0 slot 0\nstretched 16\nadmit 8 16: start 0 slot 1\nstep 8: 00000000\n\
+                ready: word 2\nbyte 0 2\nstep 2: refused 11 0\ntable: refused 11 0\n";
+    assert_eq!(replay::replayed(should, text), Ok((said.to_string(), true)));
+    assert_eq!(replay::replayed(should, said), Ok((said.to_string(), true)));
+}

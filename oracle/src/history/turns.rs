@@ -1,0 +1,213 @@
+//! What happens in a drawn history, one turn after the other.
+
+use super::damage;
+use super::drawn::{on_images, Done, Drawn, LONGEST_LENT};
+use super::operation::Operation;
+use crate::boundary::Act;
+use crate::card;
+use crate::draw;
+use crate::image;
+use crate::spoil;
+use crate::types::{Request, LAST_ASK, LONGEST_CARD};
+
+/// R53: where the record after the clock's begins.
+const FIRST_RECORD: usize = 10;
+
+impl Drawn<'_> {
+    /// How a history comes to its first table.
+    pub fn open(&mut self) -> Done {
+        match self.random.below(16) {
+            0..=8 => self.open_empty(),
+            9..=12 => self.open_question(),
+            13 | 14 => self.read_card(),
+            _ => {
+                let bytes = damage::no_image(self.random);
+                self.lay(&bytes)
+            }
+        }
+    }
+
+    /// Up to four lines are admitted, the last for all the load that is left, and the pump runs for a while.
+    fn open_empty(&mut self) -> Done {
+        self.call(Act::Empty)?;
+        for _ in 0..2 + self.random.below(2) {
+            let part = self.loads.part(self.random, 1, &self.table());
+            self.admit(&part)?;
+        }
+        let rest = self.loads.rest(self.random, &self.table());
+        self.admit(&rest)?;
+        let steps = self.random.below(self.loads.parts * self.loads.span);
+        self.step(steps)
+    }
+
+    /// A table that mostly passes all refusals, with its request.
+    fn open_question(&mut self) -> Done {
+        let (table, request) = match self.random.below(64) {
+            0 => draw::wide(self.random),
+            _ => draw::near_full(self.random),
+        };
+        self.loads.go_by(&table, &request);
+        self.lay(&image::bytes(&table))?;
+        self.ask(&request)
+    }
+
+    pub fn turn(&mut self) -> Done {
+        match self.random.below(64) {
+            0..=22 => {
+                let request = self.draw_request();
+                self.ask(&request)
+            }
+            23 | 24 => {
+                let request = self.draw_request();
+                self.admit(&request)
+            }
+            25..=30 => {
+                let times = 1 + self.random.below(24);
+                self.step(times)
+            }
+            31 | 32 => self.call(Act::Ready).map(|_| ()),
+            33..=35 => self.write_card(),
+            36..=38 => self.there_and_back(),
+            39..=42 => self.cards(),
+            43 => self.read_card(),
+            44 => self.open_question(),
+            45..=54 => self.damaged_table(),
+            55..=59 => self.broken_image(),
+            60 | 61 => self.jump(),
+            62 => {
+                let number = self.random.below(20);
+                self.call(Act::Lamp(number)).map(|_| ())
+            }
+            _ => self.call(Act::Version).map(|_| ()),
+        }
+    }
+
+    fn draw_request(&mut self) -> Request {
+        self.loads.request(self.random, &self.table())
+    }
+
+    fn ask(&mut self, request: &Request) -> Done {
+        let line = self.request(request)?;
+        self.call(Act::Ask(line)).map(|_| ())
+    }
+
+    fn admit(&mut self, request: &Request) -> Done {
+        let line = self.request(request)?;
+        self.call(Act::Admit(line)).map(|_| ())
+    }
+
+    fn step(&mut self, times: u64) -> Done {
+        self.operate(Operation::Steps(times)).map(|_| ())
+    }
+
+    /// What is lent for something of a length: exactly so much, a byte less, any length, or more than enough.
+    fn lend_about(&mut self, exact: usize) -> Done {
+        let length = match self.random.below(4) {
+            0 => exact.saturating_sub(1),
+            1 => exact,
+            2 => self.random.below(LONGEST_LENT as u64 + 1) as usize,
+            _ => LONGEST_LENT,
+        };
+        self.lend(length)
+    }
+
+    /// R91: the table's card.
+    fn write_card(&mut self) -> Done {
+        let request = self.draw_request();
+        let line = self.request(&request)?;
+        self.lend_about(card::bytes(&self.table(), &request).len())?;
+        self.call(Act::WriteCard(line)).map(|_| ())
+    }
+
+    /// R71, R92: the table's card is written and read again; where a line waits there is none, and the last one is read.
+    fn there_and_back(&mut self) -> Done {
+        let request = self.draw_request();
+        let line = self.request(&request)?;
+        self.lend(LONGEST_CARD)?;
+        let told = self.call(Act::WriteCard(line))?;
+        if told.number == 0 {
+            let written = self.beside.desk.out.part()[..told.value as usize].to_vec();
+            self.operate(Operation::Card(written))?;
+        }
+        self.call(Act::ReadCard).map(|_| ())
+    }
+
+    /// A card of any kind; R58: some have an old mark in the place of their first line's.
+    fn draw_card(&mut self) -> Vec<u8> {
+        let card = spoil::mixed_card(self.random);
+        if self.random.below(16) == 0 && card.len() > 2 * FIRST_RECORD {
+            return spoil::with_mark(&card, FIRST_RECORD, b"TA");
+        }
+        card
+    }
+
+    /// R64 to R66: a card is answered, written anew and run.
+    fn cards(&mut self) -> Done {
+        let card = self.draw_card();
+        let (line, length) = (card::answer(&card).len(), card.len());
+        let ticks = self.random.small(100);
+        self.operate(Operation::Card(card))?;
+        self.lend_about(line)?;
+        self.call(Act::Answer)?;
+        self.lend_about(length)?;
+        self.call(Act::Rewrite)?;
+        self.call(Act::Run(ticks)).map(|_| ())
+    }
+
+    /// R92: a card's table takes the place of the image, and its request is asked; of a broken card that is zeros.
+    fn read_card(&mut self) -> Done {
+        let card = self.draw_card();
+        let request = card::read(&card).request;
+        self.operate(Operation::Card(card))?;
+        self.call(Act::ReadCard)?;
+        self.loads.go_by(&self.table(), &request);
+        self.ask(&request)
+    }
+
+    /// The table and the request are damaged for some calls, and then the table stands as it stood.
+    fn damaged_table(&mut self) -> Done {
+        let (before, mut table) = (self.image(), self.table());
+        let mut request = self.draw_request();
+        damage::table(self.random, &mut table, &mut request);
+        self.lay(&image::bytes(&table))?;
+        let line = self.request(&request)?;
+        match self.random.below(8) {
+            0..=3 => self.call(Act::Ask(line)).map(|_| ())?,
+            4 => self.call(Act::Admit(line)).map(|_| ())?,
+            5 | 6 => {
+                let times = 1 + self.random.below(4);
+                self.step(times)?;
+            }
+            _ => {
+                self.call(Act::Ready)?;
+                self.call(Act::WriteCard(line))?;
+            }
+        }
+        self.lay(&before)
+    }
+
+    /// R83: the image's bytes are spoilt for some calls, and then they are as they were.
+    fn broken_image(&mut self) -> Done {
+        let before = self.image();
+        let request = self.draw_request();
+        let acts = on_images(self.request(&request)?);
+        let spoilt = damage::image(self.random, &before);
+        for _ in 0..=self.random.below(3) {
+            let act = acts[self.random.below(acts.len() as u64) as usize];
+            self.lay(&spoilt)?;
+            self.call(act)?;
+        }
+        self.lay(&before)
+    }
+
+    /// R7: the clock jumps, to where a run comes to the last ask or anywhere before; the lines stay as they are.
+    fn jump(&mut self) -> Done {
+        let anywhere = (self.random.value() << 31 | self.random.value()) % (LAST_ASK + 1);
+        let clock = match self.random.below(4) {
+            0 => LAST_ASK - self.random.below(200),
+            1 => self.random.below(1_000),
+            _ => anywhere,
+        };
+        self.operate(Operation::Clock(clock)).map(|_| ())
+    }
+}
