@@ -29,9 +29,10 @@ fn compared(library: Doer, calls: u64, seed: u64, tally: &mut Tally) -> Option<S
     while tally.compared() < calls {
         let first = tally.histories == 0;
         let mut drawn = Drawn::new(library, &mut random, tally);
-        let done = match first {
-            true => drawn.numbers().and_then(|()| drawn.lengths()),
-            false => drawn.history(),
+        let done = if first {
+            drawn.first()
+        } else {
+            drawn.history()
         };
         if done.is_err() {
             let history = shrink::shrunk(library, &drawn.operations);

@@ -139,6 +139,15 @@ impl Table {
             })
     }
 
+    /// The same, to be changed.
+    #[cfg(any(test, feature = "house"))]
+    pub fn running_mut(&mut self) -> impl Iterator<Item = &mut Run> {
+        self.slots.iter_mut().filter_map(|content| match content {
+            Content::Running(run) => Some(run),
+            _ => None,
+        })
+    }
+
     /// The lowest slot whose content answers yes.
     pub fn lowest(&self, question: impl Fn(&Content) -> bool) -> Option<usize> {
         self.slots.iter().position(question)

@@ -51,26 +51,15 @@ fn put_waiting(random: &mut Random, table: &mut Table) {
 
 /// A running line, if there is one.
 fn any_running<'a>(random: &mut Random, table: &'a mut Table) -> Option<&'a mut Run> {
-    let mut running: Vec<&mut Run> = table
-        .slots
-        .iter_mut()
-        .filter_map(|content| match content {
-            Content::Running(run) => Some(run),
-            _ => None,
-        })
-        .collect();
-    let lines = running.len() as u64;
-    (lines > 0).then(|| running.swap_remove(random.below(lines) as usize))
+    let lines = table.running().count() as u64;
+    let drawn = (lines > 0).then(|| random.below(lines) as usize)?;
+    table.running_mut().nth(drawn)
 }
 
 /// R30, R34: a line owes its whole need with some ticks left, often one, and half the time the others owe nothing.
 fn hurry(random: &mut Random, table: &mut Table) {
     if random.below(2) == 0 {
-        for content in &mut table.slots {
-            if let Content::Running(run) = content {
-                run.remaining = 0;
-            }
-        }
+        table.running_mut().for_each(|run| run.remaining = 0);
     }
     if let Some(run) = any_running(random, table) {
         let most = if random.below(2) == 0 { 1 } else { run.period };
@@ -88,11 +77,9 @@ fn full_need(random: &mut Random, table: &mut Table) {
 
 /// R29, R30: sound ages and remainings that no run has led to.
 fn scatter(random: &mut Random, table: &mut Table) {
-    for content in &mut table.slots {
-        if let Content::Running(run) = content {
-            run.age = random.small(run.period.into());
-            run.remaining = random.small(u64::from(run.need) + 1);
-        }
+    for run in table.running_mut() {
+        run.age = random.small(run.period.into());
+        run.remaining = random.small(u64::from(run.need) + 1);
     }
 }
 

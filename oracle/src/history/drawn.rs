@@ -11,6 +11,7 @@ use crate::card;
 use crate::draw;
 use crate::image;
 use crate::random::Random;
+use crate::spoil;
 use crate::types::{Request, Table, EMPTY, LONGEST_CARD};
 
 /// The longest buffer lent for a card, and the longest one lent for an image.
@@ -42,6 +43,13 @@ impl<'a> Drawn<'a> {
         }
     }
 
+    /// What every run begins with.
+    pub fn first(&mut self) -> Done {
+        self.numbers()?;
+        self.lengths()?;
+        self.broken_cards()
+    }
+
     /// A whole history: a table is come to, and then it is asked, admitted to, stepped, damaged.
     pub fn history(&mut self) -> Done {
         self.lend(LONGEST_CARD)?;
@@ -53,7 +61,7 @@ impl<'a> Drawn<'a> {
     }
 
     /// R90, R93: the functions that are lent nothing: small numbers with any one of the 64 bits changed.
-    pub fn numbers(&mut self) -> Done {
+    fn numbers(&mut self) -> Done {
         self.call(Act::Version)?;
         for number in 0..32 {
             for bit in 0..64 {
@@ -63,8 +71,8 @@ impl<'a> Drawn<'a> {
         Ok(())
     }
 
-    /// Every length of every buffer, for one table and one card.
-    pub fn lengths(&mut self) -> Done {
+    /// Every length of what is lent to be written into and of an image, for one table and one card.
+    fn lengths(&mut self) -> Done {
         let (table, request) = draw::near_full(self.random);
         let image = image::bytes(&table);
         self.lay(&image)?;
@@ -80,6 +88,17 @@ impl<'a> Drawn<'a> {
             let resized = damage::resized(self.random, &image, length);
             for act in on_images(line) {
                 self.lay(&resized)?;
+                self.call(act)?;
+            }
+        }
+        Ok(())
+    }
+
+    /// R57, R58: every broken card of the stored set, among them the longest card cut to every length.
+    fn broken_cards(&mut self) -> Done {
+        for card in spoil::named() {
+            self.operate(Operation::Card(card))?;
+            for act in [Act::Answer, Act::Rewrite, Act::Run(1), Act::ReadCard] {
                 self.call(act)?;
             }
         }

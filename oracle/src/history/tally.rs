@@ -18,7 +18,8 @@ pub struct Tally {
     calls: BTreeMap<&'static str, Counts>,
     laid: BTreeMap<&'static str, u64>,
     starts: u64,
-    later: u64,
+    /// Starts that were later than the clock.
+    pub later: u64,
 }
 
 impl Tally {
