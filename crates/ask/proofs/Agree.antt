@@ -1,11 +1,13 @@
 -- Requests that agree on what is looked at get the same answer and the same table.
 use Prim.Native.Nat.{ℕ, suc, _<_}
 use mathlib.Core.Path.{_≡_, refl, ap, _∙_}
-use mathlib.Core.Bool.{Bool}
+use mathlib.Core.Bool.{Bool, false}
+use lib.Dec.{ltb}
 use mathlib.Core.List.{List, [], _∷_}
 use native.Mathlib.Omega.{arith}
 use lib.ListN.{length, set, replicate}
 use Rattle.periods.specs.Multiples.{euclid, gcdOf, lcmOf, frameFrom}
+use Rattle.line.specs.declared.Run.{Run}
 use Rattle.line.specs.declared.Held.{Held}
 use Rattle.line.specs.declared.Held.the-variants.{Nothing, Running, Waiting}
 use Rattle.line.specs.declared.Slot.{Slot}
@@ -13,30 +15,33 @@ use Rattle.table.specs.declared.Table.{Table}
 use Rattle.table.specs.declared.Request.{Request}
 use Rattle.table.specs.declared.Answer.{Answer}
 use Rattle.table.specs.declared.Answer.the-variants.{Start, Refused}
-use Rattle.line.specs.Slots.{at, total, lowest}
-use Rattle.table.specs.Words.{emptyTable}
-use Rattle.line.specs.Demand.{due, lastEnd}
+use Rattle.line.specs.Slots.{withPeriod, ifRuns, at, total, mapAt, lowest}
+use Rattle.table.specs.Words.{emptyTable, requestWith}
+use Rattle.line.specs.Streams.{due, every, endsBefore}
+use Rattle.line.specs.Demand.{lastEnd}
 use Rattle.table.specs.Grounds.{entry, asked}
 use Rattle.line.specs.Stretch.{stretch, stretched, shrunk}
 use Rattle.line.specs.Shares.{periodsIn}
-use Rattle.line.specs.Ends.{every, endsBefore, endsOf, slack, bound, greatest, anyOf, start}
+use Rattle.line.specs.Ends.{endsOf, slack, bound, greatest, anyOf, start}
 use Rattle.table.specs.Ask.{askIn, askOf}
 use Rattle.table.specs.Admit.{admitWith, admitOf}
 use Rattle.line.proofs.Search.{lowest-congr}
 use Rattle.ask.specs.Agree.{Runs, Agree}
 
+-- what is made of a running line with its T', and of nothing else, agrees where the T' do
+runs-agree : {A : Type 0} (z : A) (f : ℕ → Run → A) (p r : ℕ) (h : Held) → (Runs h → p ≡ r) → ifRuns z (f p) h ≡ ifRuns z (f r) h
+runs-agree z f p r Nothing e = refl
+runs-agree z f p r (Running x) e = ap (λ (k : ℕ). f k x) (e tt)
+runs-agree z f p r (Waiting w) e = refl
+
 stretch-agrees : (p r : ℕ) (h : Held) → (Runs h → p ≡ r) → stretch p h ≡ stretch r h
-stretch-agrees p r Nothing e = refl
-stretch-agrees p r (Running x) e = ap (λ (k : ℕ). stretch k (Running x)) (e tt)
-stretch-agrees p r (Waiting w) e = refl
+stretch-agrees p r h e = runs-agree h (λ k x. Running (withPeriod x k)) p r h e
 
 shrunk-agrees : (p r : ℕ) (h : Held) → (Runs h → p ≡ r) → shrunk p h ≡ shrunk r h
-shrunk-agrees p r Nothing e = refl
-shrunk-agrees p r (Running x) e = ap (λ (k : ℕ). shrunk k (Running x)) (e tt)
-shrunk-agrees p r (Waiting w) e = refl
+shrunk-agrees p r h e = runs-agree false (λ k x. ltb k (x .period)) p r h e
 
 slots-agree : (l : List Slot) (p r : ℕ → ℕ) → ((i : ℕ) → i < length l → Runs (at l i) → p i ≡ r i) → stretched l p ≡ stretched l r
-unfolding stretched
+unfolding mapAt
 slots-agree [] p r e = refl
 slots-agree (s ∷ l) p r e =
     rw (
@@ -70,6 +75,6 @@ module _ (t : Table) (q r : Request) (a : Agree t q r) where
   ask-agrees = (answers-agree, ap (admitWith t q) answers-agree ∙ tables-agree (askOf t r))
 
 -- R6: on the empty table an entry of 65,521 changes nothing: the new line starts at once
-pub empty-starts : askOf emptyTable (record { stretched = set (replicate 16 0) 3 65521; need = 3; period = 5 }) ≡ Start 0
-unfolding euclid gcdOf lcmOf frameFrom total lowest due lastEnd stretched periodsIn every endsBefore endsOf slack bound greatest anyOf start askIn askOf
+pub empty-starts : askOf emptyTable (requestWith (set (replicate 16 0) 3 65521) 3 5) ≡ Start 0
+unfolding euclid gcdOf lcmOf frameFrom total lowest due lastEnd mapAt periodsIn every endsBefore endsOf slack bound greatest anyOf start askIn askOf
 empty-starts = refl

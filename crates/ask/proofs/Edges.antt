@@ -10,13 +10,13 @@ use Rattle.table.specs.declared.Request.{Request}
 use Rattle.table.specs.declared.Answer.{Answer}
 use Rattle.table.specs.declared.Answer.the-variants.{Start, Refused}
 use Rattle.table.specs.declared.Admitted.{Admitted}
-use Rattle.line.specs.Slots.{empty, at, total, isNothing, lowest}
-use Rattle.table.specs.Words.{emptyTable, refusal}
-use Rattle.line.specs.Demand.{due, lastEnd}
+use Rattle.line.specs.Slots.{empty, at, total, mapAt, isNothing, lowest}
+use Rattle.table.specs.Words.{emptyTable, requestWith, refusal}
+use Rattle.line.specs.Streams.{due, every, endsBefore}
+use Rattle.line.specs.Demand.{lastEnd}
 use Rattle.table.specs.Grounds.{entry}
-use Rattle.line.specs.Stretch.{stretched}
 use Rattle.line.specs.Shares.{periodsIn}
-use Rattle.line.specs.Ends.{every, endsBefore, endsOf, slack, bound, greatest, anyOf, start}
+use Rattle.line.specs.Ends.{endsOf, slack, bound, greatest, anyOf, start}
 use Rattle.table.specs.Ask.{askIn, askOf}
 use Rattle.table.specs.Cases.{running, waiting, tableOf}
 use Rattle.line.proofs.Search.{true-false}
@@ -34,7 +34,7 @@ firstIn = tableOf 0 (running 3 5 0 3 ∷ [])
 
 -- a request with the entries of the first three slots, the need and the period
 abbrev pub asking : (first second third Cn Tn : ℕ) → Request
-asking a b c Cn Tn = record { stretched = a ∷ b ∷ c ∷ replicate 13 0; need = Cn; period = Tn }
+asking a b c Cn Tn = requestWith (a ∷ b ∷ c ∷ replicate 13 0) Cn Tn
 
 -- R6: the entries of the slot with nothing and of the waiting one are not looked at
 pub agree-unseen : Agree mixed (asking 4 0 6 1 4) (asking 4 65521 5 1 4)
@@ -79,10 +79,10 @@ refused-elsewhere a = omega (arith, ap (λ (x : Admitted). x .table .clock) (a .
 
 -- R42, R43: admitted to the empty table, the line runs in slot 0
 pub admits-first : Admits emptyTable (asking 0 0 0 3 5) (record { table = firstIn; answer = Start 0 })
-unfolding euclid gcdOf lcmOf frameFrom total lowest due lastEnd stretched periodsIn every endsBefore endsOf slack bound greatest anyOf start askIn askOf
+unfolding euclid gcdOf lcmOf frameFrom total lowest due lastEnd mapAt periodsIn every endsBefore endsOf slack bound greatest anyOf start askIn askOf
 admits-first = admits emptyTable (asking 0 0 0 3 5) refl
 
 -- R42, R43: with the start, the table without the line is not allowed
 pub admits-nothing : Admits emptyTable (asking 0 0 0 3 5) (record { table = emptyTable; answer = Start 0 }) → ⊥
-unfolding euclid gcdOf lcmOf frameFrom total lowest due lastEnd stretched periodsIn every endsBefore endsOf slack bound greatest anyOf start askIn askOf
+unfolding euclid gcdOf lcmOf frameFrom total lowest due lastEnd mapAt periodsIn every endsBefore endsOf slack bound greatest anyOf start askIn askOf
 admits-nothing a = true-false refl (ap (λ (x : Admitted). isNothing (at (x .table .slots) 0)) (a .computed))

@@ -1,5 +1,7 @@
--- The laws of the table that an admission leaves, and of requests that agree.
-pub mod Stretching
+-- The laws of the answer, of what is gathered for it, of the table that an admission leaves, and of requests that agree.
+pub mod Deciding
+pub mod Packing
+pub mod LastGrounds
 pub mod Placing
 pub mod Agree
 pub mod Right

@@ -1,7 +1,6 @@
 -- The table that an admission leaves, by the slot that the search named.
 use Prim.Native.Nat.{ℕ, _-_}
 use mathlib.Core.Path.{_≡_, ap, sym, _∙_}
-use mathlib.Core.List.{List}
 use mathlib.Core.Option.{none, some}
 use lib.ListN.{set}
 use Rattle.line.specs.declared.Held.{Held}
@@ -12,27 +11,25 @@ use Rattle.table.specs.declared.Answer.{Answer}
 use Rattle.table.specs.declared.Answer.the-variants.{Start, Refused}
 use Rattle.table.specs.declared.Refusal.{Refusal}
 use Rattle.table.specs.declared.Admitted.{Admitted}
-use Rattle.line.specs.Slots.{isNothing, lowestOf}
+use Rattle.line.specs.Slots.{holding, isNothing, lowestOf}
+use Rattle.table.specs.Words.{withSlots}
 use Rattle.table.specs.Grounds.{asked}
 use Rattle.table.specs.Ask.{askOf}
 use Rattle.table.specs.Admit.{newLine, admittedAt, admitWith, admitOf}
 
-abbrev table : ℕ → List Slot → Table
-table k l = record { clock = k; slots = l }
-
-module _ (t : Table) (q : Request) (r : ℕ) {next : Table} (ec : next .clock ≡ t .clock) (es : next .slots ≡ asked t q) where
+module _ (t : Table) (q : Request) (r : ℕ) {next : Table} (e : next ≡ withSlots t (asked t q)) where
   -- with no empty slot there is no place
   pub put-nowhere : lowestOf isNothing (t .slots) ≡ none → next ≡ admittedAt t q r
-  put-nowhere e = rw e (ap (λ (k : ℕ). table k (next .slots)) ec ∙ ap (table (t .clock)) es)
+  put-nowhere g = rw g e
 
   -- R43: the new line in the slot that was found
-  pub put-at : {k : ℕ} {new : Held} {full : Table} → lowestOf isNothing (t .slots) ≡ some k → new ≡ newLine (q .need) (q .period) (r - t .clock)
-      → full .clock ≡ next .clock → full .slots ≡ set (next .slots) k (record { held = new }) → full ≡ admittedAt t q r
-  put-at {k} {new} {full} e g fc fs =
-      rw e
-      (ap (λ (c : ℕ). table c (full .slots)) (fc ∙ ec)
-      ∙ ap (table (t .clock)) (fs ∙ ap (λ (l : List Slot). set l k (record { held = new })) es)
-      ∙ ap (λ (h : Held). table (t .clock) (set (asked t q) k (record { held = h }))) g
+  pub put-at : {k : ℕ} {new : Held} {s : Slot} {full : Table} → lowestOf isNothing (t .slots) ≡ some k → new ≡ newLine (q .need) (q .period) (r - t .clock)
+      → s ≡ holding new → full ≡ withSlots next (set (next .slots) k s) → full ≡ admittedAt t q r
+  put-at {k} {new} {s} g h i f =
+      rw g
+      (f
+      ∙ ap (λ (x : Table). withSlots x (set (x .slots) k s)) e
+      ∙ ap (λ (x : Slot). withSlots t (set (asked t q) k x)) (i ∙ ap holding h)
       )
 
 module _ (t : Table) (q : Request) {a : Answer} (e : a ≡ askOf t q) where

@@ -1,3 +1,4 @@
--- What ask and admit promise, and when two requests are the same to them.
+-- What ask and admit promise, when two requests are the same to them, and what is gathered for the decision.
 pub mod Asked
 pub mod Agree
+pub mod Gathered

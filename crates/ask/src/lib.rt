@@ -1,4 +1,6 @@
 // Ask (R41) and admit (R42): the answer to a request, and the table with the new line in it.
+mod answer; // the grounds in their order, or the start
+mod gather; // the lines, counted from the clock
 mod place; // the table with the new line in it
 
 ghost use mathlib.Core.Path.{_≡_};
@@ -9,7 +11,7 @@ ghost use Rattle.ask.specs.Asked.{Asked, Admits};
 pub fn ask(t: table::Table, q: table::Request) -> table::Answer
     ensures { λ r. ⌜ Asked t q r ⌝ }
 {
-    decide::decide(t, q)
+    answer::answer(t, q)
 }
 
 // R17: with a refusal the table is handed back as it came
@@ -26,7 +28,7 @@ fn untouched(t: table::Table, x: table::Refusal) -> table::Admitted
 pub fn admit(t: table::Table, q: table::Request) -> table::Admitted
     ensures { λ r. ⌜ Admits t q r ⌝ }
 {
-    let a = decide::decide(t, q);
+    let a = answer::answer(t, q);
     match a {
         table::Answer::Start(r) => {
             let next = place::admitted(t, q, r);

@@ -1,16 +1,12 @@
 -- The lamp's blinks, R50, a law for each range by its two ends.
 use Prim.Native.Nat.{ℕ, _≤_, _<_}
 use mathlib.Core.Path.{_≡_, refl}
-use mathlib.Core.Bool.{Bool, true, false}
 use native.Mathlib.Omega.{arith}
 use lib.Dec.{leb}
 use borrow.Author.Tests.{le-leb, lt-leb}
-use Rattle.line.specs.Slots.{pick, both}
+use Rattle.line.specs.Slots.{pick}
+use Rattle.line.proofs.Sound.{both-false}
 use Rattle.board.specs.Board.{within, blinks}
-
-both-false : (a : Bool) → both a false ≡ false
-both-false true = refl
-both-false false = refl
 
 -- a range that n is in, below or above: its own blinks x, or those y of the ranges after it
 module _ (a b n x y : ℕ) where

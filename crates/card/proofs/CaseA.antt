@@ -6,8 +6,9 @@ use lib.ListN.{take}
 use Rattle.table.specs.Cases.{caseA}
 use Rattle.table.specs.Words.{gives, refuses, refusal}
 use Rattle.line.specs.Slots.{lowest}
-use Rattle.card.specs.Bytes.{marked, TA}
-use Rattle.card.specs.Card.{cardOf}
+use Rattle.card.specs.Bytes.{marked}
+use Rattle.card.specs.Layout.{TA}
+use Rattle.card.specs.Card.{cardOf, carrying}
 use Rattle.card.specs.Reading.{recordOf, recordsOf, readWith, readOf}
 use Rattle.card.specs.Answers.{lengthOf, writeOf}
 
@@ -24,7 +25,7 @@ unfolding cardOf
 case-A-written = refl
 
 -- R56: and what is printed reads as case A
-pub case-A-read : readOf printed ≡ gives (record { table = caseA .table; request = caseA .request })
+pub case-A-read : readOf printed ≡ gives (carrying (caseA .table) (caseA .request))
 unfolding readWith recordsOf recordOf marked
 case-A-read = refl
 

@@ -9,7 +9,7 @@ use Rattle.table.specs.declared.Table.{Table}
 use Rattle.table.specs.declared.Request.{Request}
 use Rattle.table.specs.declared.Refusal.{Refusal}
 use Rattle.line.specs.Slots.{empty, lowest}
-use Rattle.table.specs.Words.{Said, gives, refuses}
+use Rattle.table.specs.Words.{requestWith, refusal, Said, gives, refuses}
 use Rattle.table.specs.Cases.{running, waiting, tableOf}
 use Rattle.card.specs.declared.CardAnswer.{CardAnswer}
 use Rattle.card.specs.declared.WriteAnswer.{WriteAnswer}
@@ -22,12 +22,6 @@ use Rattle.card.specs.Answers.{handed, saidRead, saidWritten, lengthOf, 
 abbrev times : ℕ → List ℕ → List ℕ
 times zero l = []
 times (suc n) l = l ++ times n l
-
-abbrev numbered : (number place : ℕ) → Refusal
-numbered n k = record { number = n; place = k }
-
-abbrev requestOf : (stretched : List ℕ) → (Cn Tn : ℕ) → Request
-requestOf ts c n = record { stretched = ts; need = c; period = n }
 
 -- a card of 30 bytes: the clock, slot 0 that holds nothing, slot 1 with a line, the new line
 abbrev whole : List ℕ
@@ -42,7 +36,7 @@ abbrev wholeTable : Table
 wholeTable = tableOf 0x0807060504030201 (empty ∷ running 0x1211 0x2221 0x6261 0x7271 ∷ replicate 14 empty)
 
 abbrev wholeRequest : Request
-wholeRequest = requestOf (0 ∷ 0x3231 ∷ replicate 14 0) 0x8281 0x9291
+wholeRequest = requestWith (0 ∷ 0x3231 ∷ replicate 14 0) 0x8281 0x9291
 
 -- its records one by one
 abbrev clock : List ℕ
@@ -66,13 +60,13 @@ lineSlot = running 0x1211 0x2221 0x6261 0x7271
 
 -- the clock and new line of `whole` around these slots
 abbrev reads : List Slot → (stretched : List ℕ) → Said Card
-reads ss ts = gives (record { table = tableOf 0x0807060504030201 ss; request = requestOf ts 0x8281 0x9291 })
+reads ss ts = gives (record { table = tableOf 0x0807060504030201 ss; request = requestWith ts 0x8281 0x9291 })
 
 abbrev breaks : (place : ℕ) → Said Card
-breaks at = refuses (numbered 11 at)
+breaks at = refuses (refusal 11 at)
 
 abbrev isOld : (place : ℕ) → Said Card
-isOld at = refuses (numbered 12 at)
+isOld at = refuses (refusal 12 at)
 
 -- some bytes and what the reader says of them
 pub record CardEdge : Type 0 where
@@ -164,11 +158,11 @@ abbrev numberEdges : List CardEdge
 numberEdges =
     edge whole (gives (record { table = wholeTable; request = wholeRequest }))
     ∷ edge ((0x43 ∷ 0x4B ∷ replicate 8 0) ++ (0x54 ∷ 0x42 ∷ replicate 10 0) ++ (0x52 ∷ 0x51 ∷ replicate 4 0))
-    (gives (record { table = tableOf 0 (running 0 0 0 0 ∷ replicate 15 empty); request = requestOf (replicate 16 0) 0 0 }))
+    (gives (record { table = tableOf 0 (running 0 0 0 0 ∷ replicate 15 empty); request = requestWith (replicate 16 0) 0 0 }))
     ∷ edge ((0x43 ∷ 0x4B ∷ replicate 8 0xFF) ++ (0x54 ∷ 0x42 ∷ replicate 10 0xFF) ++ (0x52 ∷ 0x51 ∷ replicate 4 0xFF))
     (gives (record {
       table = tableOf 18446744073709551615 (running 65535 65535 65535 65535 ∷ replicate 15 empty);
-      request = requestOf (65535 ∷ replicate 15 0) 65535 65535;
+      request = requestWith (65535 ∷ replicate 15 0) 65535 65535;
     }))
     ∷ []
 
@@ -222,18 +216,18 @@ waitingTable =
 
 -- `wholeRequest` with entries for slots that hold nothing
 abbrev fullRequest : Request
-fullRequest = requestOf (0x5251 ∷ 0x3231 ∷ replicate 14 0x5453) 0x8281 0x9291
+fullRequest = requestWith (0x5251 ∷ 0x3231 ∷ replicate 14 0x5453) 0x8281 0x9291
 
 -- R59: a waiting line is looked for before the room is, and no byte is touched by a refusal
 abbrev orderEdges : List WriteEdge
 orderEdges =
-    unwritten waitingTable wholeRequest (lent 29) (numbered 3 2)
-    ∷ unwritten waitingTable wholeRequest [] (numbered 3 2)
-    ∷ unwritten waitingTable wholeRequest (lent 240) (numbered 3 2)
-    ∷ unwritten (tableOf 0 (replicate 15 empty ++ (waiting 0 0 0 ∷ []))) wholeRequest (lent 3) (numbered 3 15)
-    ∷ unwritten (tableOf 0 (waiting 1 4 3 ∷ replicate 15 empty)) wholeRequest (lent 3) (numbered 3 0)
-    ∷ unwritten wholeTable wholeRequest [] (numbered 13 0)
-    ∷ unwritten wholeTable wholeRequest (lent 29) (numbered 13 0)
+    unwritten waitingTable wholeRequest (lent 29) (refusal 3 2)
+    ∷ unwritten waitingTable wholeRequest [] (refusal 3 2)
+    ∷ unwritten waitingTable wholeRequest (lent 240) (refusal 3 2)
+    ∷ unwritten (tableOf 0 (replicate 15 empty ++ (waiting 0 0 0 ∷ []))) wholeRequest (lent 3) (refusal 3 15)
+    ∷ unwritten (tableOf 0 (waiting 1 4 3 ∷ replicate 15 empty)) wholeRequest (lent 3) (refusal 3 0)
+    ∷ unwritten wholeTable wholeRequest [] (refusal 13 0)
+    ∷ unwritten wholeTable wholeRequest (lent 29) (refusal 13 0)
     ∷ written wholeTable wholeRequest (lent 30) 30 whole
     ∷ written wholeTable wholeRequest (lent 31) 30 (whole ++ (0xEE ∷ []))
     ∷ written wholeTable wholeRequest (lent 33) 30 (whole ++ (0xEE ∷ 0xEE ∷ 0xEE ∷ []))
@@ -243,13 +237,13 @@ orderEdges =
 abbrev lengthEdges : List WriteEdge
 lengthEdges =
     written wholeTable fullRequest (lent 30) 30 whole
-    ∷ unwritten (tableOf 0x0807060504030201 (replicate 16 empty)) fullRequest (lent 15) (numbered 13 0)
+    ∷ unwritten (tableOf 0x0807060504030201 (replicate 16 empty)) fullRequest (lent 15) (refusal 13 0)
     ∷ written (tableOf 0x0807060504030201 (replicate 16 empty)) fullRequest (lent 16) 16 (clock ++ request)
-    ∷ unwritten (tableOf 0x0807060504030201 (replicate 15 empty ++ (lineSlot ∷ []))) (requestOf (replicate 16 0x3231) 0x8281 0x9291) (lent 57) (numbered 13 0)
-    ∷ written (tableOf 0x0807060504030201 (replicate 15 empty ++ (lineSlot ∷ []))) (requestOf (replicate 16 0x3231) 0x8281 0x9291) (lent 58) 58
+    ∷ unwritten (tableOf 0x0807060504030201 (replicate 15 empty ++ (lineSlot ∷ []))) (requestWith (replicate 16 0x3231) 0x8281 0x9291) (lent 57) (refusal 13 0)
+    ∷ written (tableOf 0x0807060504030201 (replicate 15 empty ++ (lineSlot ∷ []))) (requestWith (replicate 16 0x3231) 0x8281 0x9291) (lent 58) 58
     (clock ++ times 15 free ++ line ++ request)
-    ∷ unwritten (tableOf 0x0807060504030201 (replicate 16 lineSlot)) (requestOf (replicate 16 0x3231) 0x8281 0x9291) (lent 207) (numbered 13 0)
-    ∷ written (tableOf 0x0807060504030201 (replicate 16 lineSlot)) (requestOf (replicate 16 0x3231) 0x8281 0x9291) (lent 208) 208 longest
+    ∷ unwritten (tableOf 0x0807060504030201 (replicate 16 lineSlot)) (requestWith (replicate 16 0x3231) 0x8281 0x9291) (lent 207) (refusal 13 0)
+    ∷ written (tableOf 0x0807060504030201 (replicate 16 lineSlot)) (requestWith (replicate 16 0x3231) 0x8281 0x9291) (lent 208) 208 longest
     ∷ []
 
 -- R55, R59: all of them
@@ -278,8 +272,8 @@ pub handed-edges :
     map (λ (l : List ℕ). handed (readOf l)) (clock ∷ whole ∷ [])
     ≡ record {
       table = tableOf 0 (replicate 16 empty);
-      request = requestOf (replicate 16 0) 0 0;
-      answer = CardAnswer.Refused (numbered 11 10);
+      request = requestWith (replicate 16 0) 0 0;
+      answer = CardAnswer.Refused (refusal 11 10);
     }
     ∷ record { table = wholeTable; request = wholeRequest; answer = CardAnswer.Read }
     ∷ []
@@ -288,7 +282,7 @@ handed-edges = refl
 
 -- R17, R59: the code's answers say their own numbers, whatever table stands beside a refusal
 pub said-edges : (t : Table) (q : Request) →
-    (map saidRead (record { table = t; request = q; answer = CardAnswer.Refused (numbered 12 34) } ∷ record { table = t; request = q; answer = CardAnswer.Read } ∷ [])
-    ≡ refuses (numbered 12 34) ∷ gives (record { table = t; request = q }) ∷ [])
-    × (map saidWritten (WriteAnswer.Length 56 ∷ WriteAnswer.Refused (numbered 13 78) ∷ []) ≡ gives 56 ∷ refuses (numbered 13 78) ∷ [])
+    (map saidRead (record { table = t; request = q; answer = CardAnswer.Refused (refusal 12 34) } ∷ record { table = t; request = q; answer = CardAnswer.Read } ∷ [])
+    ≡ refuses (refusal 12 34) ∷ gives (record { table = t; request = q }) ∷ [])
+    × (map saidWritten (WriteAnswer.Length 56 ∷ WriteAnswer.Refused (refusal 13 78) ∷ []) ≡ gives 56 ∷ refuses (refusal 13 78) ∷ [])
 said-edges t q = (refl, refl)

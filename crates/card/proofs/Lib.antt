@@ -6,12 +6,15 @@ pub mod Numbers
 pub mod Marks
 pub mod Records
 pub mod Steps
+pub mod Passed
+pub mod Slots
 pub mod ReadsBack
 pub mod WritesBack
 pub mod Exactly
 pub mod Length
 pub mod Prefix
 pub mod Refusals
+pub mod Grounds
 pub mod Written
 pub mod Rewritten
 pub mod Answers

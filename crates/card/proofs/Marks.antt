@@ -10,7 +10,7 @@ use lib.Dec.{eqb}
 use borrow.Author.Tests.{eqb-true, eq-eqb, ne-eqb}
 use Rattle.line.specs.Slots.{both}
 use Rattle.line.proofs.Search.{true-false}
-use Rattle.line.proofs.Sound.{both-says}
+use Rattle.line.proofs.Sound.{both-says, both-false}
 use Rattle.card.specs.Bytes.{marked}
 
 -- a mark opens what begins with it
@@ -34,10 +34,6 @@ unfolding marked
 marked-long [] l h = omega arith
 marked-long (a ∷ m) [] h = absurd (true-false h refl)
 marked-long (a ∷ m) (b ∷ l) h = let q = marked-long m l (both-says (eqb b a) (marked m l) h .1) in omega arith
-
-both-false : (t : Bool) → both t false ≡ false
-both-false true = refl
-both-false false = refl
 
 both-last : (t : Bool) → both t true ≡ t
 both-last true = refl

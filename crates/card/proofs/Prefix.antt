@@ -1,4 +1,4 @@
--- A unit with n slots settles its verdict on the first 17 + 12 n bytes.
+-- A unit with n slots settles its verdict on the bytes of its longest card and one more.
 use mathlib.Core.Path.{_≡_, refl, sym, ap, ap₂, _∙_}
 use mathlib.Core.List.{List, [], _∷_}
 use mathlib.Core.Bool.{Bool, true, false}
@@ -9,14 +9,16 @@ use lib.ListN.{length, take, drop, length-take}
 use lib.Seq.{getD-take, take-nil}
 use lib.Dec.{leb, eqb}
 use borrow.Author.Tests.{leb-true, leb-false, le-leb, lt-leb, eqb-true, eqb-false, eq-eqb, ne-eqb}
-use Rattle.line.specs.Slots.{pick, both, empty}
+use Rattle.line.specs.Slots.{pick, both}
 use Rattle.table.specs.Words.{gives}
-use Rattle.line.specs.declared.Held.the-variants.{Running}
+use Rattle.card.specs.declared.Mark.{Mark}
 use Rattle.card.specs.declared.Record.{Record}
-use Rattle.card.specs.declared.Record.the-variants.{Line, Free, Last, Refused}
-use Rattle.card.specs.Bytes.{value, CK, TB, TF, TA, RQ, marked}
-use Rattle.card.specs.Card.{Card}
+use Rattle.card.specs.declared.Record.the-variants.{Slot, Last, Refused}
+use Rattle.card.specs.Bytes.{value, marked}
+use Rattle.card.specs.Layout.{CK, TB, TF, TA, RQ, isFree, clockAt, needAt, periodAt, stretchedAt, fourthAt, fifthAt, clockLength, lineLength, lastLength, recordLength}
+use Rattle.card.specs.Marked.{Records}
 use Rattle.card.specs.Reading.{lineRecordOf, lastOf, slotRecordOf, recordOf, putInFront, ending, closing, broken, step, recordsOf, readWith, readOf}
+use Rattle.card.proofs.Length.{mark-length}
 
 marked-take : (m : List ℕ) (n : ℕ) (l : List ℕ) → length m ≤ n → marked m (take n l) ≡ marked m l
 unfolding marked
@@ -47,29 +49,29 @@ same-take k n l h = go (eqb (length l) k) refl
         (λ z. eqb-false (length l) k e (omega (arith, length-take n l)))
 
 module _ (n : ℕ) (l : List ℕ) where
-  line-take : 12 ≤ n → lineRecordOf (take n l) ≡ lineRecordOf l
-  line-take h =
+  line-take : (m : Mark) → lineLength ≤ n → lineRecordOf m (take n l) ≡ lineRecordOf m l
+  line-take m h =
       simp (
-        long-take 12 n l h,
-        value-take 2 n l 2 (omega arith),
-        value-take 2 n l 4 (omega arith),
-        value-take 2 n l 6 (omega arith),
-        value-take 2 n l 8 (omega arith),
-        value-take 2 n l 10 (omega arith),
+        long-take lineLength n l h,
+        value-take 2 n l needAt (omega arith),
+        value-take 2 n l periodAt (omega arith),
+        value-take 2 n l stretchedAt (omega arith),
+        value-take 2 n l fourthAt (omega arith),
+        value-take 2 n l fifthAt (omega arith),
       )
 
-  last-take : 6 ≤ n → lastOf (take n l) ≡ lastOf l
-  last-take h = simp (long-take 6 n l h, value-take 2 n l 2 (omega arith), value-take 2 n l 4 (omega arith))
+  last-take : lastLength ≤ n → lastOf (take n l) ≡ lastOf l
+  last-take h = simp (long-take lastLength n l h, value-take 2 n l needAt (omega arith), value-take 2 n l periodAt (omega arith))
 
-  slot-take : 12 ≤ n → slotRecordOf (take n l) ≡ slotRecordOf l
+  slot-take : lineLength ≤ n → slotRecordOf (take n l) ≡ slotRecordOf l
   slot-take h =
-      rw (line-take h, marked-take TB n l (omega arith), marked-take TF n l (omega arith), marked-take TA n l (omega arith))
+      rw (line-take Mark.TB h, marked-take TB n l (omega arith), marked-take TF n l (omega arith), marked-take TA n l (omega arith))
 
-  full-take : 6 ≤ n → recordOf 0 (take n l) ≡ recordOf 0 l
+  full-take : lastLength ≤ n → recordOf 0 (take n l) ≡ recordOf 0 l
   unfolding recordOf
   full-take h = rw (last-take h, marked-take RQ n l (omega arith))
 
-  record-take : (left : ℕ) → 12 ≤ n → recordOf left (take n l) ≡ recordOf left l
+  record-take : (left : ℕ) → lineLength ≤ n → recordOf left (take n l) ≡ recordOf left l
   unfolding recordOf
   record-take left h = rw (last-take (omega arith), slot-take h, marked-take RQ n l (omega arith))
 
@@ -84,47 +86,49 @@ behind w m l h =
     let e : m ≡ w + (m - w) = omega arith in
     ap (λ (k : ℕ). drop w (take k l)) e ∙ drop-take w (m - w) l
 
-closing-take : (gap : Bool) (at n : ℕ) (l : List ℕ) (c : Card) → 7 ≤ n → closing gap at (length (take n l)) c ≡ closing gap at (length l) c
-closing-take gap at n l c h = ap (λ (o : Bool). pick gap (broken at) (pick o (gives c) (broken (at + 6)))) (same-take 6 n l (omega arith))
+closing-take : (gap : Bool) (at n : ℕ) (l : List ℕ) (m : Records) → lastLength < n → closing gap at (length (take n l)) m ≡ closing gap at (length l) m
+closing-take gap at n l m h =
+    ap (λ (o : Bool). pick gap (broken at) (pick o (gives m) (broken (at + lastLength)))) (same-take lastLength n l (omega arith))
 
-records-take : (k n : ℕ) (gap : Bool) (at : ℕ) (l : List ℕ) (m : ℕ) → 7 + 12 * n ≤ m → recordsOf k n gap at (take m l) ≡ recordsOf k n gap at l
+records-take : (k n : ℕ) (gap : Bool) (at : ℕ) (l : List ℕ) (m : ℕ) → 1 + lastLength + lineLength * n ≤ m
+    → recordsOf k n gap at (take m l) ≡ recordsOf k n gap at l
 unfolding recordsOf
 records-take k zero gap at l m h =
     ap (step k 0 gap at (take m l) (λ g a x. broken at)) (full-take m l (omega arith)) ∙ go (recordOf 0 l)
   where
     go : (r : Record) → step k 0 gap at (take m l) (λ g a x. broken at) r ≡ step k 0 gap at l (λ g a x. broken at) r
-    go (Line r t) = refl
-    go Free = refl
+    go (Slot r) = refl
     go (Last c t) = closing-take gap at m l (ending k 0 c t) (omega arith)
     go (Refused r) = refl
 records-take k (suc n) gap at l m h =
     ap (step k (suc n) gap at (take m l) (recordsOf k n)) (record-take m l (suc n) (omega arith))
     ∙ go (recordOf (suc n) l)
-    (ap (recordsOf k n false (at + 12)) (behind 12 m l (omega arith)) ∙ records-take k n false (at + 12) (drop 12 l) (m - 12) (omega arith))
-    (ap (recordsOf k n true (at + 2)) (behind 2 m l (omega arith)) ∙ records-take k n true (at + 2) (drop 2 l) (m - 2) (omega arith))
+    (λ g w a u. ap (recordsOf k n g a) (behind w m l (omega arith)) ∙ records-take k n g a (drop w l) (m - w) (omega arith))
   where
-    go : (r : Record) → recordsOf k n false (at + 12) (drop 12 (take m l)) ≡ recordsOf k n false (at + 12) (drop 12 l)
-        → recordsOf k n true (at + 2) (drop 2 (take m l)) ≡ recordsOf k n true (at + 2) (drop 2 l)
+    go : (r : Record) → ((g : Bool) (w a : ℕ) → w ≤ lineLength → recordsOf k n g a (drop w (take m l)) ≡ recordsOf k n g a (drop w l))
         → step k (suc n) gap at (take m l) (recordsOf k n) r ≡ step k (suc n) gap at l (recordsOf k n) r
-    go (Line r t) x y = ap (putInFront (record { held = Running r } ∷ []) (t ∷ [])) x
-    go Free x y = ap (putInFront (empty ∷ []) (0 ∷ [])) y
-    go (Last c t) x y = closing-take gap at m l (ending k (suc n) c t) (omega arith)
-    go (Refused r) x y = refl
+    go (Slot r) x = ap (putInFront (r ∷ [])) (x (isFree (r .mark)) (recordLength (r .mark)) (at + recordLength (r .mark)) (mark-length (r .mark)))
+    go (Last c t) x = closing-take gap at m l (ending k (suc n) c t) (omega arith)
+    go (Refused r) x = refl
 
-read-take : (n : ℕ) (l : List ℕ) (m : ℕ) → 17 + 12 * n ≤ m → readWith n (take m l) ≡ readWith n l
+-- the bytes of the longest card of n slots, and one more
+abbrev pub deciding : ℕ → ℕ
+deciding n = clockLength + (1 + lastLength + lineLength * n)
+
+read-take : (n : ℕ) (l : List ℕ) (m : ℕ) → deciding n ≤ m → readWith n (take m l) ≡ readWith n l
 unfolding readWith
 read-take n l m h =
     rw (
-      long-take 10 m l (omega arith),
+      long-take clockLength m l (omega arith),
       marked-take CK m l (omega arith),
-      value-take 8 m l 2 (omega arith),
-      behind 10 m l (omega arith),
-      records-take (value 8 l 2) n false 10 (drop 10 l) (m - 10) (omega arith),
+      value-take 8 m l clockAt (omega arith),
+      behind clockLength m l (omega arith),
+      records-take (value 8 l clockAt) n false clockLength (drop clockLength l) (m - clockLength) (omega arith),
     )
 
 -- R57: the verdict is that on the first bytes, one more than the longest card has
-pub verdict-by-prefix : (n : ℕ) (l : List ℕ) → readWith n (take (17 + 12 * n) l) ≡ readWith n l
-verdict-by-prefix n l = read-take n l (17 + 12 * n) (omega arith)
+pub verdict-by-prefix : (n : ℕ) (l : List ℕ) → readWith n (take (deciding n) l) ≡ readWith n l
+verdict-by-prefix n l = read-take n l (deciding n) (omega arith)
 
 -- R57: so inputs that agree on 209 bytes get the same verdict
 pub verdict-by-209 : (l m : List ℕ) → take 209 l ≡ take 209 m → readOf l ≡ readOf m

@@ -1,25 +1,25 @@
 -- What stands at the front of the bytes: the record for each way through the tests, and what each record says of the bytes.
 use mathlib.Core.Path.{_≡_, refl, sym, ap, ap₂, _∙_}
-use mathlib.Core.List.{List, [], _++_}
+use mathlib.Core.List.{List, [], _∷_, _++_}
 use mathlib.Core.Bool.{Bool, true, false}
 use Prim.Native.Nat.{ℕ, _≤_, _<_}
 use native.Mathlib.Omega.{arith}
-use lib.ListN.{length, drop}
+use lib.ListN.{length, drop, getD}
 use lib.Dec.{leb, ltb}
 use borrow.Author.Tests.{leb-true, ltb-true, le-leb, lt-leb, lt-ltb}
-use Rattle.line.specs.declared.Run.{Run}
 use Rattle.line.specs.Slots.{pick}
+use Rattle.card.specs.declared.Mark.{Mark}
+use Rattle.card.specs.declared.SlotRecord.{SlotRecord}
 use Rattle.card.specs.declared.Record.{Record}
-use Rattle.card.specs.declared.Record.the-variants.{Line, Free, Last, Refused}
-use Rattle.card.specs.Bytes.{Bytes, le, value, TB, TF, TA, RQ, marked}
-use Rattle.card.specs.Card.{lineRecord, requestRecord}
-use Rattle.card.specs.Reading.{lineRecordOf, lastOf, slotRecordOf, recordOf}
-use Rattle.card.proofs.Numbers.{value-le, le-value}
+use Rattle.card.specs.declared.Record.the-variants.{Slot, Last, Refused}
+use Rattle.card.specs.declared.Recorded.the-variants.{As}
+use Rattle.card.specs.Bytes.{Bytes, le, value, marked}
+use Rattle.card.specs.Layout.{TB, TF, TA, RQ, needAt, periodAt, stretchedAt, fourthAt, fifthAt, markLength, lineLength, lastLength, recordLength}
+use Rattle.card.specs.Marked.{recordWith, free, numbersOf, recordBytes, NumbersFit, Fitting, heldUnder, recordFor}
+use Rattle.card.specs.Card.{requestRecord}
+use Rattle.card.specs.Reading.{recordAt, lineRecordOf, lastOf, slotRecordOf, recordOf}
+use Rattle.card.proofs.Numbers.{value-le, le-value, value-lt}
 use Rattle.card.proofs.Marks.{marked-here, marked-is, marked-long}
-
--- the line of a TB record
-abbrev pub runAt : List ℕ → Run
-runAt l = record { need = value 2 l 2; period = value 2 l 4; age = value 2 l 8; remaining = value 2 l 10 }
 
 module _ (left : ℕ) (l : List ℕ) where
   -- R57: RQ is looked for first
@@ -39,11 +39,11 @@ module _ (left : ℕ) (l : List ℕ) where
 
 module _ (l : List ℕ) where
   -- R53: TB
-  pub slot-line : marked TB l ≡ true → slotRecordOf l ≡ lineRecordOf l
+  pub slot-line : marked TB l ≡ true → slotRecordOf l ≡ lineRecordOf Mark.TB l
   slot-line i = simp i
 
   -- R53: TF
-  pub slot-free : marked TB l ≡ false → marked TF l ≡ true → slotRecordOf l ≡ Free
+  pub slot-free : marked TB l ≡ false → marked TF l ≡ true → slotRecordOf l ≡ Slot free
   slot-free i j = simp (i, j)
 
   -- R58: TA
@@ -54,45 +54,65 @@ module _ (l : List ℕ) where
   pub slot-unknown : marked TB l ≡ false → marked TF l ≡ false → marked TA l ≡ false → slotRecordOf l ≡ Refused 11
   slot-unknown i j k = simp (i, j, k)
 
--- R53: twelve bytes are a line
-pub line-whole : (l : List ℕ) → 12 ≤ length l → lineRecordOf l ≡ Line (runAt l) (value 2 l 6)
-line-whole l h = ap (λ (o : Bool). pick o (Line (runAt l) (value 2 l 6)) (Refused 11)) (le-leb 12 (length l) h)
+module _ (m : Mark) (l : List ℕ) where
+  -- R53: twelve bytes are a line
+  pub line-whole : lineLength ≤ length l → lineRecordOf m l ≡ Slot (recordAt m l)
+  line-whole h = ap (λ (o : Bool). pick o (Slot (recordAt m l)) (Refused 11)) (le-leb lineLength (length l) h)
 
--- R57: fewer are none
-pub line-cut : (l : List ℕ) → length l < 12 → lineRecordOf l ≡ Refused 11
-line-cut l h = ap (λ (o : Bool). pick o (Line (runAt l) (value 2 l 6)) (Refused 11)) (lt-leb 12 (length l) h)
+  -- R57: fewer are none
+  pub line-cut : length l < lineLength → lineRecordOf m l ≡ Refused 11
+  line-cut h = ap (λ (o : Bool). pick o (Slot (recordAt m l)) (Refused 11)) (lt-leb lineLength (length l) h)
 
--- R53: six bytes are a new line
-pub last-whole : (l : List ℕ) → 6 ≤ length l → lastOf l ≡ Last (value 2 l 2) (value 2 l 4)
-last-whole l h = ap (λ (o : Bool). pick o (Last (value 2 l 2) (value 2 l 4)) (Refused 11)) (le-leb 6 (length l) h)
+module _ (l : List ℕ) where
+  -- R53: six bytes are a new line
+  pub last-whole : lastLength ≤ length l → lastOf l ≡ Last (value 2 l needAt) (value 2 l periodAt)
+  last-whole h = ap (λ (o : Bool). pick o (Last (value 2 l needAt) (value 2 l periodAt)) (Refused 11)) (le-leb lastLength (length l) h)
 
--- R57: fewer are none
-pub last-cut : (l : List ℕ) → length l < 6 → lastOf l ≡ Refused 11
-last-cut l h = ap (λ (o : Bool). pick o (Last (value 2 l 2) (value 2 l 4)) (Refused 11)) (lt-leb 6 (length l) h)
+  -- R57: fewer are none
+  pub last-cut : length l < lastLength → lastOf l ≡ Refused 11
+  last-cut h = ap (λ (o : Bool). pick o (Last (value 2 l needAt) (value 2 l periodAt)) (Refused 11)) (lt-leb lastLength (length l) h)
 
--- what a record says of the bytes at whose front it stands
+-- R53: twelve bytes behind the mark a b are its record's, with numbers that fit, whatever the mark says of them
+line-fronts : (m : Mark) (a b : ℕ) (l : List ℕ) → marked (a ∷ b ∷ []) l ≡ true → lineLength ≤ length l → Bytes l
+    → (l ≡ (a ∷ b ∷ numbersOf (recordAt m l)) ++ drop lineLength l) × NumbersFit (recordAt m l)
+line-fronts m a b l e h y = (
+  marked-is (a ∷ b ∷ []) l e
+      ∙ ap (λ (x : List ℕ). a ∷ b ∷ x) (le-value 2 l needAt y (omega arith)
+      ∙ ap (λ (x : List ℕ). le 2 (value 2 l needAt) ++ x) (le-value 2 l periodAt y (omega arith)
+      ∙ ap (λ (x : List ℕ). le 2 (value 2 l periodAt) ++ x) (le-value 2 l stretchedAt y (omega arith)
+      ∙ ap (λ (x : List ℕ). le 2 (value 2 l stretchedAt) ++ x) (le-value 2 l fourthAt y (omega arith)
+      ∙ ap (λ (x : List ℕ). le 2 (value 2 l fourthAt) ++ x) (le-value 2 l fifthAt y (omega arith)))))),
+  (value-lt 2 l needAt y, value-lt 2 l periodAt y, value-lt 2 l stretchedAt y, value-lt 2 l fourthAt y, value-lt 2 l fifthAt y),
+)
+
+-- the bytes l begin with the record r, whose numbers fit
+abbrev pub Fronts : List ℕ → SlotRecord → Type 0
+Fronts l r = (l ≡ recordBytes r ++ drop (recordLength (r .mark)) l) × Fitting r
+
+-- what a record says of the bytes at whose front it stands; a slot's is the record of the slot that it stands for
 abbrev pub Stands : ℕ → List ℕ → Record → Type 0
-Stands left l (Line r t) = (0 < left) × (12 ≤ length l) × (marked TB l ≡ true) × (r ≡ runAt l) × (t ≡ value 2 l 6)
-Stands left l Free = (0 < left) × (2 ≤ length l) × (marked TF l ≡ true)
-Stands left l (Last c n) = (6 ≤ length l) × (marked RQ l ≡ true) × (c ≡ value 2 l 2) × (n ≡ value 2 l 4)
+Stands left l (Slot r) =
+    (0 < left) × (recordLength (r .mark) ≤ length l) × (Bytes l → Fronts l r) × (recordFor (heldUnder (r .mark) r) (r .stretched) ≡ As r)
+Stands left l (Last c n) = (lastLength ≤ length l) × (marked RQ l ≡ true) × (c ≡ value 2 l needAt) × (n ≡ value 2 l periodAt)
 Stands left l (Refused n) = Unit {0}
 
 -- what stands at the front is what the definition says
 pub stands : (left : ℕ) (l : List ℕ) → Stands left l (recordOf left l)
 unfolding recordOf
 stands left l =
-    go (marked RQ l) refl (leb 6 (length l)) refl (ltb 0 left) refl (marked TB l) refl (leb 12 (length l)) refl (marked TF l) refl (marked TA l)
+    go (marked RQ l) refl (leb lastLength (length l)) refl (ltb 0 left) refl (marked TB l) refl (leb lineLength (length l)) refl (marked TF l) refl (marked TA l)
   where
-    go : (a : Bool) → marked RQ l ≡ a → (b : Bool) → leb 6 (length l) ≡ b → (c : Bool) → ltb 0 left ≡ c → (d : Bool) → marked TB l ≡ d
-        → (e : Bool) → leb 12 (length l) ≡ e → (f : Bool) → marked TF l ≡ f → (g : Bool)
-        → Stands left l (pick a (pick b (Last (value 2 l 2) (value 2 l 4)) (Refused 11))
-        (pick c (pick d (pick e (Line (runAt l) (value 2 l 6)) (Refused 11)) (pick f Free (pick g (Refused 12) (Refused 11)))) (Refused 11)))
-    go true p true q c r d s e t f u g = (leb-true 6 (length l) q, p, refl, refl)
+    go : (a : Bool) → marked RQ l ≡ a → (b : Bool) → leb lastLength (length l) ≡ b → (c : Bool) → ltb 0 left ≡ c → (d : Bool) → marked TB l ≡ d
+        → (e : Bool) → leb lineLength (length l) ≡ e → (f : Bool) → marked TF l ≡ f → (g : Bool)
+        → Stands left l (pick a (pick b (Last (value 2 l needAt) (value 2 l periodAt)) (Refused 11))
+        (pick c (pick d (pick e (Slot (recordAt Mark.TB l)) (Refused 11)) (pick f (Slot free) (pick g (Refused 12) (Refused 11)))) (Refused 11)))
+    go true p true q c r d s e t f u g = (leb-true lastLength (length l) q, p, refl, refl)
     go true p false q c r d s e t f u g = tt
     go false p b q false r d s e t f u g = tt
-    go false p b q true r true s true t f u g = (ltb-true 0 left r, leb-true 12 (length l) t, s, refl, refl)
+    go false p b q true r true s true t f u g =
+        (ltb-true 0 left r, leb-true lineLength (length l) t, line-fronts Mark.TB (getD TB 0 0) (getD TB 1 0) l s (leb-true lineLength (length l) t), refl)
     go false p b q true r true s false t f u g = tt
-    go false p b q true r false s e t true u g = (ltb-true 0 left r, marked-long TF l u, u)
+    go false p b q true r false s e t true u g = (ltb-true 0 left r, marked-long TF l u, (λ y. (marked-is TF l u, refl)), refl)
     go false p b q true r false s e t false u true = tt
     go false p b q true r false s e t false u false = tt
 
@@ -100,55 +120,62 @@ stands left l =
 pub seen-stands : (left : ℕ) (l : List ℕ) {r : Record} → recordOf left l ≡ r → Stands left l r
 seen-stands left l e = rw e at (stands left l)
 
--- the bytes of a record that was seen stand there
-pub line-is : (l : List ℕ) → Bytes l → marked TB l ≡ true → 12 ≤ length l → l ≡ lineRecord (runAt l) (value 2 l 6) ++ drop 12 l
-line-is l b m h =
-    marked-is TB l m
-    ∙ ap (λ (x : List ℕ). TB ++ x) (le-value 2 l 2 b (omega arith)
-    ∙ ap (λ (x : List ℕ). le 2 (value 2 l 2) ++ x) (le-value 2 l 4 b (omega arith)
-    ∙ ap (λ (x : List ℕ). le 2 (value 2 l 4) ++ x) (le-value 2 l 6 b (omega arith)
-    ∙ ap (λ (x : List ℕ). le 2 (value 2 l 6) ++ x) (le-value 2 l 8 b (omega arith)
-    ∙ ap (λ (x : List ℕ). le 2 (value 2 l 8) ++ x) (le-value 2 l 10 b (omega arith))))))
-
 -- R53: RQ and its six bytes, from the numbers that were got
-pub last-is : (l : List ℕ) → Bytes l → marked RQ l ≡ true → 6 ≤ length l → l ≡ requestRecord (value 2 l 2) (value 2 l 4) ++ drop 6 l
+pub last-is : (l : List ℕ) → Bytes l → marked RQ l ≡ true → lastLength ≤ length l
+    → l ≡ requestRecord (value 2 l needAt) (value 2 l periodAt) ++ drop lastLength l
 last-is l b m h =
     marked-is RQ l m
-    ∙ ap (λ (x : List ℕ). RQ ++ x) (le-value 2 l 2 b (omega arith)
-    ∙ ap (λ (x : List ℕ). le 2 (value 2 l 2) ++ x) (le-value 2 l 4 b (omega arith)))
+    ∙ ap (λ (x : List ℕ). RQ ++ x) (le-value 2 l needAt b (omega arith)
+    ∙ ap (λ (x : List ℕ). le 2 (value 2 l needAt) ++ x) (le-value 2 l periodAt b (omega arith)))
 
--- a record that stands in front is seen
-pub sees-line : (left : ℕ) (r : Run) (t : ℕ) (x : List ℕ) → 0 < left
-    → r .need < 65536 → r .period < 65536 → t < 65536 → r .age < 65536 → r .remaining < 65536
-    → recordOf left (lineRecord r t ++ x) ≡ Line r t
-unfolding marked
-sees-line left r t x p hn hp ht ha hr =
-    let l = lineRecord r t ++ x in
-    let en : value 2 l 2 ≡ r .need = value-le 2 (r .need) [] hn in
-    let ep : value 2 l 4 ≡ r .period = value-le 2 (r .period) [] hp in
-    let et : value 2 l 6 ≡ t = value-le 2 t [] ht in
-    let ea : value 2 l 8 ≡ r .age = value-le 2 (r .age) [] ha in
-    let er : value 2 l 10 ≡ r .remaining = value-le 2 (r .remaining) [] hr in
-    at-slot left l refl p ∙ slot-line l (marked-here TB (drop 2 l)) ∙ line-whole l (omega arith) ∙ simp (en, ep, et, ea, er)
+-- the numbers of a line's record are got, whatever its mark
+gets-numbers : (m : Mark) (a b C T t x y : ℕ) (r : List ℕ) → NumbersFit (recordWith m C T t x y)
+    → recordAt m (a ∷ b ∷ numbersOf (recordWith m C T t x y) ++ r) ≡ recordWith m C T t x y
+gets-numbers m a b C T t x y r f =
+    let l = a ∷ b ∷ numbersOf (recordWith m C T t x y) ++ r in
+    let eC : value 2 l needAt ≡ C = value-le 2 C [] (f .0) in
+    let eT : value 2 l periodAt ≡ T = value-le 2 T [] (f .1) in
+    let et : value 2 l stretchedAt ≡ t = value-le 2 t [] (f .2) in
+    let ex : value 2 l fourthAt ≡ x = value-le 2 x [] (f .3) in
+    let ey : value 2 l fifthAt ≡ y = value-le 2 y [] (f .4) in
+    simp (eC, eT, et, ex, ey)
 
--- R53: TF in front is seen
-pub sees-free : (left : ℕ) (x : List ℕ) → 0 < left → recordOf left (TF ++ x) ≡ Free
+sees : (left : ℕ) (x : List ℕ) → 0 < left → (m : Mark) (C T t a b : ℕ) → Fitting (recordWith m C T t a b)
+    → recordOf left (recordBytes (recordWith m C T t a b) ++ x) ≡ Slot (recordWith m C T t a b)
 unfolding marked
-sees-free left x p = at-slot left (TF ++ x) refl p ∙ slot-free (TF ++ x) refl (marked-here TF x)
+sees left x p Mark.TB C T t a b f =
+    let l = recordBytes (recordWith Mark.TB C T t a b) ++ x in
+    at-slot left l refl p ∙ slot-line l (marked-here TB (drop markLength l)) ∙ line-whole Mark.TB l (omega arith)
+    ∙ ap Slot (gets-numbers Mark.TB (getD TB 0 0) (getD TB 1 0) C T t a b x f)
+sees left x p Mark.TF C T t a b f = at-slot left (TF ++ x) refl p ∙ slot-free (TF ++ x) refl (marked-here TF x) ∙ ap Slot (sym f)
+
+-- R53: a slot's record in front is seen
+pub sees-record : (left : ℕ) (r : SlotRecord) (x : List ℕ) → 0 < left → Fitting r → recordOf left (recordBytes r ++ x) ≡ Slot r
+sees-record left r x p f = sees left x p (r .mark) (r .need) (r .period) (r .stretched) (r .fourth) (r .fifth) f
 
 -- R53: RQ in front is seen
 pub sees-last : (left c n : ℕ) (x : List ℕ) → c < 65536 → n < 65536 → recordOf left (requestRecord c n ++ x) ≡ Last c n
 sees-last left c n x hc hn =
     let l = requestRecord c n ++ x in
-    let ec : value 2 l 2 ≡ c = value-le 2 c [] hc in
-    let en : value 2 l 4 ≡ n = value-le 2 n [] hn in
-    at-last left l (marked-here RQ (drop 2 l)) ∙ last-whole l (omega arith) ∙ ap₂ Last ec en
+    let ec : value 2 l needAt ≡ c = value-le 2 c [] hc in
+    let en : value 2 l periodAt ≡ n = value-le 2 n [] hn in
+    at-last left l (marked-here RQ (drop markLength l)) ∙ last-whole l (omega arith) ∙ ap₂ Last ec en
 
 -- a record made of numbers that were got
-pub line-of : (l : List ℕ) → 12 ≤ length l → (n p a r t : ℕ) → n ≡ value 2 l 2 → p ≡ value 2 l 4 → a ≡ value 2 l 8 → r ≡ value 2 l 10 → t ≡ value 2 l 6
-    → Line (record { need = n; period = p; age = a; remaining = r }) t ≡ lineRecordOf l
-line-of l h n p a r t e1 e2 e3 e4 e5 = rw (e1, e2, e3, e4, e5) (sym (line-whole l h))
+pub line-of : (m : Mark) (l : List ℕ) → lineLength ≤ length l → (C T t x y : ℕ)
+    → C ≡ value 2 l needAt → T ≡ value 2 l periodAt → t ≡ value 2 l stretchedAt → x ≡ value 2 l fourthAt → y ≡ value 2 l fifthAt
+    → Slot (recordWith m C T t x y) ≡ lineRecordOf m l
+line-of m l h C T t x y e1 e2 e3 e4 e5 = rw (e1, e2, e3, e4, e5) (sym (line-whole m l h))
 
 -- the same of the new line
-pub last-of : (l : List ℕ) → 6 ≤ length l → (c n : ℕ) → c ≡ value 2 l 2 → n ≡ value 2 l 4 → Last c n ≡ lastOf l
+pub last-of : (l : List ℕ) → lastLength ≤ length l → (c n : ℕ) → c ≡ value 2 l needAt → n ≡ value 2 l periodAt → Last c n ≡ lastOf l
 last-of l h c n e1 e2 = rw (e1, e2) (sym (last-whole l h))
+
+-- R53: how long a slot's record is
+pub bytes-length : (r : SlotRecord) → length (recordBytes r) ≡ recordLength (r .mark)
+bytes-length r = go (r .mark) r
+  where
+    go : (m : Mark) (r : SlotRecord)
+        → length (recordBytes (recordWith m (r .need) (r .period) (r .stretched) (r .fourth) (r .fifth))) ≡ recordLength m
+    go Mark.TB r = refl
+    go Mark.TF r = refl

@@ -1,5 +1,5 @@
 -- What was read is written: what the writer says of it, and what the buffer then holds (R59, R72).
-use mathlib.Core.Path.{_≡_, refl, ap, _∙_}
+use mathlib.Core.Path.{_≡_, ap, _∙_}
 use mathlib.Core.List.{List, [], _∷_}
 use mathlib.Core.Option.{Option, none}
 use mathlib.Core.Bool.{Bool, false}
@@ -7,28 +7,22 @@ use Prim.Native.Nat.{ℕ, zero, suc, _<_}
 use native.Mathlib.Omega.{arith}
 use lib.ListN.{length}
 use lib.Dec.{leb}
-use Rattle.line.specs.declared.Held.{Held}
-use Rattle.line.specs.declared.Held.the-variants.{Nothing, Running, Waiting}
 use Rattle.line.specs.declared.Slot.{Slot}
 use Rattle.line.specs.Slots.{pick, at, isWaiting, lowestOf}
 use Rattle.table.specs.Words.{refusal, Said, gives, refuses}
 use Rattle.line.proofs.Search.{none-found}
 use Rattle.card.specs.Bytes.{Bytes}
-use Rattle.card.specs.Card.{Card, cardOf, Carried, AllCarried}
+use Rattle.card.specs.Card.{Card, cardOf, AllCarried}
 use Rattle.card.specs.Reading.{readWith}
 use Rattle.card.specs.Answers.{lengthOf, unlessWaiting, writeOf, filled, bufferOf}
+use Rattle.card.proofs.Slots.{carried}
 use Rattle.card.proofs.WritesBack.{writes-back}
 
 -- no card carries a waiting line
 none-waits : (ss : List Slot) (ts : List ℕ) → AllCarried ss ts → (i : ℕ) → i < length ss → isWaiting (at ss i) ≡ false
 none-waits [] ts f i h = absurd (omega arith)
 none-waits (s ∷ ss) [] f i h = absurd f
-none-waits (s ∷ ss) (t ∷ ts) f zero h = go (s .held) (f .0)
-  where
-    go : (x : Held) → Carried x t → isWaiting x ≡ false
-    go Nothing g = refl
-    go (Running r) g = refl
-    go (Waiting w) g = absurd g
+none-waits (s ∷ ss) (t ∷ ts) f zero h = carried (s .held) t (f .0) .1 .started
 none-waits (s ∷ ss) (t ∷ ts) f (suc i) h = none-waits ss ts (f .1) i (omega arith)
 
 -- the card's length if it fits, or 13

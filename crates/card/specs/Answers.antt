@@ -7,16 +7,16 @@ use lib.Dec.{leb}
 use Rattle.table.specs.declared.Table.{Table}
 use Rattle.table.specs.declared.Request.{Request}
 use Rattle.line.specs.Slots.{pick, isWaiting, lowestOf}
-use Rattle.table.specs.Words.{emptyTable, refusal, Said, gives, refuses}
+use Rattle.table.specs.Words.{requestWith, emptyTable, refusal, Said, gives, refuses}
 use Rattle.card.specs.declared.CardAnswer.{CardAnswer}
 use Rattle.card.specs.declared.CardAnswer.the-variants.{Read, Refused}
 use Rattle.card.specs.declared.ReadCard.{ReadCard}
 use Rattle.card.specs.declared.WriteAnswer.{WriteAnswer}
-use Rattle.card.specs.Card.{Card, cardOf}
+use Rattle.card.specs.Card.{Card, carrying, cardOf}
 
 -- R56: the request beside a refusal
 abbrev pub zeroRequest : Request
-zeroRequest = record { stretched = replicate 16 0; need = 0; period = 0 }
+zeroRequest = requestWith (replicate 16 0) 0 0
 
 -- R56: what is handed out; beside a refusal it is nothing of the card
 abbrev pub handed : Said Card → ReadCard
@@ -25,7 +25,7 @@ handed (refuses r) = record { table = emptyTable; request = zeroRequest; answer 
 
 -- what the reader's answer says: the table and the request beside it, or the refusal's number and place
 abbrev pub saidWith : Table → Request → CardAnswer → Said Card
-saidWith t q Read = gives (record { table = t; request = q })
+saidWith t q Read = gives (carrying t q)
 saidWith t q (Refused r) = refuses r
 
 -- the same of all that the reader hands out

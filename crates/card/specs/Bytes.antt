@@ -20,26 +20,6 @@ abbrev pub value : (width : ℕ) → List ℕ → (at : ℕ) → ℕ
 value zero l at = 0
 value (suc n) l at = getD l at 0 + 256 * value n l (suc at)
 
--- R53: the mark of the clock
-abbrev pub CK : List ℕ
-CK = 0x43 ∷ 0x4B ∷ []
-
--- R53: the mark of a slot that runs a line
-abbrev pub TB : List ℕ
-TB = 0x54 ∷ 0x42 ∷ []
-
--- R53: the mark of a slot that holds nothing
-abbrev pub TF : List ℕ
-TF = 0x54 ∷ 0x46 ∷ []
-
--- R53: the old mark, of the third generation
-abbrev pub TA : List ℕ
-TA = 0x54 ∷ 0x41 ∷ []
-
--- R53: the mark of the new line
-abbrev pub RQ : List ℕ
-RQ = 0x52 ∷ 0x51 ∷ []
-
 -- the two bytes of a mark
 abbrev pub markOf : List ℕ → List ℕ
 markOf m = getD m 0 0 ∷ getD m 1 0 ∷ []

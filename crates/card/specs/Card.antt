@@ -1,29 +1,25 @@
--- The bytes of the card, record by record. Lists of any length: sixteen is the code's number.
+-- The card of a table and a request: its bytes, record by record. Lists of any length: sixteen is the code's number.
 use Prim.Native.Nat.{ℕ, zero, suc, _<_}
 use mathlib.Core.Path.{_≡_}
 use mathlib.Core.List.{List, [], _∷_, _++_}
 use lib.ListN.{length}
-use Rattle.line.specs.declared.Run.{Run}
 use Rattle.line.specs.declared.Held.{Held}
-use Rattle.line.specs.declared.Held.the-variants.{Nothing, Running, Waiting}
 use Rattle.line.specs.declared.Slot.{Slot}
+use Rattle.line.specs.Slots.{pick, isNothing}
 use Rattle.table.specs.declared.Table.{Table}
 use Rattle.table.specs.declared.Request.{Request}
-use Rattle.card.specs.Bytes.{le, CK, TB, TF, RQ}
+use Rattle.table.specs.Words.{requestWith}
+use Rattle.card.specs.Bytes.{le}
+use Rattle.card.specs.Layout.{CK, RQ}
+use Rattle.card.specs.Marked.{recordFor, recordedBytes, CarriedAs}
 
 -- R53: CK and the clock
 abbrev pub clockRecord : (clock : ℕ) → List ℕ
 clockRecord k = CK ++ le 8 k
 
--- R53: TB and the line's five numbers, T' the third
-abbrev pub lineRecord : Run → (T' : ℕ) → List ℕ
-lineRecord r t = TB ++ (le 2 (r .need) ++ (le 2 (r .period) ++ (le 2 t ++ (le 2 (r .age) ++ le 2 (r .remaining)))))
-
--- R53: TB or TF. A waiting line has no record: no card carries one.
+-- R53: a slot's record
 abbrev pub slotRecord : Held → (T' : ℕ) → List ℕ
-slotRecord Nothing t = TF
-slotRecord (Running r) t = lineRecord r t
-slotRecord (Waiting w) t = []
+slotRecord h t = recordedBytes (recordFor h t)
 
 -- R53: RQ and the new line's two numbers
 abbrev pub requestRecord : (Cn Tn : ℕ) → List ℕ
@@ -43,9 +39,7 @@ oneMore (suc n) = suc (suc n)
 
 -- a slot in front of others of which n are used
 abbrev pub usedFrom : Held → ℕ → ℕ
-usedFrom Nothing n = oneMore n
-usedFrom (Running r) n = suc n
-usedFrom (Waiting w) n = suc n
+usedFrom h n = pick (isNothing h) (oneMore n) (suc n)
 
 -- R55: how many slots there are up to the last that holds something
 abbrev pub used : List Slot → ℕ
@@ -70,9 +64,7 @@ carrying t q = record { table = t; request = q }
 
 -- R72: what a card carries of a slot's entry, none where the slot holds nothing
 abbrev pub entryOf : Held → ℕ → ℕ
-entryOf Nothing t = 0
-entryOf (Running r) t = t
-entryOf (Waiting w) t = t
+entryOf h t = pick (isNothing h) 0 t
 
 -- R72: the entries, one for each slot, that a card carries
 abbrev pub entries : List Slot → List ℕ → List ℕ
@@ -82,14 +74,11 @@ entries (s ∷ ss) (t ∷ ts) = entryOf (s .held) t ∷ entries ss ts
 
 -- R72: the request that a card carries
 abbrev pub cleared : Table → Request → Request
-cleared t q = record { stretched = entries (t .slots) (q .stretched); need = q .need; period = q .period }
+cleared t q = requestWith (entries (t .slots) (q .stretched)) (q .need) (q .period)
 
--- R53: the numbers of a slot fit two bytes each, and no line waits
+-- R53: a slot has a record whose numbers fit: no line waits
 abbrev pub Carried : Held → (T' : ℕ) → Type 0
-Carried Nothing t = Unit {0}
-Carried (Running r) t =
-    (r .need < 65536) × (r .period < 65536) × (t < 65536) × (r .age < 65536) × (r .remaining < 65536)
-Carried (Waiting w) t = ⊥
+Carried h t = CarriedAs (recordFor h t)
 
 -- there is an entry for each slot
 abbrev pub AllCarried : List Slot → List ℕ → Type 0

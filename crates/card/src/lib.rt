@@ -1,15 +1,44 @@
-// The words of the card: what stands in it, and what its reader and its writer answer.
+// The words of the card: its layout, what stands in it, what a slot's record means, and what its reader and its writer answer.
+ghost use mathlib.Core.Path.{_≡_};
+ghost use Prim.Native.Nat.{_≤_};
+ghost use Rattle.card.specs.Layout.{isFree, lineLength, recordLength};
+ghost use Rattle.card.specs.Marked.{recordWith, free, slotFor, recordFor};
+use line::Held;
 use line::Run;
+use line::Slot;
 use table::Refusal;
 use table::Request;
 use table::Table;
 
-// R53, R57: what stands where a slot's record or RQ may stand: a line with its T', a slot that holds nothing, the new line, or a refusal's number.
+pub mod layout;
+
+// R53: the marks of a slot's record.
+pub enum Mark {
+    TB,
+    TF,
+}
+
+// R53: a slot's record: its mark and its five numbers as they stand. The mark says what the two last of them are; under TF all are 0.
+pub struct SlotRecord {
+    pub mark: Mark,
+    pub need: u16,
+    pub period: u16,
+    pub stretched: u16,
+    pub fourth: u16,
+    pub fifth: u16,
+}
+
+// R53, R57: what stands where a slot's record or RQ may stand: one of them, or a refusal's number.
 pub enum Record {
-    Line(Run, u16),
-    Free,
+    Slot(SlotRecord),
     Last(u16, u16),
     Refused(u16),
+}
+
+// R23, R53: the record of what a slot holds. A waiting line has none.
+pub enum Recorded {
+    As(SlotRecord),
+    No,
 }
 
 // R56: the card was read, or refused.
@@ -29,4 +58,88 @@ pub struct ReadCard {
 pub enum WriteAnswer {
     Length(usize),
     Refused(Refusal),
+}
+
+impl SlotRecord {
+    // R53: a record of this mark and these numbers.
+    pub fn new(
+        mark: Mark,
+        need: u16,
+        period: u16,
+        stretched: u16,
+        fourth: u16,
+        fifth: u16,
+    ) -> SlotRecord
+        ensures { λ r. ⌜ r ≡ recordWith mark need period stretched fourth fifth ⌝ }
+    {
+        SlotRecord {
+            mark: mark,
+            need: need,
+            period: period,
+            stretched: stretched,
+            fourth: fourth,
+            fifth: fifth,
+        }
+    }
+
+    // R53, R55: TF, and the record of a slot that has none on the card.
+    pub fn free() -> SlotRecord
+        ensures { λ r. ⌜ r ≡ free ⌝ }
+    {
+        SlotRecord::new(Mark::TF, 0, 0, 0, 0, 0)
+    }
+
+    // R53: its mark stands alone.
+    pub fn is_free(self) -> bool
+        ensures { λ r. ⌜ r ≡ isFree (self .mark) ⌝ }
+    {
+        let m = self.mark;
+        match m {
+            Mark::TB => false,
+            Mark::TF => true,
+        }
+    }
+
+    // R53: how many bytes it has.
+    pub fn length(self) -> usize
+        ensures { λ r. ⌜ (r ≡ recordLength (self .mark)) × (r ≤ lineLength) ⌝ }
+    {
+        if self.is_free() {
+            return layout::MARK_LENGTH;
+        }
+        layout::LINE_LENGTH
+    }
+
+    // R53: the slot that it stands for.
+    pub fn slot(self) -> Slot
+        ensures { λ r. ⌜ r ≡ slotFor self ⌝ }
+    {
+        let m = self.mark;
+        match m {
+            Mark::TB => {
+                let run = Held::running(self.need, self.period, self.fourth, self.fifth);
+                Slot::holding(run)
+            }
+            Mark::TF => Slot::empty(),
+        }
+    }
+
+    // R53: the record of a running line and its T'.
+    fn line(x: Run, stretched: u16) -> SlotRecord
+        ensures { λ r. ⌜ r ≡ recordWith Mark.TB (x .need) (x .period) stretched (x .age) (x .remaining) ⌝ }
+    {
+        SlotRecord::new(Mark::TB, x.need, x.period, stretched, x.age, x.remaining)
+    }
+
+    // R53: the record of a slot and its entry of the request.
+    pub fn of(slot: Slot, stretched: u16) -> Recorded
+        ensures { λ r. ⌜ r ≡ recordFor (slot .held) stretched ⌝ }
+    {
+        let h = slot.held;
+        match h {
+            Held::Nothing => Recorded::As(SlotRecord::free()),
+            Held::Running(x) => Recorded::As(SlotRecord::line(x, stretched)),
+            Held::Waiting(_) => Recorded::No,
+        }
+    }
 }

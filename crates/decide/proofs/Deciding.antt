@@ -1,120 +1,106 @@
--- Which case of `askOf` holds, by the tests 1 to 6 that the code makes, and what they leave of the table and the request.
+-- Which case of `decidedIn` holds, by the tests that the code makes.
 use Prim.Native.Nat.{ℕ, _+_, _-_, _^_, _≤_, _<_}
-use mathlib.Core.Path.{_≡_, ap, sym, _∙_}
-use mathlib.Core.Bool.{Bool, true, false, not}
-use mathlib.Core.Option.{Option}
+use mathlib.Core.Path.{_≡_, refl, ap, sym, _∙_}
+use mathlib.Core.Bool.{Bool, true, false}
+use mathlib.Core.List.{List, map}
 use native.Mathlib.Omega.{arith}
-use lib.Dec.{leb}
-use lib.ListN.{length, getD}
-use borrow.Author.Tests.{lt-ltb, le-ltb, ltb-false, not-true, not-false}
-use Rattle.line.specs.declared.Held.{Held}
-use Rattle.line.specs.declared.Held.the-variants.{Nothing, Running, Waiting}
-use Rattle.line.specs.declared.Slot.{Slot}
-use Rattle.table.specs.declared.Table.{Table}
-use Rattle.table.specs.declared.Request.{Request}
-use Rattle.table.specs.declared.Answer.{Answer}
-use Rattle.table.specs.declared.Answer.the-variants.{Refused}
-use Rattle.table.specs.declared.Which.{Which}
-use Rattle.table.specs.declared.Which.the-variants.{None, At}
-use Rattle.line.specs.Slots.{at, both, lowest, lowestOf, isNothing, isWaiting}
-use Rattle.table.specs.Words.{slotOf, refusal}
-use Rattle.line.specs.Sound.{sound}
-use Rattle.table.specs.Grounds.{entry}
-use Rattle.line.specs.Stretch.{shrunk}
-use Rattle.table.specs.Ask.{askOf}
-use Rattle.line.proofs.Read.{seen}
-use Rattle.line.proofs.Search.{lowest-none, Looking, look-start, look-on, look-stop, look-end}
-use Rattle.line.proofs.Sound.{sound-says}
-use Rattle.decide.specs.Lines.{Allowed, AllAllowed}
-use Rattle.decide.specs.Parts.{fromSix}
+use lib.Dec.{ltb, eqb}
+use lib.ListN.{length}
+use borrow.Author.Tests.{lt-ltb, le-ltb, eq-eqb, ne-eqb}
+use Rattle.line.specs.declared.Stream.{Stream}
+use Rattle.line.specs.Slots.{pick, both}
+use Rattle.sums.specs.Lines.{linesOf, alike}
+use Rattle.sums.specs.Weighed.{weighed, weighedIn}
+use Rattle.sums.proofs.Along.{along-map}
+use Rattle.sums.proofs.Weighing.{none-weighs}
+use Rattle.pass.specs.declared.Pass.{Pass}
+use Rattle.pass.specs.Pass.{notPassed, passOf, passedIn}
+use Rattle.pass.proofs.Passing.{start-near}
+use Rattle.decide.specs.declared.Decision.{Decision}
+use Rattle.decide.specs.declared.Decision.the-variants.{Start, Refused}
+use Rattle.decide.specs.Lines.{byPeriod, byGap, gatheredAt, gathered, allAlike}
+use Rattle.decide.specs.Decided.{refusedBy, decided, decidedIn}
 
-allowed-held : (p : ℕ) (h : Held) → sound h ≡ true → shrunk p h ≡ false → Allowed p h
-allowed-held p Nothing s e = tt
-allowed-held p (Running r) s e = let w = sound-says (Running r) s in (w .1, w .2, w .3, ltb-false p (r .period) e)
-allowed-held p (Waiting w) s e = tt
+both-not : (a : Bool) → both a false ≡ false
+both-not true = refl
+both-not false = refl
 
-abbrev shrinks : Table → Request → ℕ → Bool
-shrinks t q i = shrunk (entry q i) (at (t .slots) i)
+both-true : {a b : Bool} → a ≡ true → b ≡ true → both a b ≡ true
+both-true e f = rw (e, f)
 
--- ---- the search for a line that is to shrink
+last-other : (a b c d : Bool) → both a (both b c) ≡ true → d ≡ true → both a (both b d) ≡ true
+last-other true true c d e f = f
+last-other true false c d e f = e
+last-other false b c d e f = e
 
--- a search that has passed the slots below i
-pub record Shrinking (t : Table) (q : Request) (i : ℕ) : Type 0 where
-  pub long : length (t .slots) ≡ 16
-  pub looking : Looking (shrinks t q) (length (t .slots)) i
+some-number : (a : Bool) (s n : ℕ) (x : Decision) → n ≡ pick a s 4 → 0 < n → Refused n ≡ pick (both a true) (refusedBy (ltb 0 s) s x) (Refused 4)
+some-number true s n x e h = rw (sym e, lt-ltb 0 n h)
+some-number false s n x e h = ap Refused e
 
--- no slot is passed
-pub shrink-start : (t : Table) (q : Request) → length (t .slots) ≡ 16 → Shrinking t q 0
-shrink-start t q e = record { long = e; looking = look-start _ _ }
+no-number : (a : Bool) (s n : ℕ) → n ≡ pick a s 4 → n ≤ 0 → (a ≡ true) × (s ≡ 0)
+no-number true s n e h = (refl, omega arith)
+no-number false s n e h = absurd (omega arith)
 
-module _ {t : Table} {q : Request} {i : ℕ} (v : Shrinking t q i) where
-  module _ (d : Slot) {b : Bool} (h : i < 16) (e : b ≡ shrunk (entry q i) (getD (t .slots) i d .held)) where
-    shrinks-read : {a : Bool} → b ≡ a → shrinks t q i ≡ a
-    shrinks-read g = seen (shrunk (entry q i)) (t .slots) i d e g (omega (arith, v .long))
-
-    -- R25: slot i is passed
-    pub shrink-on : b ≡ false → Shrinking t q (i + 1)
-    shrink-on g = record { long = v .long; looking = look-on (v .looking) (omega (arith, v .long)) (shrinks-read g) }
-
-    -- R25, R19: slot i is the one
-    pub shrink-stop : b ≡ true → slotOf (At i) ≡ lowest (shrinks t q) (length (t .slots))
-    shrink-stop g = sym (look-stop (v .looking) (omega (arith, v .long)) (shrinks-read g))
-
-  -- R25: there is none
-  pub shrink-end : 16 ≤ i → slotOf None ≡ lowest (shrinks t q) (length (t .slots))
-  shrink-end h = sym (look-end (v .looking) (omega (arith, v .long)))
-
--- ---- each way out
-
--- what a search says that gave `w`
-which-says : {w v : Which} {o : Option ℕ} → slotOf w ≡ o → w ≡ v → o ≡ slotOf v
-which-says e g = sym e ∙ ap slotOf g
-
-module _ (t : Table) (q : Request) {r : Answer} where
+module _ (clock : ℕ) (e c n p g : List ℕ) (Cn Tn : ℕ) where
   -- R21: the clock is too late
-  pub decide-late : 2 ^ 48 - 65536 < t .clock → r ≡ Refused (refusal 1 0) → r ≡ askOf t q
-  unfolding askOf
-  decide-late h e = rw (lt-ltb (2 ^ 48 - 65536) (t .clock) h) e
+  pub decide-late : 2 ^ 48 - 65536 < clock → Refused 1 ≡ decidedIn clock e c n p g Cn Tn
+  unfolding decidedIn
+  decide-late h = rw (lt-ltb (2 ^ 48 - 65536) clock h)
 
-  module _ {w : Which} (h : t .clock ≤ 2 ^ 48 - 65536) (e2 : slotOf w ≡ lowestOf isNothing (t .slots)) where
-    -- R22: no slot is free
-    pub decide-full : w ≡ None → r ≡ Refused (refusal 2 0) → r ≡ askOf t q
-    unfolding askOf
-    decide-full g e = rw (le-ltb (2 ^ 48 - 65536) (t .clock) h, which-says e2 g) e
+  module _ (h : clock ≤ 2 ^ 48 - 65536) where
+    -- there are more gaps than lines, or fewer
+    pub decide-apart : (length g ≡ length e → ⊥) → Refused 4 ≡ decidedIn clock e c n p g Cn Tn
+    unfolding decidedIn
+    decide-apart m = rw (le-ltb (2 ^ 48 - 65536) clock h, ne-eqb (length g) (length e) m, both-not (alike e c n p))
 
-    module _ {j : ℕ} {v : Which} (g2 : w ≡ At j) (e3 : slotOf v ≡ lowestOf isWaiting (t .slots)) where
-      -- R23: a line waits
-      pub decide-waits : {k : ℕ} → v ≡ At k → r ≡ Refused (refusal 3 k) → r ≡ askOf t q
-      unfolding askOf
-      decide-waits g e = rw (le-ltb (2 ^ 48 - 65536) (t .clock) h, which-says e2 g2, which-says e3 g) e
+    module _ (same : length g ≡ length e) {s : ℕ} (es : s ≡ weighedIn e c n p Cn Tn) where
+      abbrev sums : ℕ
+      sums = weighed (map byPeriod (gathered e c n p g)) Cn Tn
 
-      module _ {u : Which} (g3 : v ≡ None) (e4 : slotOf u ≡ lowestOf (λ h. not (sound h)) (t .slots)) where
-        -- R24: a line is unsound
-        pub decide-unsound : {k : ℕ} → u ≡ At k → r ≡ Refused (refusal 4 k) → r ≡ askOf t q
-        unfolding askOf
-        decide-unsound g e = rw (le-ltb (2 ^ 48 - 65536) (t .clock) h, which-says e2 g2, which-says e3 g3, which-says e4 g) e
+      weighed-is : s ≡ pick (alike e c n p) sums 4
+      weighed-is =
+          es ∙ ap (λ (l : List Stream). pick (alike e c n p) (weighed l Cn Tn) 4) (sym (along-map (gatheredAt e c n p g) byPeriod 0 (length e)))
 
-        module _ {s : Which} (g4 : u ≡ None) (e5 : slotOf s ≡ lowest (shrinks t q) (length (t .slots))) where
-          -- R25: a line is to shrink
-          pub decide-shrunk : {k : ℕ} → s ≡ At k → r ≡ Refused (refusal 5 k) → r ≡ askOf t q
-          unfolding askOf
-          decide-shrunk g e = rw (le-ltb (2 ^ 48 - 65536) (t .clock) h, which-says e2 g2, which-says e3 g3, which-says e4 g4, which-says e5 g) e
+      -- R24, R26 to R29: the sums refuse
+      pub decide-weighed : 0 < s → Refused s ≡ decidedIn clock e c n p g Cn Tn
+      unfolding decidedIn decided
+      decide-weighed k =
+          rw (le-ltb (2 ^ 48 - 65536) clock h, eq-eqb (length g) (length e) same) (some-number (alike e c n p) sums s _ weighed-is k)
 
-          -- R26: the new line does not fit its period
-          pub decide-misfit : {b : Bool} → s ≡ None → b ≡ both (leb 1 (q .need)) (leb (q .need) (q .period)) → not b ≡ true → r ≡ Refused (refusal 6 0) → r ≡ askOf t q
-          unfolding askOf
-          decide-misfit {b} g f m e =
-              rw (le-ltb (2 ^ 48 - 65536) (t .clock) h, which-says e2 g2, which-says e3 g3, which-says e4 g4, which-says e5 g, sym f ∙ not-true b m) e
+      module _ (k : s ≤ 0) where
+        alike-all : allAlike e c n p g ≡ true
+        alike-all = both-true (no-number (alike e c n p) sums s weighed-is k .0) (eq-eqb (length g) (length e) same)
 
-          -- R18: past the first five grounds
-          pub decide-six : s ≡ None → r ≡ fromSix t q → r ≡ askOf t q
-          unfolding askOf fromSix
-          decide-six g a = rw (le-ltb (2 ^ 48 - 65536) (t .clock) h, which-says e2 g2, which-says e3 g3, which-says e4 g4, which-says e5 g) a
+        sums-none : sums ≡ 0
+        sums-none = no-number (alike e c n p) sums s weighed-is k .1
 
--- R24, R25: what is known past the first five grounds
-pub allowed-all : (t : Table) (q : Request) {w v : Which} → slotOf w ≡ lowestOf (λ h. not (sound h)) (t .slots) → w ≡ None
-    → slotOf v ≡ lowest (shrinks t q) (length (t .slots)) → v ≡ None → AllAllowed t q
-allowed-all t q e4 g4 e5 g5 i h =
-    allowed-held (entry q i) (at (t .slots) i)
-    (not-false _ (lowest-none (λ k. not (sound (at (t .slots) k))) (length (t .slots)) (which-says e4 g4) i h))
-    (lowest-none (shrinks t q) (length (t .slots)) (which-says e5 g5) i h)
+        alike-gaps : alike e c n g ≡ true
+        alike-gaps =
+            last-other (eqb (length c) (length e)) (eqb (length n) (length e)) (eqb (length p) (length e)) (eqb (length g) (length e))
+            (no-number (alike e c n p) sums s weighed-is k .0) (eq-eqb (length g) (length e) same)
+
+        module _ {x : Pass} (ex : x ≡ passedIn e c n g Cn Tn) where
+          passed-is : x ≡ passOf (map byGap (gathered e c n p g)) Cn Tn
+          passed-is =
+              ex
+              ∙ ap (λ (b : Bool). pick b (passOf (linesOf e c n g) Cn Tn) notPassed) alike-gaps
+              ∙ ap (λ (l : List Stream). passOf l Cn Tn) (sym (along-map (gatheredAt e c n p g) byGap 0 (length e)))
+
+          past-sums : refusedBy (x .short) 10 (Start (clock + x .start)) ≡ decidedIn clock e c n p g Cn Tn
+          unfolding decidedIn decided
+          past-sums = rw (le-ltb (2 ^ 48 - 65536) clock h, alike-all, sums-none, ← passed-is)
+
+          -- R30: an end is short without the new line
+          pub decide-short : x .short ≡ true → Refused 10 ≡ decidedIn clock e c n p g Cn Tn
+          decide-short b = rw b at past-sums
+
+          -- R14, R18: no ground holds, and the start is given
+          pub decide-starts : x .short ≡ false → Start (clock + x .start) ≡ decidedIn clock e c n p g Cn Tn
+          decide-starts b = rw b at past-sums
+
+          -- R14, R3: and it is not farther than 65,535 ticks
+          pub start-within : clock + x .start ≤ clock + 65535
+          start-within =
+              let f = none-weighs (map byPeriod (gathered e c n p g)) Cn Tn sums-none in
+              let l : x .start ≤ 65535 = rw passed-is (start-near (map byGap (gathered e c n p g)) Cn Tn (omega arith)) in
+              omega arith

@@ -1,7 +1,5 @@
--- The laws of the decision: from the slots to the arrays, from the clock to absolute ticks, and which ground holds first.
-pub mod Packing
-pub mod Arrays
+-- The laws of the decision: which case of it holds, and what it says of a list of slots.
+pub mod Deciding
 pub mod Ticks
 pub mod Matching
-pub mod LastGrounds
-pub mod Deciding
+pub mod Edges

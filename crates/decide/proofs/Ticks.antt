@@ -1,80 +1,43 @@
--- From the slots to the list of the running lines, and from absolute ticks to ticks counted from the clock.
-use Prim.Native.Nat.{ℕ, zero, suc, _+_, _-_, _*_, _/_, _%_, _≤_, _<_, max, min}
+-- From a list of slots to its lines as they are gathered, and from absolute ticks to ticks counted from the clock.
+use Prim.Native.Nat.{ℕ, zero, suc, _+_, _-_, _*_, _/_, _%_, _≤_, max, min}
 use mathlib.Core.Path.{_≡_, refl, ap, sym, _∙_}
 use mathlib.Core.Bool.{Bool}
-use mathlib.Core.List.{List, [], _∷_, _++_}
+use mathlib.Core.List.{List, [], _∷_, _++_, map}
+use mathlib.Core.Option.{Option, none, some}
 use native.Mathlib.Nat.{mod-lt}
 use native.Mathlib.Decide.{decLt}
 use native.Mathlib.Omega.{arith}
 use lib.Dec.{ltb}
-use lib.ListN.{length}
 use borrow.Author.Tests.{lt-ltb, le-ltb}
-use Rattle.line.specs.declared.Held.{Held}
-use Rattle.line.specs.declared.Held.the-variants.{Nothing, Running, Waiting}
 use Rattle.line.specs.declared.Slot.{Slot}
-use Rattle.line.specs.Slots.{at, total}
-use Rattle.line.specs.Demand.{due, demand, endOf, lastEnd}
-use Rattle.line.specs.Stretch.{stretch, stretched}
-use Rattle.line.specs.Shares.{periodIn, periodsIn, share, claim, full}
-use Rattle.line.specs.Ends.{countBefore, every, endsBefore, endsIn, endsOf, bound, greatest, anyOf}
-use Rattle.sums.specs.Lines.{Line, sumOf, shareOf, claimOf, fullOf}
-use Rattle.pass.specs.Pass.{dueBy}
-use Rattle.decide.specs.Lines.{lineIn, linesIn, Allowed}
-use Rattle.decide.specs.Ticks.{periodsBy, lastOf, endsBy, absolute, Young, AllYoung}
-use Rattle.decide.proofs.Arrays.{sum-append, periods-append}
+use Rattle.line.specs.declared.Stream.{Stream}
+use Rattle.line.specs.Slots.{total}
+use Rattle.line.specs.Streams.{asks, ofStream, byStream, due, endAt, flow, countBefore, every, endsBefore, endsAt}
+use Rattle.line.specs.Demand.{lastEnd}
+use Rattle.line.specs.Shares.{periodsIn}
+use Rattle.line.specs.Ends.{endsOf, bound, greatest, anyOf}
+use Rattle.sums.specs.Lines.{sumOf}
+use Rattle.sums.specs.Weighed.{periodsOf}
+use Rattle.pass.specs.Pass.{dueBy, lastOf, endsBy}
+use Rattle.decide.specs.Lines.{Line, byPeriod, byGap, lineFor, linesIn, absolute}
 
-allowed-young : (p : ℕ) (h : Held) → Allowed p h → Young (stretch p h)
-allowed-young p Nothing f = tt
-allowed-young p (Running r) f = omega (arith, f .2, f .3)
-allowed-young p (Waiting w) f = tt
+-- the lines of a slot that asks for o, and those behind it
+abbrev with : Option Stream → List Line → List Line
+with o rest = ofStream [] (λ x. lineFor x ∷ []) o ++ rest
 
--- R9: after the tests 4 and 5 no first end is before the clock
-pub asked-young : (l : List Slot) (p : ℕ → ℕ) → ((i : ℕ) → i < length l → Allowed (p i) (at l i)) → AllYoung (stretched l p)
-unfolding stretched
-asked-young [] p f = tt
-asked-young (s ∷ l) p f = (allowed-young (p 0) (s .held) (f 0 (omega arith)), asked-young l (λ k. p (suc k)) (λ i h. f (suc i) (omega arith)))
+-- ---- sums over the slots are sums over the lines
 
--- ---- sums over the slots are sums over the running lines
+module _ (F f : Stream → ℕ) (by : Line → Stream) (e : (s : Stream) → F s ≡ f (by (lineFor s))) where
+  total-one : (o : Option Stream) (rest : List Line) → ofStream 0 F o + sumOf f (map by rest) ≡ sumOf f (map by (with o rest))
+  unfolding sumOf
+  total-one none rest = omega arith
+  total-one (some s) rest = omega (arith, e s)
 
-total-lines : (F : Held → ℕ) (f : Line → ℕ) → ((h : Held) → Young h → F h ≡ sumOf f (lineIn h)) → (l : List Slot) → AllYoung l → total F l ≡ sumOf f (linesIn l)
-unfolding total linesIn sumOf
-total-lines F f e [] y = refl
-total-lines F f e (s ∷ l) y =
-    omega (arith, e (s .held) (y .0), total-lines F f e l (y .1), sum-append f (lineIn (s .held)) (linesIn l))
-
-share-line : (F : ℕ) (h : Held) → share F h ≡ sumOf (shareOf F) (lineIn h)
-unfolding sumOf
-share-line F Nothing = refl
-share-line F (Running r) = omega arith
-share-line F (Waiting w) = refl
-
--- R28: the shares added up over the running lines
-pub share-total : (F : ℕ) (l : List Slot) → AllYoung l → total (share F) l ≡ sumOf (shareOf F) (linesIn l)
-share-total F l y = total-lines (share F) (shareOf F) (λ h _. share-line F h) l y
-
-full-line : (F : ℕ) (h : Held) → full F h ≡ sumOf (fullOf F) (lineIn h)
-unfolding sumOf
-full-line F Nothing = refl
-full-line F (Running r) = omega arith
-full-line F (Waiting w) = refl
-
--- R29: the needs added up over the running lines
-pub full-total : (F : ℕ) (l : List Slot) → AllYoung l → total (full F) l ≡ sumOf (fullOf F) (linesIn l)
-full-total F l y = total-lines (full F) (fullOf F) (λ h _. full-line F h) l y
-
--- the age is what the first end leaves of the period
-claim-line : (F : ℕ) (h : Held) → Young h → claim F h ≡ sumOf (claimOf F) (lineIn h)
-unfolding sumOf
-claim-line F Nothing y = refl
-claim-line F (Running r) y =
-    let a : r .age ≡ r .period - (r .period - r .age) = omega arith in
-    let b = ap (λ (x : ℕ). F * r .remaining + r .need * (F / r .period) * x) a in
-    omega arith
-claim-line F (Waiting w) y = refl
-
--- R29: the claims added up over the running lines
-pub claim-total : (F : ℕ) (l : List Slot) → AllYoung l → total (claim F) l ≡ sumOf (claimOf F) (linesIn l)
-claim-total F l y = total-lines (claim F) (claimOf F) (claim-line F) l y
+  -- what is added up over the slots by their streams is added up over the lines
+  pub total-lines : (l : List Slot) → total (byStream 0 F) l ≡ sumOf f (map by (linesIn l))
+  unfolding total linesIn sumOf
+  total-lines [] = refl
+  total-lines (s ∷ l) = ap (λ (x : ℕ). byStream 0 F (s .held) + x) (total-lines l) ∙ total-one (asks (s .held)) (linesIn l)
 
 ltb-shift : (t0 d e : ℕ) → ltb (t0 + d) (t0 + e) ≡ ltb d e
 ltb-shift t0 d e =
@@ -89,45 +52,33 @@ due-shift t0 e c C P d =
     let z : t0 + d - (t0 + e) ≡ d - e = omega arith in
     rw (ltb-shift t0 d e, z)
 
-demand-line : (t0 d : ℕ) (h : Held) → Young h → demand t0 h (t0 + d) ≡ sumOf (dueBy d) (lineIn h)
-unfolding sumOf
-demand-line t0 d Nothing y = refl
-demand-line t0 d (Running r) y =
-    let z : t0 + r .period - r .age ≡ t0 + (r .period - r .age) = omega arith in
-    let a = ap (λ (e : ℕ). due e (r .remaining) (r .need) (r .period) (t0 + d)) z in
-    let b = due-shift t0 (r .period - r .age) (r .remaining) (r .need) (r .period) d in
-    omega arith
-demand-line t0 d (Waiting w) y = refl
-
--- R12: the demands added up, counted from the clock
-pub demand-total : (t0 d : ℕ) (l : List Slot) → AllYoung l → total (λ h. demand t0 h (t0 + d)) l ≡ sumOf (dueBy d) (linesIn l)
-demand-total t0 d l y = total-lines (λ h. demand t0 h (t0 + d)) (dueBy d) (demand-line t0 d) l y
+-- R10: a stream's demand, counted from the clock
+pub flow-shift : (t0 d : ℕ) (s : Stream) → flow t0 s (t0 + d) ≡ dueBy d (byGap (lineFor s))
+flow-shift t0 d s = due-shift t0 (s .end) (s .remaining) (s .need) (s .period) d
 
 -- ---- periods, the last end, the ends
 
-period-line : (h : Held) → periodIn h ≡ periodsBy (lineIn h)
-unfolding periodsBy
-period-line Nothing = refl
-period-line (Running r) = refl
-period-line (Waiting w) = refl
+period-one : (o : Option Stream) (rest : List Line) → ofStream [] (λ (x : Stream). x .period ∷ []) o ++ periodsOf (map byPeriod rest) ≡ periodsOf (map byPeriod (with o rest))
+period-one none rest = refl
+period-one (some s) rest = refl
 
--- R8: the slots' periods are the running lines'
-pub periods-total : (l : List Slot) → periodsIn l ≡ periodsBy (linesIn l)
-unfolding periodsIn linesIn periodsBy
-periods-total [] = refl
-periods-total (s ∷ l) = rw (period-line (s .held), periods-total l) (sym (periods-append (lineIn (s .held)) (linesIn l)))
+-- R8: the slots' periods are the lines'
+pub periods-lines : (l : List Slot) → periodsIn l ≡ periodsOf (map byPeriod (linesIn l))
+unfolding periodsIn linesIn
+periods-lines [] = refl
+periods-lines (s ∷ l) =
+    ap (λ (x : List ℕ). byStream [] (λ y. y .period ∷ []) (s .held) ++ x) (periods-lines l) ∙ period-one (asks (s .held)) (linesIn l)
 
-last-line : (t0 : ℕ) (h : Held) (rest : List Line) → Young h → max (endOf t0 h) (t0 + lastOf rest) ≡ t0 + lastOf (lineIn h ++ rest)
+last-one : (t0 : ℕ) (o : Option Stream) (rest : List Line) → max (ofStream t0 (endAt t0) o) (t0 + lastOf (map byGap rest)) ≡ t0 + lastOf (map byGap (with o rest))
 unfolding lastOf
-last-line t0 Nothing rest y = omega arith
-last-line t0 (Running r) rest y = omega arith
-last-line t0 (Waiting w) rest y = omega arith
+last-one t0 none rest = omega arith
+last-one t0 (some s) rest = omega arith
 
 -- R15: the last end, counted from the clock
-pub last-total : (t0 : ℕ) (l : List Slot) → AllYoung l → lastEnd t0 l ≡ t0 + lastOf (linesIn l)
+pub last-lines : (t0 : ℕ) (l : List Slot) → lastEnd t0 l ≡ t0 + lastOf (map byGap (linesIn l))
 unfolding lastEnd linesIn lastOf
-last-total t0 [] y = omega arith
-last-total t0 (s ∷ l) y = ap (max (endOf t0 (s .held))) (last-total t0 l (y .1)) ∙ last-line t0 (s .held) (linesIn l) (y .0)
+last-lines t0 [] = omega arith
+last-lines t0 (s ∷ l) = ap (max (byStream t0 (endAt t0) (s .held))) (last-lines t0 l) ∙ last-one t0 (asks (s .held)) (linesIn l)
 
 absolute-append : (t0 : ℕ) (a b : List ℕ) → absolute t0 (a ++ b) ≡ absolute t0 a ++ absolute t0 b
 unfolding absolute
@@ -147,24 +98,20 @@ before-shift t0 e p last =
     let z : t0 + last - (t0 + e) + p - 1 ≡ last - e + p - 1 = omega arith in
     ap (λ (x : ℕ). every (x / p) (t0 + e) p) z ∙ every-shift t0 (countBefore e p last) e p
 
-ends-line : (t0 last : ℕ) (h : Held) (rest : List Line) → Young h
-    → endsIn t0 (t0 + last) h ++ absolute t0 (endsBy last rest) ≡ absolute t0 (endsBy last (lineIn h ++ rest))
+ends-one : (t0 last : ℕ) (o : Option Stream) (rest : List Line)
+    → ofStream [] (endsAt t0 (t0 + last)) o ++ absolute t0 (endsBy last (map byGap rest)) ≡ absolute t0 (endsBy last (map byGap (with o rest)))
 unfolding endsBy
-ends-line t0 last Nothing rest y = refl
-ends-line t0 last (Running r) rest y =
-    let e = r .period - r .age in
-    let z : t0 + r .period - r .age ≡ t0 + e = omega arith in
-    ap (λ (x : List ℕ). x ++ absolute t0 (endsBy last rest)) (ap (λ (x : ℕ). endsBefore x (r .period) (t0 + last)) z ∙ before-shift t0 e (r .period) last)
-    ∙ sym (absolute-append t0 (endsBefore e (r .period) last) (endsBy last rest))
-ends-line t0 last (Waiting w) rest y = refl
+ends-one t0 last none rest = refl
+ends-one t0 last (some s) rest =
+    ap (λ (x : List ℕ). x ++ absolute t0 (endsBy last (map byGap rest))) (before-shift t0 (s .end) (s .period) last)
+    ∙ sym (absolute-append t0 (endsBefore (s .end) (s .period) last) (endsBy last (map byGap rest)))
 
 -- R9: the ends, counted from the clock
-pub ends-total : (t0 last : ℕ) (l : List Slot) → AllYoung l → endsOf t0 (t0 + last) l ≡ absolute t0 (endsBy last (linesIn l))
+pub ends-lines : (t0 last : ℕ) (l : List Slot) → endsOf t0 (t0 + last) l ≡ absolute t0 (endsBy last (map byGap (linesIn l)))
 unfolding endsOf linesIn endsBy absolute
-ends-total t0 last [] y = refl
-ends-total t0 last (s ∷ l) y =
-    ap (λ (x : List ℕ). endsIn t0 (t0 + last) (s .held) ++ x) (ends-total t0 last l (y .1))
-    ∙ ends-line t0 last (s .held) (linesIn l) (y .0)
+ends-lines t0 last [] = refl
+ends-lines t0 last (s ∷ l) =
+    ap (λ (x : List ℕ). byStream [] (endsAt t0 (t0 + last)) (s .held) ++ x) (ends-lines t0 last l) ∙ ends-one t0 last (asks (s .held)) (linesIn l)
 
 -- ---- what is looked for and what is greatest over ticks counted from the clock
 

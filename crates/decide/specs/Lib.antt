@@ -1,4 +1,3 @@
--- The running lines of a table, both as lists and in absolute ticks, and the answer in parts.
+-- The lines gathered, what is decided of them, and the lines of a list of slots.
 pub mod Lines
-pub mod Ticks
-pub mod Parts
+pub mod Decided

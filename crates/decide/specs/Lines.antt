@@ -1,38 +1,61 @@
--- The running lines of a table at their T', counted from the clock, and what is known of a slot past the grounds 4 and 5.
-use Prim.Native.Nat.{ℕ, _-_, _≤_, _<_}
+-- A line gathered, with its gap beside its period: of five slices, and of a list of slots, counted from the clock.
+use Prim.Native.Nat.{ℕ, _+_}
+use mathlib.Core.Bool.{Bool}
 use mathlib.Core.List.{List, [], _∷_, _++_}
-use lib.ListN.{length}
-use Rattle.line.specs.declared.Run.{Run}
-use Rattle.line.specs.declared.Held.{Held}
-use Rattle.line.specs.declared.Held.the-variants.{Nothing, Running, Waiting}
+use lib.Dec.{eqb}
+use lib.ListN.{length, getD}
+use Rattle.line.specs.declared.Stream.{Stream}
 use Rattle.line.specs.declared.Slot.{Slot}
-use Rattle.table.specs.declared.Table.{Table}
-use Rattle.table.specs.declared.Request.{Request}
-use Rattle.line.specs.Slots.{at}
-use Rattle.table.specs.Grounds.{entry}
-use Rattle.sums.specs.Lines.{Line, lineWith}
+use Rattle.line.specs.Slots.{both}
+use Rattle.line.specs.Streams.{stream, byStream}
+use Rattle.sums.specs.Lines.{along, alike}
 
--- R9: the first end is T' − a after the clock
-abbrev pub lineFrom : Run → Line
-lineFrom r = lineWith (r .period - r .age) (r .remaining) (r .need) (r .period)
+-- R9: its first end counted from the clock, what remains of its need, its need, its T', and the ticks from one of its ends to the next
+pub record Line : Type 0 where
+  pub end : ℕ
+  pub remaining : ℕ
+  pub need : ℕ
+  pub period : ℕ
+  pub gap : ℕ
 
--- R6: nothing is taken from a slot that runs no line
-abbrev pub lineIn : Held → List Line
-lineIn Nothing = []
-lineIn (Running r) = lineFrom r ∷ []
-lineIn (Waiting w) = []
+-- a line with these numbers
+abbrev pub lineWith : (e c n p g : ℕ) → Line
+lineWith e c n p g = record { end = e; remaining = c; need = n; period = p; gap = g }
 
--- the running lines, lowest slot first
+-- R8, R28, R29: the line by its period: what the frame and the sums look at
+abbrev pub byPeriod : Line → Stream
+byPeriod x = stream (x .end) (x .remaining) (x .need) (x .period)
+
+-- R9, R10: the line by its gap: what the demand and the ends look at
+abbrev pub byGap : Line → Stream
+byGap x = stream (x .end) (x .remaining) (x .need) (x .gap)
+
+-- ---- of slices
+
+-- line k of five slices
+abbrev pub gatheredAt : (e c n p g : List ℕ) → ℕ → Line
+gatheredAt e c n p g k = lineWith (getD e k 0) (getD c k 0) (getD n k 0) (getD p k 0) (getD g k 0)
+
+-- the lines of five slices, as many as there are ends
+abbrev pub gathered : (e c n p g : List ℕ) → List Line
+gathered e c n p g = along (gatheredAt e c n p g) 0 (length e)
+
+-- five slices have the same length
+abbrev pub allAlike : (e c n p g : List ℕ) → Bool
+allAlike e c n p g = both (alike e c n p) (eqb (length g) (length e))
+
+-- ---- of slots
+
+-- R9: what a slot asks for, as it is gathered: its ends come a period apart
+abbrev pub lineFor : Stream → Line
+lineFor s = lineWith (s .end) (s .remaining) (s .need) (s .period) (s .period)
+
+-- R6: the lines, lowest slot first; nothing is taken from a slot that holds none
 unfoldable pub linesIn : List Slot → List Line
 linesIn [] = []
-linesIn (s ∷ l) = lineIn (s .held) ++ linesIn l
+linesIn (s ∷ l) = byStream [] (λ x. lineFor x ∷ []) (s .held) ++ linesIn l
 
--- R24, R25: what is known of a slot, with p for its T', since neither ground held
-abbrev pub Allowed : ℕ → Held → Type 0
-Allowed p Nothing = Unit {0}
-Allowed p (Running r) = (r .need ≤ r .period) × (r .remaining ≤ r .need) × (r .age < r .period) × (r .period ≤ p)
-Allowed p (Waiting w) = Unit {0}
-
--- the same of every slot, with its entry for its T'
-abbrev pub AllAllowed : Table → Request → Type 0
-AllAllowed t q = (i : ℕ) → i < length (t .slots) → Allowed (entry q i) (at (t .slots) i)
+-- ticks counted from the clock, as absolute ticks
+unfoldable pub absolute : (clock : ℕ) → List ℕ → List ℕ
+absolute t0 [] = []
+absolute t0 (d ∷ ds) = (t0 + d) ∷ absolute t0 ds

@@ -6,12 +6,12 @@ use mathlib.Core.Option.{none, some}
 use Rattle.periods.specs.Multiples.{euclid, gcdOf, lcmOf, frameFrom}
 use Rattle.table.specs.declared.Table.{Table}
 use Rattle.table.specs.declared.Answer.the-variants.{Start, Refused}
-use Rattle.line.specs.Slots.{total, lowest}
+use Rattle.line.specs.Slots.{total, lowest, mapAt}
 use Rattle.table.specs.Words.{refusal, gives, refuses}
-use Rattle.line.specs.Demand.{due, lastEnd}
-use Rattle.line.specs.Stretch.{stretched}
+use Rattle.line.specs.Streams.{due, every, endsBefore}
+use Rattle.line.specs.Demand.{lastEnd}
 use Rattle.line.specs.Shares.{periodsIn}
-use Rattle.line.specs.Ends.{every, endsBefore, endsOf, slack, bound, greatest, anyOf, start}
+use Rattle.line.specs.Ends.{endsOf, slack, bound, greatest, anyOf, start}
 use Rattle.table.specs.Ask.{askIn, askOf}
 use Rattle.table.specs.Step.{chosen, advance, stepOf}
 use Rattle.table.specs.Cases.{running, tableOf}
@@ -51,7 +51,7 @@ emptyCard n = 0x43 ∷ 0x4B ∷ 0 ∷ 0 ∷ 0 ∷ 0 ∷ 0 ∷ 0 ∷ 0 ∷ 0 ∷ 
 
 -- R60: no byte is the reader's refusal; a card that reads gets ask's, or the start
 pub answer-edges : map answerOf ([] ∷ emptyCard 0 ∷ emptyCard 3 ∷ []) ≡ Refused (refusal 11 0) ∷ Refused (refusal 6 0) ∷ Start 0 ∷ []
-unfolding readWith recordsOf recordOf marked euclid gcdOf lcmOf frameFrom total lowest due lastEnd stretched periodsIn every endsBefore endsOf slack bound greatest anyOf start askIn askOf
+unfolding readWith recordsOf recordOf marked euclid gcdOf lcmOf frameFrom total lowest due lastEnd mapAt periodsIn every endsBefore endsOf slack bound greatest anyOf start askIn askOf
 answer-edges = refl
 
 -- R65: a card that does not read is not written, and the buffer stays
@@ -61,7 +61,7 @@ refused-rewrite-keeps = (refl, refl)
 
 -- R66: no tick, one, a whole period, and two ticks of the next
 pub run-edges : map (runOf (emptyCard 3)) (0 ∷ 1 ∷ 5 ∷ 7 ∷ []) ≡ gives 0 ∷ gives 1 ∷ gives 3 ∷ gives 5 ∷ []
-unfolding readWith recordsOf recordOf marked euclid gcdOf lcmOf frameFrom total lowest due lastEnd stretched periodsIn every endsBefore endsOf slack bound greatest anyOf start askIn askOf chosen advance stepOf ticksRun
+unfolding readWith recordsOf recordOf marked euclid gcdOf lcmOf frameFrom total lowest due lastEnd mapAt periodsIn every endsBefore endsOf slack bound greatest anyOf start askIn askOf chosen advance stepOf ticksRun
 run-edges = refl
 
 -- R66: the reader's refusal, with no tick to run and with some

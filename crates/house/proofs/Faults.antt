@@ -5,14 +5,14 @@ use mathlib.Core.List.{[], _∷_, _++_, map}
 use native.Mathlib.Omega.{arith}
 use lib.ListN.{replicate}
 use Rattle.periods.specs.Multiples.{euclid, gcdOf, lcmOf, frameFrom}
-use Rattle.line.specs.Slots.{at, total, lowest}
+use Rattle.line.specs.Slots.{at, total, lowest, mapAt}
 use Rattle.line.specs.Tick.{isOwed}
-use Rattle.line.specs.Demand.{due, lastEnd}
-use Rattle.line.specs.Stretch.{stretched}
+use Rattle.line.specs.Streams.{due, every, endsBefore}
+use Rattle.line.specs.Demand.{lastEnd}
 use Rattle.line.specs.Shares.{periodsIn}
-use Rattle.line.specs.Ends.{every, endsBefore, endsOf, slack, bound, greatest, anyOf, start}
+use Rattle.line.specs.Ends.{endsOf, slack, bound, greatest, anyOf, start}
 use Rattle.table.specs.declared.Table.{Table}
-use Rattle.table.specs.Words.{refusal, Said, gives, refuses}
+use Rattle.table.specs.Words.{tableWith, refusal, Said, gives, refuses}
 use Rattle.table.specs.Ask.{askIn, askOf}
 use Rattle.table.specs.Step.{chosen, advance, stepOf}
 use Rattle.table.specs.Cases.{running, waiting, tableOf, caseA}
@@ -30,8 +30,8 @@ abbrev broken : Said Table
 broken = refuses (refusal 11 9)
 
 -- R6: need, period and the T' go where they belong
-pub request-edges : requestOf 1 4 (32 ∷ 16 ∷ []) ≡ record { stretched = 32 ∷ 16 ∷ []; need = 1; period = 4 }
-request-edges = refl
+pub request-edges : (requestOf 1 4 (32 ∷ 16 ∷ []) .stretched ≡ 32 ∷ 16 ∷ []) × (requestOf 1 4 (32 ∷ 16 ∷ []) .need ≡ 1) × (requestOf 1 4 (32 ∷ 16 ∷ []) .period ≡ 4)
+request-edges = (refl, refl, refl)
 
 -- R17: what is given changes the bytes, and a refusal leaves them
 pub changed-edges : (changed {A = ℕ} (gives 0) (1 ∷ []) (2 ∷ []) ≡ 1 ∷ []) × (changed {A = ℕ} (refuses (refusal 8 0)) (1 ∷ []) (2 ∷ []) ≡ 2 ∷ [])
@@ -42,7 +42,7 @@ pub ask-edges : (askFor (gives (caseA .table)) (caseA .request) ≡ grantedAs 2 
     × (askFor (gives (tableOf 0 (running 8 16 0 8 ∷ []))) (requestOf 9 16 (16 ∷ [])) ≡ refusedAs (refusal 8 0))
     × (askFor (gives (tableOf 0 (waiting 1 4 3 ∷ []))) (requestOf 0 0 []) ≡ refusedAs (refusal 3 0))
     × (askFor broken (caseA .request) ≡ refusedAs (refusal 11 9))
-unfolding euclid gcdOf lcmOf frameFrom total lowest due lastEnd stretched periodsIn every endsBefore endsOf slack bound greatest anyOf start askIn askOf
+unfolding euclid gcdOf lcmOf frameFrom total lowest due lastEnd mapAt periodsIn every endsBefore endsOf slack bound greatest anyOf start askIn askOf
 ask-edges = (refl, refl, refl, refl)
 
 -- R87: a refused admission and a refused image leave every byte
@@ -72,7 +72,7 @@ pub ready-refused : ReadyFor broken (refusedAs (refusal 11 9))
 ready-refused = refl
 
 -- R89, R49: a word is the value, and the place is 0
-pub ready-granted-edges : ReadyFor (gives (record { clock = 0; slots = running 2 4 0 2 ∷ [] })) (grantedAs 0 1)
+pub ready-granted-edges : ReadyFor (gives (tableWith 0 (running 2 4 0 2 ∷ []))) (grantedAs 0 1)
 ready-granted-edges = (refl, record { bits = bits; small = omega arith })
   where
     bits : (k : ℕ) → k < 1 → 1 / 2 ^ k % 2 ≡ bit (isOwed (at (running 2 4 0 2 ∷ []) k))

@@ -6,7 +6,7 @@ use mathlib.Core.Option.{Option}
 use Rattle.line.specs.Slots.{isNothing, lowestOf}
 use Rattle.table.specs.declared.Table.{Table}
 use Rattle.table.specs.declared.Request.{Request}
-use Rattle.table.specs.Words.{Said, gives, refuses}
+use Rattle.table.specs.Words.{requestWith, Said, gives, refuses}
 use Rattle.table.specs.Ask.{says, askOf}
 use Rattle.table.specs.Admit.{admitOf}
 use Rattle.table.specs.Step.{saysRan, stepOf}
@@ -17,7 +17,7 @@ use Rattle.house.specs.Results.{grantedAs, refusedAs, slotNumber}
 
 -- R6: the request of a need, a period and the stretched periods
 abbrev pub requestOf : (need period : ℕ) → List ℕ → Request
-requestOf c p ts = record { stretched = ts; need = c; period = p }
+requestOf c p ts = requestWith ts c p
 
 -- R17: what the lent bytes hold after an answer; a refusal leaves every one
 abbrev pub changed : {A : Type 0} → Said A → (then before : List ℕ) → List ℕ

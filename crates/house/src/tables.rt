@@ -9,6 +9,7 @@ ghost use Rattle.house.specs.Results.{resultOf};
 ghost use Rattle.house.specs.Tables.{requestOf, askedAs, askFor, admittedIn, stepped, steppedIn, stepFor, afterAdmit, afterStep, ReadyFor};
 use crate::Result;
 use image::LoadAnswer;
+use line::Kind;
 use table::Answer;
 use table::Outcome;
 use table::Request;
@@ -18,11 +19,7 @@ use table::Table;
 pub(crate) fn request(need: u16, period: u16, stretched: [u16; 16]) -> Request
     ensures { λ r. ⌜ r ≡ requestOf need period stretched ⌝ }
 {
-    Request {
-        stretched: stretched,
-        need: need,
-        period: period,
-    }
+    Request::new(stretched, need, period)
 }
 
 // R86: the start and the new line's slot, or the refusal.
@@ -30,7 +27,7 @@ fn asked(t: Table, a: Answer) -> Result
     ensures { λ r. ⌜ r ≡ askedAs t (says a) ⌝ }
 {
     match a {
-        Answer::Start(start) => Result::granted(crate::slot_number(t.lowest_empty()), start),
+        Answer::Start(start) => Result::granted(crate::slot_number(t.lowest(Kind::Free)), start),
         Answer::Refused(x) => Result::refused(x),
     }
 }

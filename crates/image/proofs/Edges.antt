@@ -7,8 +7,7 @@ use lib.ListN.{length, take, set, replicate}
 use Rattle.line.specs.declared.Slot.{Slot}
 use Rattle.line.specs.Slots.{empty, lowest}
 use Rattle.table.specs.declared.Table.{Table}
-use Rattle.table.specs.declared.Refusal.{Refusal}
-use Rattle.table.specs.Words.{Said, gives, refuses}
+use Rattle.table.specs.Words.{tableWith, refusal, Said, gives, refuses}
 use Rattle.table.specs.Cases.{running, waiting}
 use Rattle.image.specs.declared.LoadAnswer.{LoadAnswer}
 use Rattle.image.specs.Image.{size, imageOf}
@@ -45,16 +44,13 @@ waitSlot = waiting 0x5251 0x6261 0x7271
 
 -- slots under the clock of `front`
 abbrev under : List Slot → Table
-under ss = record { clock = 0xA8A7A6A5A4A3A2A1; slots = ss }
+under ss = tableWith 0xA8A7A6A5A4A3A2A1 ss
 
 abbrev reads : List Slot → Said Table
 reads ss = gives (under ss)
 
-abbrev numbered : (number place : ℕ) → Refusal
-numbered n k = record { number = n; place = k }
-
 abbrev breaks : (place : ℕ) → Said Table
-breaks at = refuses (numbered 11 at)
+breaks at = refuses (refusal 11 at)
 
 -- some bytes, for how many slots, and what they are
 pub record ImageEdge : Type 0 where
@@ -100,7 +96,7 @@ zeroEdges =
     ∷ edge 1 (front ++ (0 ∷ replicate 8 255)) (breaks 10)
     ∷ edge 1 (front ++ (2 ∷ replicate 8 255)) (breaks 16)
     ∷ edge 1 (1 ∷ replicate 8 255 ++ (1 ∷ replicate 8 255))
-    (gives (record { clock = 18446744073709551615; slots = running 65535 65535 65535 65535 ∷ [] }))
+    (gives (tableWith 18446744073709551615 (running 65535 65535 65535 65535 ∷ [])))
     ∷ map (wrongAt 2 (front ++ runs ++ free) 1) (19 ∷ 20 ∷ 25 ∷ 26 ∷ [])
     ++ map (wrongAt 2 (front ++ runs ++ waits) 1) (25 ∷ 26 ∷ [])
     ++ edge 2 (set (front ++ free ++ runs) 18 3) (breaks 18)
@@ -173,7 +169,7 @@ unfolding imageOf
 written-edges = refl
 
 -- R3, R82: the greatest numbers have an image too
-pub greatest-written : imageOf (record { clock = 18446744073709551615; slots = running 65535 65535 65535 65535 ∷ waiting 65535 65535 65535 ∷ [] })
+pub greatest-written : imageOf (tableWith 18446744073709551615 (running 65535 65535 65535 65535 ∷ waiting 65535 65535 65535 ∷ []))
     ≡ 1 ∷ replicate 8 255 ++ (1 ∷ replicate 8 255) ++ (2 ∷ replicate 6 255) ++ (0 ∷ 0 ∷ [])
 unfolding imageOf
 greatest-written = refl
@@ -195,7 +191,7 @@ lent n = replicate n 0xEE
 
 -- R33, R84: the room for an image, on both sides
 pub room-edges : map storeOf (0 ∷ 9 ∷ 152 ∷ 153 ∷ 154 ∷ 1000 ∷ [])
-    ≡ refuses (numbered 13 0) ∷ refuses (numbered 13 0) ∷ refuses (numbered 13 0) ∷ gives 153 ∷ gives 153 ∷ gives 153 ∷ []
+    ≡ refuses (refusal 13 0) ∷ refuses (refusal 13 0) ∷ refuses (refusal 13 0) ∷ gives 153 ∷ gives 153 ∷ gives 153 ∷ []
 unfolding storeOf
 room-edges = refl
 
@@ -208,15 +204,15 @@ stored-edges = refl
 -- R84: what is handed out: a table with its answer, and with a refusal the empty table of sixteen slots
 pub handed-edges : map (λ (l : List ℕ). handedOut (loadOf l)) (whole ∷ take 152 whole ∷ (whole ++ (0 ∷ [])) ∷ set whole 144 3 ∷ set whole 0 2 ∷ [])
     ≡ record { table = sixteen; answer = LoadAnswer.Read }
-    ∷ record { table = record { clock = 0; slots = replicate 16 empty }; answer = LoadAnswer.Refused (numbered 11 152) }
-    ∷ record { table = record { clock = 0; slots = replicate 16 empty }; answer = LoadAnswer.Refused (numbered 11 153) }
-    ∷ record { table = record { clock = 0; slots = replicate 16 empty }; answer = LoadAnswer.Refused (numbered 11 144) }
-    ∷ record { table = record { clock = 0; slots = replicate 16 empty }; answer = LoadAnswer.Refused (numbered 11 0) }
+    ∷ record { table = tableWith 0 (replicate 16 empty); answer = LoadAnswer.Refused (refusal 11 152) }
+    ∷ record { table = tableWith 0 (replicate 16 empty); answer = LoadAnswer.Refused (refusal 11 153) }
+    ∷ record { table = tableWith 0 (replicate 16 empty); answer = LoadAnswer.Refused (refusal 11 144) }
+    ∷ record { table = tableWith 0 (replicate 16 empty); answer = LoadAnswer.Refused (refusal 11 0) }
     ∷ []
 unfolding lowest blankFrom slotsWrong lengthWrong wrongIn heldIn loadWith
 handed-edges = refl
 
 -- R17, R84: an answer says its own numbers, whatever table stands beside a refusal
-pub said-edges : (t : Table) → map saidLoaded (record { table = t; answer = LoadAnswer.Read } ∷ record { table = t; answer = LoadAnswer.Refused (numbered 12 34) } ∷ [])
-    ≡ gives t ∷ refuses (numbered 12 34) ∷ []
+pub said-edges : (t : Table) → map saidLoaded (record { table = t; answer = LoadAnswer.Read } ∷ record { table = t; answer = LoadAnswer.Refused (refusal 12 34) } ∷ [])
+    ≡ gives t ∷ refuses (refusal 12 34) ∷ []
 said-edges t = refl

@@ -7,7 +7,7 @@ use native.Mathlib.Numerals.{add-one}
 use lib.ListN.{length, take, drop, set, getD, length-set}
 use lib.Seq.{take-all, take-suc, take-suc-set, length-take-le, drop-drop}
 use Rattle.line.specs.declared.Slot.{Slot}
-use Rattle.line.specs.Slots.{empty, at}
+use Rattle.line.specs.Slots.{holding, empty, at}
 use Rattle.table.specs.declared.Table.{Table}
 use Rattle.table.specs.declared.Refusal.{Refusal}
 use Rattle.table.specs.Words.{refusal, gives, refuses}
@@ -18,12 +18,12 @@ use Rattle.image.specs.Answers.{storeOf, storedIn}
 use Rattle.image.proofs.ReadsBack.{length-slot, length-slots}
 use Rattle.image.proofs.Stored.{has-room, no-room, stored-is, stored-not}
 
-slots-next : (k : ℕ) (x : List ℕ) → slotsIn (suc k) x ≡ slotsIn k x ++ (record { held = heldIn (drop (9 * k) x) } ∷ [])
+slots-next : (k : ℕ) (x : List ℕ) → slotsIn (suc k) x ≡ slotsIn k x ++ (holding (heldIn (drop (9 * k) x)) ∷ [])
 slots-next zero x = refl
 slots-next (suc k) x =
     let d : 9 + 9 * k ≡ 9 * suc k = omega arith in
-    ap {B = List Slot} (λ s. record { held = heldIn x } ∷ s) (slots-next k (drop 9 x)
-    ∙ ap (λ (y : List ℕ). slotsIn k (drop 9 x) ++ (record { held = heldIn y } ∷ [])) (drop-drop (9 * k) 9 x ∙ ap (λ (j : ℕ). drop j x) d))
+    ap {B = List Slot} (λ s. holding (heldIn x) ∷ s) (slots-next k (drop 9 x)
+    ∙ ap (λ (y : List ℕ). slotsIn k (drop 9 x) ++ (holding (heldIn y) ∷ [])) (drop-drop (9 * k) 9 x ∙ ap (λ (j : ℕ). drop j x) d))
 
 -- the first k of n slots are those of an image
 pub record Filled (n : ℕ) (l : List ℕ) (ss : List Slot) (k : ℕ) : Type 0 where
@@ -37,13 +37,13 @@ fill-start n l e = record { few = omega arith; long = e; same = refl }
 
 module _ {n : ℕ} {l : List ℕ} {ss : List Slot} {k : ℕ} (v : Filled n l ss k) where
   -- R81: the slot at its offset is one more
-  pub fill-on : k < n → {s : Slot} → s ≡ record { held = heldIn (drop (9 + 9 * k) l) } → Filled n l (set ss k s) (k + 1)
+  pub fill-on : k < n → {s : Slot} → s ≡ holding (heldIn (drop (9 + 9 * k) l)) → Filled n l (set ss k s) (k + 1)
   fill-on h {s} e = record {
     few = omega arith;
     long = length-set ss k s ∙ v .long;
     same =
         ap (λ (j : ℕ). take j (set ss k s)) (add-one k) ∙ take-suc-set ss k s (omega (arith, v .long))
-        ∙ ap₂ (λ (p : List Slot) (z : Slot). p ++ (z ∷ [])) (v .same) (e ∙ ap {B = Slot} (λ (y : List ℕ). record { held = heldIn y }) (sym (drop-drop (9 * k) 9 l)))
+        ∙ ap₂ (λ (p : List Slot) (z : Slot). p ++ (z ∷ [])) (v .same) (e ∙ ap {B = Slot} (λ (y : List ℕ). holding (heldIn y)) (sym (drop-drop (9 * k) 9 l)))
         ∙ sym (slots-next k (drop 9 l)) ∙ ap (λ (j : ℕ). slotsIn j (drop 9 l)) (sym (add-one k));
   }
 

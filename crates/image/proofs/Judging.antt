@@ -11,7 +11,8 @@ use lib.ListN.{length, drop, getD, drop-of-length-le}
 use lib.Seq.{drop-drop}
 use lib.Dec.{eqb, leb, ltb}
 use borrow.Author.Tests.{ltb-true, eqb-true, not-true, not-false, eq-eqb, ne-eqb, le-leb, lt-leb, lt-ltb, le-ltb}
-use Rattle.line.specs.Slots.{both, orElse}
+use Rattle.line.specs.Slots.{orElse}
+use Rattle.line.proofs.Sound.{both-false}
 use Rattle.line.proofs.Search.{Looking, look-on, look-stop, look-end, lowest-below, none-found}
 use Rattle.table.specs.declared.Table.{Table}
 use Rattle.table.specs.declared.Which.{Which}
@@ -47,10 +48,6 @@ module _ (k : ℕ) where
   unfolding blankFrom
   blank-other h = (rw (ne-eqb k 0 (λ e. omega arith), ne-eqb k 1 (λ e. omega arith), ne-eqb k 2 (λ e. omega arith)), omega arith)
 
-both-no : (a : Bool) → both a false ≡ false
-both-no true = refl
-both-no false = refl
-
 past : (l : List ℕ) (i : ℕ) → length l ≤ i → getD l i 0 ≡ 0
 past [] i h = refl
 past (x ∷ l) zero h = absurd (omega arith)
@@ -58,7 +55,7 @@ past (x ∷ l) (suc i) h = past l i (omega arith)
 
 -- a byte that is 0, or not there, is not wrong
 zero-right : (l : List ℕ) (i : ℕ) → byte l i ≡ 0 → isWrong l i ≡ false
-zero-right l i e = rw (le-ltb 0 (byte l i) (omega arith), both-no (leb (blankFrom (byte l 0)) i))
+zero-right l i e = rw (le-ltb 0 (byte l i) (omega arith), both-false (leb (blankFrom (byte l 0)) i))
 
 -- a search among the bytes of the slot in front that has passed those below i
 pub record Passing (l : List ℕ) (i : ℕ) : Type 0 where

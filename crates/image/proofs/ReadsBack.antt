@@ -2,7 +2,7 @@
 use mathlib.Core.Path.{_≡_, refl, sym, ap, ap₂, _∙_}
 use mathlib.Core.List.{List, [], _∷_, _++_}
 use mathlib.Core.Option.{Option, none}
-use Prim.Native.Nat.{ℕ, _+_, _*_}
+use Prim.Native.Nat.{ℕ, _+_, _*_, _<_}
 use native.Mathlib.Omega.{arith}
 use lib.ListN.{length, drop, length-append}
 use borrow.Author.Tests.{eq-eqb}
@@ -11,17 +11,21 @@ use Rattle.line.specs.declared.Held.the-variants.{Nothing, Running, Waiting}
 use Rattle.line.specs.declared.Slot.{Slot}
 use Rattle.line.specs.Slots.{lowest}
 use Rattle.table.specs.declared.Table.{Table}
-use Rattle.table.specs.Words.{Said, gives}
+use Rattle.table.specs.Words.{tableWith, Said, gives}
 use Rattle.card.specs.Bytes.{value}
 use Rattle.card.proofs.Numbers.{value-le}
-use Rattle.image.specs.Image.{size, slotBytes, slotsBytes, imageOf, Narrow, AllNarrow, Wide}
+use Rattle.image.specs.Image.{size, nine, byFields, slotBytes, slotsBytes, imageOf, Narrow, AllNarrow, Wide}
 use Rattle.image.specs.Loading.{blankFrom, slotWrong, slotsWrong, lengthWrong, wrongIn, heldIn, slotsIn, tableIn, unlessWrong, loadWith}
+
+-- what holds of any kind up to 2 and any four numbers holds of what a slot holds
+pub of-fields : {A : Type 0} (P : A → Type 0) (f : ℕ → ℕ → ℕ → ℕ → ℕ → A) → ((k a b c d : ℕ) → k < 3 → P (f k a b c d)) → (h : Held) → P (byFields f h)
+of-fields P f w Nothing = w 0 0 0 0 0 (omega arith)
+of-fields P f w (Running r) = w 1 (r .need) (r .period) (r .age) (r .remaining) (omega arith)
+of-fields P f w (Waiting x) = w 2 (x .need) (x .period) (x .wait) 0 (omega arith)
 
 -- R81: a slot has nine bytes
 pub length-slot : (h : Held) → length (slotBytes h) ≡ 9
-length-slot Nothing = refl
-length-slot (Running r) = refl
-length-slot (Waiting w) = refl
+length-slot h = of-fields (λ l. length l ≡ 9) nine (λ k a b c d q. refl) h
 
 -- R81: so many slots have nine times as many
 pub length-slots : (ss : List Slot) → length (slotsBytes ss) ≡ 9 * length ss
@@ -76,7 +80,7 @@ loads-back n t w =
     let c : value 8 (imageOf t) 1 ≡ t .clock = value-le 8 (t .clock) [] (w .clock) in
     let e : slotsIn n (slotsBytes (t .slots)) ≡ t .slots = rw (w .slots) at (loads-slots (t .slots) 9 (w .lines) .1) in
     ap (λ (o : Option ℕ). unlessWrong o (tableIn n (imageOf t))) (image-right n t w)
-    ∙ ap₂ (λ (k : ℕ) (ss : List Slot). gives (record { clock = k; slots = ss })) c e
+    ∙ ap₂ (λ (k : ℕ) (ss : List Slot). gives (tableWith k ss)) c e
 
 -- R82: no two tables have the same image
 pub one-image : (n : ℕ) (t u : Table) → Wide n t → Wide n u → imageOf t ≡ imageOf u → t ≡ u

@@ -8,18 +8,16 @@ use lib.ListN.{length, take, drop, length-append, length-drop}
 use lib.Seq.{take-at, drop-at}
 use borrow.Author.Tests.{leb-true, le-leb, lt-leb}
 use lib.Dec.{leb}
-use Rattle.line.specs.declared.Held.{Held}
-use Rattle.line.specs.declared.Held.the-variants.{Nothing, Running, Waiting}
 use Rattle.line.specs.declared.Slot.{Slot}
 use Rattle.line.specs.Slots.{pick}
 use Rattle.table.specs.declared.Table.{Table}
 use Rattle.table.specs.Words.{refusal, gives, refuses}
 use Rattle.card.specs.Bytes.{Bytes, le}
 use Rattle.card.specs.Answers.{filled}
-use Rattle.image.specs.Image.{version, nine, slotBytes, slotsBytes, imageOf, Wide}
+use Rattle.image.specs.Image.{version, nine, slotsBytes, imageOf, Wide}
 use Rattle.image.specs.Loading.{loadOf}
 use Rattle.image.specs.Answers.{storeOf, storedIn}
-use Rattle.image.proofs.ReadsBack.{length-image, loads-back}
+use Rattle.image.proofs.ReadsBack.{of-fields, length-image, loads-back}
 
 -- a byte in front of bytes
 bytes-cons : (b : ℕ) (l : List ℕ) → b < 256 → Bytes l → Bytes (b ∷ l)
@@ -40,12 +38,9 @@ bytes-nine k a b c d l h e =
 
 bytes-slots : (ss : List Slot) → Bytes (slotsBytes ss)
 bytes-slots [] = λ i. omega arith
-bytes-slots (s ∷ ss) = go (s .held) (bytes-slots ss)
-  where
-    go : (h : Held) → Bytes (slotsBytes ss) → Bytes (slotBytes h ++ slotsBytes ss)
-    go Nothing k = bytes-nine 0 0 0 0 0 (slotsBytes ss) (omega arith) k
-    go (Running r) k = bytes-nine 1 (r .need) (r .period) (r .age) (r .remaining) (slotsBytes ss) (omega arith) k
-    go (Waiting w) k = bytes-nine 2 (w .need) (w .period) (w .wait) 0 (slotsBytes ss) (omega arith) k
+bytes-slots (s ∷ ss) =
+    let i = bytes-slots ss in
+    of-fields (λ (l : List ℕ). Bytes (l ++ slotsBytes ss)) nine (λ k a b c d h. bytes-nine k a b c d (slotsBytes ss) (omega arith) i) (s .held)
 
 -- R81: an image is bytes, of any table
 pub bytes-image : (t : Table) → Bytes (imageOf t)

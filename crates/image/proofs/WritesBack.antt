@@ -79,14 +79,14 @@ module _ (l : List ℕ) (w : slotWrong l ≡ none) where
           let k : byte l 0 ≡ 2 = eqb-true (byte l 0) 2 e in
           let z : blankFrom (byte l 0) ≡ 7 = ap blankFrom k in (
             nine-is l b h ∙ ap₂ (λ (k v : ℕ). nine k (value 2 l 1) (value 2 l 3) (value 2 l 5) v ++ drop 9 l) k (blank-two 7 (omega arith) (omega arith)),
-            (value-lt 2 l 1 b, value-lt 2 l 3 b, value-lt 2 l 5 b),
+            (value-lt 2 l 1 b, value-lt 2 l 3 b, value-lt 2 l 5 b, omega arith),
           )
       go false false d e =
           let k : byte l 0 ≡ 0 = kind-zero d e in
           let z : blankFrom (byte l 0) ≡ 1 = ap blankFrom k in (
             nine-is l b h
                 ∙ rw (k, blank-two 1 (omega arith) (omega arith), blank-two 3 (omega arith) (omega arith), blank-two 5 (omega arith) (omega arith), blank-two 7 (omega arith) (omega arith)),
-            tt,
+            (omega arith, omega arith, omega arith, omega arith),
           )
 
 -- R82: the bytes of n slots are what the slots hold

@@ -21,11 +21,15 @@ size n = 9 + 9 * n
 abbrev pub nine : (kind a b c d : ℕ) → List ℕ
 nine k a b c d = k ∷ (le 2 a ++ (le 2 b ++ (le 2 c ++ le 2 d)))
 
--- R81: a slot's nine bytes, 0 where nothing stands
+-- f of the kind and the four numbers of what a slot holds, 0 where nothing stands
+abbrev pub byFields {ℓ} : {A : Type ℓ} → (ℕ → ℕ → ℕ → ℕ → ℕ → A) → Held → A
+byFields f Nothing = f 0 0 0 0 0
+byFields f (Running r) = f 1 (r .need) (r .period) (r .age) (r .remaining)
+byFields f (Waiting w) = f 2 (w .need) (w .period) (w .wait) 0
+
+-- R81: a slot's nine bytes
 abbrev pub slotBytes : Held → List ℕ
-slotBytes Nothing = nine 0 0 0 0 0
-slotBytes (Running r) = nine 1 (r .need) (r .period) (r .age) (r .remaining)
-slotBytes (Waiting w) = nine 2 (w .need) (w .period) (w .wait) 0
+slotBytes h = byFields nine h
 
 -- R81: the slots, slot 0 first
 abbrev pub slotsBytes : List Slot → List ℕ
@@ -38,9 +42,7 @@ imageOf t = (version ∷ le 8 (t .clock)) ++ slotsBytes (t .slots)
 
 -- R3: the numbers of what a slot holds have sixteen bits
 abbrev pub Narrow : Held → Type 0
-Narrow Nothing = Unit {0}
-Narrow (Running r) = (r .need < 65536) × (r .period < 65536) × (r .age < 65536) × (r .remaining < 65536)
-Narrow (Waiting w) = (w .need < 65536) × (w .period < 65536) × (w .wait < 65536)
+Narrow h = byFields (λ k a b c d. (a < 65536) × (b < 65536) × (c < 65536) × (d < 65536)) h
 
 -- R3: the same of every slot
 abbrev pub AllNarrow : List Slot → Type 0

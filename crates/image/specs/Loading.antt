@@ -10,9 +10,9 @@ use Rattle.line.specs.declared.Wait.{Wait}
 use Rattle.line.specs.declared.Held.{Held}
 use Rattle.line.specs.declared.Held.the-variants.{Nothing, Running, Waiting}
 use Rattle.line.specs.declared.Slot.{Slot}
-use Rattle.line.specs.Slots.{pick, both, orElse, lowest}
+use Rattle.line.specs.Slots.{pick, both, runOf, waitOf, holding, orElse, lowest}
 use Rattle.table.specs.declared.Table.{Table}
-use Rattle.table.specs.Words.{refusal, Said, gives, refuses}
+use Rattle.table.specs.Words.{tableWith, refusal, Said, gives, refuses}
 use Rattle.card.specs.Bytes.{value}
 use Rattle.image.specs.Image.{version, size}
 
@@ -60,11 +60,11 @@ FourNarrow l = (value 2 l 1 < 65536) × (value 2 l 3 < 65536) × (value 2 l 5 < 
 
 -- R81: the running line in front
 abbrev pub runIn : List ℕ → Run
-runIn l = record { need = value 2 l 1; period = value 2 l 3; age = value 2 l 5; remaining = value 2 l 7 }
+runIn l = runOf (value 2 l 1) (value 2 l 3) (value 2 l 5) (value 2 l 7)
 
 -- R81: the waiting line in front
 abbrev pub waitIn : List ℕ → Wait
-waitIn l = record { need = value 2 l 1; period = value 2 l 3; wait = value 2 l 5 }
+waitIn l = waitOf (value 2 l 1) (value 2 l 3) (value 2 l 5)
 
 -- R81: what the slot in front holds
 unfoldable pub heldIn : List ℕ → Held
@@ -73,11 +73,11 @@ heldIn l = pick (eqb (byte l 0) 1) (Running (runIn l)) (pick (eqb (byte l 0) 2) 
 -- R81: n slots
 abbrev pub slotsIn : (n : ℕ) → List ℕ → List Slot
 slotsIn zero l = []
-slotsIn (suc n) l = record { held = heldIn l } ∷ slotsIn n (drop 9 l)
+slotsIn (suc n) l = holding (heldIn l) ∷ slotsIn n (drop 9 l)
 
 -- R81: the clock and n slots
 abbrev pub tableIn : (n : ℕ) → List ℕ → Table
-tableIn n l = record { clock = value 8 l 1; slots = slotsIn n (drop 9 l) }
+tableIn n l = tableWith (value 8 l 1) (slotsIn n (drop 9 l))
 
 -- R31, R83: refused as broken where a byte is wrong
 abbrev pub unlessWrong : Option ℕ → Table → Said Table

@@ -3,13 +3,12 @@ ghost use mathlib.Core.Path.{_≡_};
 ghost use mathlib.Core.List.{_∷_, _++_};
 ghost use Prim.Native.Nat.{_+_, _*_, _%_, _≤_, _<_};
 ghost use lib.ListN.{length, drop};
+ghost use Rattle.line.specs.Slots.{holding};
 ghost use Rattle.card.specs.Bytes.{le, value};
 ghost use Rattle.image.specs.Image.{slotBytes};
 ghost use Rattle.image.specs.Loading.{FourNarrow, heldIn};
 use line::Held;
-use line::Run;
 use line::Slot;
-use line::Wait;
 
 fn wide(b: u8) -> u64
     ensures { λ r. ⌜ (r ≡ b) × (r < 256) ⌝ }
@@ -45,29 +44,25 @@ fn lowest(v: u64) -> u16
 // R81: what the slot in front holds.
 pub(crate) fn slot_in(s: &[u8]) -> Slot
     requires { ⌜ 9 ≤ length (now s) ⌝ }
-    ensures { λ r. ⌜ r ≡ record { held = heldIn (now (s .entry)) } ⌝ }
+    ensures { λ r. ⌜ r ≡ holding (heldIn (now (s .entry))) ⌝ }
 {
     let kind = s[0];
     let v = eight(s);
     match kind {
-        1 => Slot {
-            held: Held::Running(Run {
-                need: lowest(v),
-                period: lowest(v / 65536),
-                age: lowest(v / 4294967296),
-                remaining: lowest(v / 281474976710656),
-            }),
-        },
-        2 => Slot {
-            held: Held::Waiting(Wait {
-                need: lowest(v),
-                period: lowest(v / 65536),
-                wait: lowest(v / 4294967296),
-            }),
-        },
-        _ => Slot {
-            held: Held::Nothing,
-        },
+        1 => {
+            let run = Held::running(
+                lowest(v),
+                lowest(v / 65536),
+                lowest(v / 4294967296),
+                lowest(v / 281474976710656),
+            );
+            Slot::holding(run)
+        }
+        2 => {
+            let wait = Held::waiting(lowest(v), lowest(v / 65536), lowest(v / 4294967296));
+            Slot::holding(wait)
+        }
+        _ => Slot::empty(),
     }
 }
 

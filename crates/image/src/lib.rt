@@ -42,10 +42,7 @@ fn table_in(image: &[u8]) -> Table
     requires { ⌜ 153 ≤ length (now image) ⌝ }
     ensures { λ r. ⌜ r ≡ tableIn 16 (now (image .entry)) ⌝ }
 {
-    Table {
-        clock: fields::eight(image),
-        slots: slots::slots_in(image),
-    }
+    Table::new(fields::eight(image), slots::slots_in(image))
 }
 
 // R31, R83: any bytes of any length. The contract is an equation: it settles all that is handed out.

@@ -3,25 +3,16 @@ ghost use mathlib.Core.Path.{_≡_};
 ghost use mathlib.Core.List.{_++_};
 ghost use Prim.Native.Nat.{_+_, _≤_};
 ghost use lib.ListN.{length, drop};
-ghost use Rattle.line.specs.Slots.{empty};
+ghost use Rattle.line.specs.Slots.{holding};
 ghost use Rattle.image.specs.Image.{slotsBytes, imageOf};
 ghost use Rattle.image.specs.Loading.{heldIn, slotsIn};
-use line::Held;
 use line::Slot;
 use table::Table;
-
-fn free() -> Slot
-    ensures { λ r. ⌜ r ≡ empty ⌝ }
-{
-    Slot {
-        held: Held::Nothing,
-    }
-}
 
 // The slot at an offset.
 fn slot_at(image: &[u8], at: usize) -> Slot
     requires { ⌜ at + 9 ≤ length (now image) ⌝ }
-    ensures { λ r. ⌜ r ≡ record { held = heldIn (drop at (now (image .entry))) } ⌝ }
+    ensures { λ r. ⌜ r ≡ holding (heldIn (drop at (now (image .entry)))) ⌝ }
 {
     crate::fields::slot_in(&image[at..])
 }
@@ -31,7 +22,8 @@ pub(crate) fn slots_in(image: &[u8]) -> [Slot; 16]
     requires { ⌜ 153 ≤ length (now image) ⌝ }
     ensures { λ r. ⌜ r ≡ slotsIn 16 (drop 9 (now (image .entry))) ⌝ }
 {
-    let mut slots = [free(); 16];
+    let none = Slot::empty();
+    let mut slots = [none; 16];
     let mut k: usize = 0;
     while k < 16 {
         let at = 9 + 9 * k;

@@ -1,8 +1,10 @@
--- The laws of a line: what the code reads, searches and maps over slots, the tests, a tick, the key, stretching, and the edges.
+-- The laws of a line: what the code reads, changes, searches and maps over slots, the tests, the streams, a tick, the key, stretching, and the edges.
 pub mod Read
+pub mod Changed
 pub mod Search
 pub mod Loops
 pub mod Sound
+pub mod Streams
 pub mod Tick
 pub mod Keys
 pub mod Stretched

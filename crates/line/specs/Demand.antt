@@ -1,32 +1,20 @@
 -- Demand and the start, R9 to R15, in absolute ticks: t0 is the clock at the request, and a running line has its T' for its period here.
-use Prim.Native.Nat.{ℕ, _+_, _-_, _*_, _/_, _≤_, max}
+use Prim.Native.Nat.{ℕ, _+_, _-_, _≤_, max}
 use mathlib.Core.List.{List, [], _∷_}
-use lib.Dec.{ltb}
-use Rattle.line.specs.declared.Run.{Run}
 use Rattle.line.specs.declared.Held.{Held}
-use Rattle.line.specs.declared.Held.the-variants.{Nothing, Running, Waiting}
 use Rattle.line.specs.declared.Slot.{Slot}
-use Rattle.line.specs.Slots.{pick, total}
-
--- R10, R11: nothing is due before e; from then on c, and C more for each whole period P since e
-unfoldable pub due : (e c C P t : ℕ) → ℕ
-due e c C P t = pick (ltb t e) 0 (c + C * ((t - e) / P))
-
--- R9: where the present period ends
-abbrev pub firstEnd : ℕ → Run → ℕ
-firstEnd t0 r = t0 + r .period - r .age
+use Rattle.line.specs.Slots.{total}
+use Rattle.line.specs.Streams.{byStream, due, endAt, flow}
 
 -- R10: what a slot has had to be given by t
 abbrev pub demand : ℕ → Held → ℕ → ℕ
-demand t0 Nothing t = 0
-demand t0 (Running r) t = due (firstEnd t0 r) (r .remaining) (r .need) (r .period) t
-demand t0 (Waiting w) t = 0
+demand t0 h t = byStream 0 (λ s. flow t0 s t) h
 
 -- R11: what the new line, started at r, has had to be given by t
 abbrev pub newDemand : (Cn Tn r t : ℕ) → ℕ
 newDemand Cn Tn r t = due r 0 Cn Tn t
 
--- R12: the demand of all running lines at t
+-- R12: the demand of all lines at t
 abbrev pub demands : ℕ → List Slot → ℕ → ℕ
 demands t0 l t = total (λ h. demand t0 h t) l
 
@@ -45,13 +33,11 @@ pub record Least (t0 : ℕ) (l : List Slot) (new : ℕ → ℕ → ℕ) (r : ℕ
   pub smooth : Smooth t0 l new r
   pub least : (u : ℕ) → Smooth t0 l new u → r ≤ u
 
--- R15: the first end of what a slot holds, or t0 where it runs no line
+-- R15: the first end of what a slot holds, or t0 where it holds no line
 abbrev pub endOf : ℕ → Held → ℕ
-endOf t0 Nothing = t0
-endOf t0 (Running r) = firstEnd t0 r
-endOf t0 (Waiting w) = t0
+endOf t0 h = byStream t0 (endAt t0) h
 
--- R15: the greatest first end, or t0 where no line runs
+-- R15: the greatest first end, or t0 where there is no line
 unfoldable pub lastEnd : ℕ → List Slot → ℕ
 lastEnd t0 [] = t0
 lastEnd t0 (s ∷ l) = max (endOf t0 (s .held)) (lastEnd t0 l)

@@ -1,37 +1,17 @@
--- The ends of the running lines, R9, and the start that they leave, R14: the greatest of the bounds that each end puts on it.
-use Prim.Native.Nat.{ℕ, zero, suc, _+_, _-_, _*_, _/_, _%_, min, max}
+-- The ends of the lines, R9, and the start that they leave, R14: the greatest of the bounds that each end puts on it.
+use Prim.Native.Nat.{ℕ, _+_, _-_, _*_, _/_, _%_, min, max}
 use mathlib.Core.Bool.{Bool, true, false}
 use mathlib.Core.List.{List, [], _∷_, _++_}
 use lib.Dec.{ltb}
-use Rattle.line.specs.declared.Held.{Held}
-use Rattle.line.specs.declared.Held.the-variants.{Nothing, Running, Waiting}
 use Rattle.line.specs.declared.Slot.{Slot}
 use Rattle.line.specs.Slots.{pick}
-use Rattle.line.specs.Demand.{firstEnd, demands, excess, lastEnd}
+use Rattle.line.specs.Streams.{byStream, endsAt}
+use Rattle.line.specs.Demand.{demands, excess, lastEnd}
 
--- how many of e, e + p, e + 2p, … are before last
-abbrev pub countBefore : (e p last : ℕ) → ℕ
-countBefore e p last = (last - e + p - 1) / p
-
--- e, e + p, e + 2p, …: n of them
-unfoldable pub every : (n e p : ℕ) → List ℕ
-every zero e p = []
-every (suc n) e p = e ∷ every n (e + p) p
-
--- the ends before `last` of what a slot holds
-unfoldable pub endsBefore : (e p last : ℕ) → List ℕ
-endsBefore e p last = every (countBefore e p last) e p
-
--- R9: of a running line its ends, of any other slot none
-abbrev pub endsIn : (t0 last : ℕ) → Held → List ℕ
-endsIn t0 last Nothing = []
-endsIn t0 last (Running r) = endsBefore (firstEnd t0 r) (r .period) last
-endsIn t0 last (Waiting w) = []
-
--- the ends before `last` of the running lines, lowest slot first; one that two lines share stands twice
+-- the ends before `last` of the lines, lowest slot first; one that two lines share stands twice
 unfoldable pub endsOf : (t0 last : ℕ) → List Slot → List ℕ
 endsOf t0 last [] = []
-endsOf t0 last (s ∷ l) = endsIn t0 last (s .held) ++ endsOf t0 last l
+endsOf t0 last (s ∷ l) = byStream [] (endsAt t0 last) (s .held) ++ endsOf t0 last l
 
 -- the time gone by at d that the running lines do not need
 unfoldable pub slack : (t0 : ℕ) → List Slot → (d : ℕ) → ℕ

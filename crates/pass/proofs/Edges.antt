@@ -3,22 +3,22 @@ use Prim.Native.Nat.{ℕ}
 use mathlib.Core.Path.{_≡_, refl}
 use mathlib.Core.Bool.{true, false}
 use mathlib.Core.List.{List, [], _∷_, map}
-use Rattle.line.specs.Demand.{due}
-use Rattle.line.specs.Ends.{every, endsBefore, bound}
-use Rattle.sums.specs.Lines.{Line, lineWith, sumTo}
-use Rattle.sums.specs.Weighed.{allTo, fitting}
-use Rattle.sums.proofs.Edges.{gathered}
+use Rattle.line.specs.declared.Stream.{Stream}
+use Rattle.line.specs.Streams.{stream, due, every, endsBefore}
+use Rattle.line.specs.Ends.{bound}
+use Rattle.sums.specs.Lines.{along, sumOf, allOf}
+use Rattle.sums.specs.Weighed.{fitting}
 use Rattle.pass.specs.declared.Pass.{Pass}
-use Rattle.pass.specs.Pass.{lastTo, endsTo, passOver, passOf}
+use Rattle.pass.specs.Pass.{lastOf, endsBy, passOver, passOf, passedIn}
 
--- lines gathered with a new line, and what the pass is to say
+-- lines with a new line, and what the pass is to say
 pub record Edge : Type 0 where
-  pub lines : List Line
+  pub lines : List Stream
   pub need : ℕ
   pub period : ℕ
   pub says : Pass
 
-abbrev edge : List Line → (need period : ℕ) → Pass → Edge
+abbrev edge : List Stream → (need period : ℕ) → Pass → Edge
 edge l n p r = record { lines = l; need = n; period = p; says = r }
 
 abbrev starts : ℕ → Pass
@@ -27,21 +27,29 @@ starts r = record { short = false; start = r }
 abbrev shortNow : Pass
 shortNow = record { short = true; start = 0 }
 
--- a need of 0 and of 1; a first end inside its period and behind it; an excess of 0 and of 1; cases A, D and M
+-- a need of 0 and of 1; a first end inside its period and behind it; an excess of 0 and of 1; ends 4 ticks apart, and so far apart
+-- that there is but one; cases A, D and M
 unfoldable pub passEdges : List Edge
 passEdges =
     edge [] 0 4 shortNow
     ∷ edge [] 1 4 (starts 0)
-    ∷ edge (lineWith 8 4 4 8 ∷ []) 1 4 (starts 0)
-    ∷ edge (lineWith 9 4 4 8 ∷ []) 1 4 shortNow
-    ∷ edge (lineWith 3 3 3 20 ∷ lineWith 20 0 10 20 ∷ []) 1 4 (starts 0)
-    ∷ edge (lineWith 3 4 4 20 ∷ lineWith 20 0 10 20 ∷ []) 1 4 shortNow
-    ∷ edge (lineWith 24 0 8 32 ∷ lineWith 8 8 8 16 ∷ []) 1 4 (starts 5)
-    ∷ edge (lineWith 8 7 7 28 ∷ lineWith 24 0 8 32 ∷ []) 2 4 (starts 5)
-    ∷ edge (lineWith 8 7 7 28 ∷ lineWith 24 0 8 32 ∷ []) 3 6 (starts 4)
+    ∷ edge (stream 8 4 4 8 ∷ []) 1 4 (starts 0)
+    ∷ edge (stream 9 4 4 8 ∷ []) 1 4 shortNow
+    ∷ edge (stream 3 3 3 20 ∷ stream 20 0 10 20 ∷ []) 1 4 (starts 0)
+    ∷ edge (stream 3 4 4 20 ∷ stream 20 0 10 20 ∷ []) 1 4 shortNow
+    ∷ edge (stream 3 3 4 4 ∷ stream 20 0 10 20 ∷ []) 1 4 (starts 16)
+    ∷ edge (stream 3 3 4 65536 ∷ stream 20 0 10 20 ∷ []) 1 4 (starts 0)
+    ∷ edge (stream 24 0 8 32 ∷ stream 8 8 8 16 ∷ []) 1 4 (starts 5)
+    ∷ edge (stream 8 7 7 28 ∷ stream 24 0 8 32 ∷ []) 2 4 (starts 5)
+    ∷ edge (stream 8 7 7 28 ∷ stream 24 0 8 32 ∷ []) 3 6 (starts 4)
     ∷ []
 
 -- R30, R14, R67: the pass on each side of its edges
-pub pass-edges : map (λ (e : Edge). passOf (gathered (e .lines)) (e .need) (e .period)) passEdges ≡ map (λ (e : Edge). e .says) passEdges
-unfolding due every endsBefore bound sumTo allTo fitting lastTo endsTo passOver passOf passEdges
+pub pass-edges : map (λ (e : Edge). passOf (e .lines) (e .need) (e .period)) passEdges ≡ map (λ (e : Edge). e .says) passEdges
+unfolding due every endsBefore bound sumOf allOf fitting lastOf endsBy passOver passOf passEdges
 pass-edges = refl
+
+-- slices of one length, and one of them short
+pub slices-edges : passedIn (8 ∷ []) (4 ∷ []) (4 ∷ []) (8 ∷ []) 1 4 ∷ passedIn (8 ∷ []) (4 ∷ []) (4 ∷ []) [] 1 4 ∷ [] ≡ starts 0 ∷ shortNow ∷ []
+unfolding due every endsBefore bound along sumOf allOf fitting lastOf endsBy passOver passOf
+slices-edges = refl

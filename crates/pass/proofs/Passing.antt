@@ -1,24 +1,25 @@
 -- The pass over the ends, end by end and line by line.
-use Prim.Native.Nat.{ℕ, zero, suc, _+_, _-_, _/_, _≤_, _<_, max}
+use Prim.Native.Nat.{ℕ, suc, _+_, _-_, _/_, _≤_, _<_, max}
 use mathlib.Core.Path.{_≡_, refl, sym, ap, _∙_}
 use mathlib.Core.Bool.{Bool, true, false, not}
 use mathlib.Core.List.{List, [], _∷_, _++_}
-use native.Mathlib.Nat.{le-trans, add-div-right, div-eq-of-lt}
+use native.Mathlib.Nat.{le-trans, le-add-left, mul-le-mul-right, add-div-right, div-eq-of-lt}
 use native.Mathlib.Numerals.{add-one}
-use native.Mathlib.Decide.{decLt, decLe}
+use native.Mathlib.Decide.{decLt}
 use native.Mathlib.Omega.{arith}
-use lib.ListN.{getD}
 use lib.Dec.{ltb}
-use borrow.Author.Tests.{lt-ltb, le-ltb}
+use borrow.Author.Tests.{lt-ltb, le-ltb, not-true, not-false}
 use Rattle.line.specs.Slots.{pick}
-use Rattle.line.specs.Ends.{countBefore, every, endsBefore, bound, anyOf, greatest}
+use Rattle.line.specs.declared.Stream.{Stream}
+use Rattle.line.specs.Streams.{countBefore, every, endsBefore}
+use Rattle.line.specs.Ends.{bound, anyOf, greatest}
 use Rattle.line.proofs.Search.{true-false}
-use Rattle.sums.specs.declared.Gathered.{Gathered}
-use Rattle.sums.specs.Lines.{PackedIn}
-use Rattle.sums.specs.Weighed.{fitting}
-use Rattle.sums.proofs.Weighing.{says-fitting}
+use Rattle.sums.specs.Lines.{along, linesOf, alike}
+use Rattle.sums.specs.Weighed.{fitting, fittingIn}
+use Rattle.sums.proofs.Along.{along-step, along-end, along-all}
+use Rattle.sums.proofs.Weighing.{fitting-says, unfit-is, fit-is}
 use Rattle.pass.specs.declared.Pass.{Pass}
-use Rattle.pass.specs.Pass.{demandTo, lastTo, endsTo, passOver, shortBy, boundBy, passBy, passIn, notPassed, passOf}
+use Rattle.pass.specs.Pass.{demandOf, lastOf, endsBy, passOver, shortBy, boundBy, passBy, passIn, notPassed, passOf, passedIn}
 use Rattle.pass.proofs.LastEnd.{last-small}
 
 -- ---- one line's ends
@@ -52,9 +53,6 @@ isShort r = record { short = true; start = r }
 abbrev isFine : ℕ → Pass
 isFine r = record { short = false; start = r }
 
-fine-by : (x : Pass) → x .short ≡ false → x ≡ isFine (x .start)
-fine-by x e = ap (λ (b : Bool). let y : Pass = record { short = b; start = x .start } in y) e
-
 module _ (short : ℕ → Bool) (f : ℕ → ℕ) where
   module _ (r d p last : ℕ) (h : 1 ≤ p) where
     line-short : d < last → short d ≡ true → passOver short f r (endsBefore d p last) ≡ isShort r
@@ -85,41 +83,28 @@ module _ (short : ℕ → Bool) (f : ℕ → ℕ) where
       ap (pick (short d) (isShort r)) (pass-append (max r (f d)) ds es)
       ∙ short-skips (short d) r (passOver short f (max r (f d)) ds) (λ s. passOver short f s es)
 
-  module _ (last : ℕ) (e p : List ℕ) where
-    all-none : (r : ℕ) → passOver short f r (endsTo last e p 0) ≡ isFine r
-    unfolding passOver endsTo
-    all-none r = refl
+  module _ (last : ℕ) (a : ℕ → Stream) (i n r : ℕ) where
+    -- a line's ends, and then those of the lines left
+    lines-step : i < n → passOver short f r (endsBy last (along a i (n - i)))
+        ≡ pick (passOver short f r (endsBefore (a i .end) (a i .period) last) .short) (passOver short f r (endsBefore (a i .end) (a i .period) last))
+        (passOver short f (passOver short f r (endsBefore (a i .end) (a i .period) last) .start) (endsBy last (along a (i + 1) (n - (i + 1)))))
+    unfolding endsBy
+    lines-step h =
+        ap (λ (l : List Stream). passOver short f r (endsBy last l)) (along-step a i n h)
+        ∙ pass-append r (endsBefore (a i .end) (a i .period) last) (endsBy last (along a (i + 1) (n - (i + 1))))
 
-    all-on : (r i b : ℕ) → passOver short f r (endsTo last e p i) ≡ isFine b
-        → passOver short f r (endsTo last e p (i + 1)) ≡ passOver short f b (endsBefore (getD e i 0) (getD p i 0) last)
-    unfolding endsTo
-    all-on r i b g = rw (add-one i, pass-append r (endsTo last e p i) (endsBefore (getD e i 0) (getD p i 0) last), g)
-
-    short-stays : (r n : ℕ) → passOver short f r (endsTo last e p n) .short ≡ true
-        → passOver short f r (endsTo last e p (suc n)) ≡ passOver short f r (endsTo last e p n)
-    unfolding endsTo
-    short-stays r n g = rw (pass-append r (endsTo last e p n) (endsBefore (getD e n 0) (getD p n 0) last), g)
-
-    -- once short, short
-    all-stop : (r i n : ℕ) → i ≤ n → passOver short f r (endsTo last e p i) .short ≡ true
-        → passOver short f r (endsTo last e p n) ≡ passOver short f r (endsTo last e p i)
-    all-stop r i zero h g = let z : i ≡ 0 = omega arith in rw z
-    all-stop r i (suc n) h g =
-        elim (decLe i n) [
-          | yes l ↦
-              let w = all-stop r i n l g in
-              short-stays r n (ap (λ (x : Pass). x .short) w ∙ g) ∙ w
-          | no l ↦ let z : i ≡ suc n = omega arith in rw z
-        ]
+    lines-end : n ≤ i → passOver short f r (endsBy last (along a i (n - i))) ≡ isFine r
+    unfolding passOver endsBy
+    lines-end h = ap (λ (l : List Stream). passOver short f r (endsBy last l)) (along-end a i n h)
 
 module _ (Cn Tn last : ℕ) (all : ℕ → ℕ) where
   -- a pass over one line's ends, from the start r, that has come to d with the start s
   pub record OneLine (e p r d s : ℕ) : Type 0 where
-    pub upto : d ≤ 131070
+    pub upto : d ≤ 131072
     pub same : passBy Cn Tn last all s (endsBefore d p last) ≡ passBy Cn Tn last all r (endsBefore e p last)
 
   -- no end is passed
-  pub one-start : (e p r : ℕ) → e ≤ 65535 → OneLine e p r e r
+  pub one-start : (e p r : ℕ) → e ≤ 65536 → OneLine e p r e r
   one-start e p r h = record { upto = omega arith; same = refl }
 
   module _ {e p r d s : ℕ} (v : OneLine e p r d s) (h : 1 ≤ p) where
@@ -130,7 +115,7 @@ module _ (Cn Tn last : ℕ) (all : ℕ → ℕ) where
           sym (line-short (shortBy all) (boundBy Cn Tn last all) s d p last h l (ap (ltb d) (sym g) ∙ lt-ltb d sum k)) ∙ v .same
 
       -- the end d is passed
-      pub one-on : {b u : ℕ} → p ≤ 65535 → last ≤ 65535 → sum ≤ d → b ≡ bound Cn Tn last d (d - sum) → u ≡ max s b → OneLine e p r (d + p) u
+      pub one-on : {b u : ℕ} → p ≤ 65536 → last ≤ 65536 → sum ≤ d → b ≡ bound Cn Tn last d (d - sum) → u ≡ max s b → OneLine e p r (d + p) u
       one-on w n k q m = record {
         upto = omega arith;
         same =
@@ -143,37 +128,42 @@ module _ (Cn Tn last : ℕ) (all : ℕ → ℕ) where
     pub one-end : last ≤ d → isFine s ≡ passBy Cn Tn last all r (endsBefore e p last)
     one-end l = sym (line-end (shortBy all) (boundBy Cn Tn last all) s d p last h l) ∙ v .same
 
-  -- a pass over the ends of all lines before the last end that has passed i lines of n with the start s
-  pub record EveryLine (e p : List ℕ) (n i s : ℕ) : Type 0 where
+  -- a pass over the ends of all lines before the last end that has passed i lines of n with the start s: with those left it is the whole
+  pub record EveryLine (a : ℕ → Stream) (n i s : ℕ) : Type 0 where
     pub upto : i ≤ n
-    pub known : last ≡ lastTo e n
-    pub same : passBy Cn Tn last all 0 (endsTo last e p i) ≡ isFine s
+    pub known : last ≡ lastOf (along a 0 n)
+    pub left : passBy Cn Tn last all s (endsBy last (along a i (n - i))) ≡ passBy Cn Tn last all 0 (endsBy last (along a 0 n))
 
   -- no line is passed
-  pub each-start : (e p : List ℕ) (n : ℕ) → last ≡ lastTo e n → EveryLine e p n 0 0
-  each-start e p n k = record { upto = omega arith; known = k; same = all-none (shortBy all) (boundBy Cn Tn last all) last e p 0 }
+  pub each-start : (a : ℕ → Stream) (n : ℕ) → last ≡ lastOf (along a 0 n) → EveryLine a n 0 0
+  each-start a n k = record {
+    upto = omega arith;
+    known = k;
+    left = ap (λ (l : List Stream). passBy Cn Tn last all 0 (endsBy last l)) (along-all a n);
+  }
 
-  module _ {e p : List ℕ} {n i s : ℕ} (v : EveryLine e p n i s) where
+  module _ {a : ℕ → Stream} {n i s : ℕ} (v : EveryLine a n i s) where
     abbrev passUpTo : ℕ → Pass
-    passUpTo m = passBy Cn Tn m all 0 (endsTo m e p n)
+    passUpTo m = passBy Cn Tn m all 0 (endsBy m (along a 0 n))
 
-    module _ {x : Pass} (h : i < n) (g : x ≡ passBy Cn Tn last all s (endsBefore (getD e i 0) (getD p i 0) last)) where
-      through : passBy Cn Tn last all 0 (endsTo last e p (i + 1)) ≡ x
-      through = all-on (shortBy all) (boundBy Cn Tn last all) last e p 0 i s (v .same) ∙ sym g
+    module _ {x : Pass} (h : i < n) (g : x ≡ passBy Cn Tn last all s (endsBefore (a i .end) (a i .period) last)) where
+      abbrev after : Pass
+      after = passBy Cn Tn last all (x .start) (endsBy last (along a (i + 1) (n - (i + 1))))
+
+      through : pick (x .short) x after ≡ passUpTo last
+      through = rw g (sym (lines-step (shortBy all) (boundBy Cn Tn last all) last a i n s h)) ∙ v .left
 
       -- an end of line i is short
-      pub each-short : x .short ≡ true → x ≡ passUpTo (lastTo e n)
-      each-short k =
-          sym (all-stop (shortBy all) (boundBy Cn Tn last all) last e p 0 (i + 1) n (omega arith) (ap (λ (y : Pass). y .short) through ∙ k) ∙ through)
-          ∙ ap passUpTo (v .known)
+      pub each-short : x .short ≡ true → x ≡ passUpTo (lastOf (along a 0 n))
+      each-short k = sym (ap (λ (b : Bool). pick b x after) k) ∙ through ∙ ap passUpTo (v .known)
 
       -- line i is passed
-      pub each-on : x .short ≡ false → EveryLine e p n (i + 1) (x .start)
-      each-on k = record { upto = omega arith; known = v .known; same = through ∙ fine-by x k }
+      pub each-on : x .short ≡ false → EveryLine a n (i + 1) (x .start)
+      each-on k = record { upto = omega arith; known = v .known; left = sym (ap (λ (b : Bool). pick b x after) k) ∙ through }
 
     -- no line is left
-    pub each-end : n ≤ i → isFine s ≡ passUpTo (lastTo e n)
-    each-end h = let z : i ≡ n = omega (arith, v .upto) in rw z at (sym (v .same)) ∙ ap passUpTo (v .known)
+    pub each-end : n ≤ i → isFine s ≡ passUpTo (lastOf (along a 0 n))
+    each-end h = sym (lines-end (shortBy all) (boundBy Cn Tn last all) last a i n s h) ∙ v .left ∙ ap passUpTo (v .known)
 
 -- ---- what the pass says
 
@@ -209,37 +199,47 @@ module _ (short : ℕ → Bool) (f : ℕ → ℕ) where
   pass-most z m r (d ∷ ds) h =
       most-one (short d) r (passOver short f (max r (f d)) ds) z h (pass-most z m (max r (f d)) ds (omega (arith, m d)))
 
-bound-most : (Cn Tn last d s : ℕ) → bound Cn Tn last d s ≤ last
+bound-most : (Cn Tn last d s : ℕ) → bound Cn Tn last d s ≤ last - Tn
 unfolding bound
-bound-most Cn Tn last d s = omega arith
+bound-most Cn Tn last d s = omega (arith, mul-le-mul-right Tn (le-add-left 1 (s / Cn)))
 
 -- ---- lines that are fit, and those that are not
 
--- R14, R3: the start has sixteen bits
-pub start-near : (g : Gathered) (Cn Tn : ℕ) → PackedIn g → passIn g Cn Tn .start ≤ 65535
-start-near g Cn Tn v =
-    let last = lastTo (g .end) (g .count) in
-    let all : ℕ → ℕ = demandTo (g .end) (g .remaining) (g .need) (g .period) (g .count) in
+in-near : (l : List Stream) (Cn Tn : ℕ) → fitting l ≡ true → 1 ≤ Tn → passIn l Cn Tn .start ≤ 65535
+in-near l Cn Tn e h =
     le-trans
-    (pass-most (shortBy all) (boundBy Cn Tn last all) last (λ d. bound-most Cn Tn last d (d - all d)) 0 (endsTo last (g .end) (g .period) (g .count)) (omega arith))
-    (last-small (g .end) (g .remaining) (g .need) (g .period) (g .count) v)
+    (pass-most (shortBy (demandOf l)) (boundBy Cn Tn (lastOf l) (demandOf l)) (lastOf l - Tn) (λ d. bound-most Cn Tn (lastOf l) d (d - demandOf l d)) 0 (endsBy (lastOf l) l) (omega arith))
+    (omega (arith, last-small l (fitting-says l e)))
 
-module _ (g : Gathered) (Cn Tn : ℕ) {b : Bool} {r : Pass} (e : b ≡ fitting g) where
-  -- the lines are not fit
-  pub ends-unfit : not b ≡ true → r ≡ notPassed → r ≡ passOf g Cn Tn
+near-one : (b m : Bool) (x : Pass) → (b ≡ true → x .start ≤ 65535) → pick (not b) notPassed (pick m notPassed x) .start ≤ 65535
+near-one true true x h = omega arith
+near-one true false x h = h refl
+near-one false m x h = omega arith
+
+-- R14, R3: the start has sixteen bits
+pub start-near : (l : List Stream) (Cn Tn : ℕ) → 1 ≤ Tn → passOf l Cn Tn .start ≤ 65535
+unfolding passOf
+start-near l Cn Tn h = near-one (fitting l) (ltb Cn 1) (passIn l Cn Tn) (λ e. in-near l Cn Tn e h)
+
+module _ (e c n p : List ℕ) (Cn Tn : ℕ) {b : Bool} {r : Pass} (t : b ≡ fittingIn e c n p) where
+  -- the slices differ in length, or the lines are not fit
+  pub ends-unfit : not b ≡ true → r ≡ notPassed → r ≡ passedIn e c n p Cn Tn
   unfolding passOf
-  ends-unfit n p = rw (← e, n) p
+  ends-unfit m q = q ∙ unfit-is (alike e c n p) (fitting (linesOf e c n p)) notPassed _ (sym t ∙ not-true b m)
+
+  fit-ends : not b ≡ false → r ≡ pick (ltb Cn 1) notPassed (passIn (linesOf e c n p) Cn Tn) → r ≡ passedIn e c n p Cn Tn
+  unfolding passOf
+  fit-ends m q = q ∙ fit-is (alike e c n p) (fitting (linesOf e c n p)) notPassed _ (sym t ∙ not-false b m)
 
   -- the need is 0
-  pub ends-needless : not b ≡ false → Cn < 1 → r ≡ notPassed → r ≡ passOf g Cn Tn
-  unfolding passOf
-  ends-needless n h p = rw (← e, n, lt-ltb Cn 1 h) p
+  pub ends-needless : not b ≡ false → Cn < 1 → r ≡ notPassed → r ≡ passedIn e c n p Cn Tn
+  ends-needless m h q = fit-ends m (rw (lt-ltb Cn 1 h) q)
 
   -- neither
-  pub ends-passed : not b ≡ false → 1 ≤ Cn → r ≡ passIn g Cn Tn → r ≡ passOf g Cn Tn
-  unfolding passOf
-  ends-passed n h p = rw (← e, n, le-ltb Cn 1 h) p
+  pub ends-passed : not b ≡ false → 1 ≤ Cn → r ≡ passIn (linesOf e c n p) Cn Tn → r ≡ passedIn e c n p Cn Tn
+  ends-passed m h q = fit-ends m (rw (le-ltb Cn 1 h) q)
 
 -- R30, R14: of fit lines and a need above 0 it is the pass
-pub pass-fit : (g : Gathered) (Cn Tn : ℕ) → PackedIn g → 1 ≤ Cn → passOf g Cn Tn ≡ passIn g Cn Tn
-pass-fit g Cn Tn v h = sym (ends-passed g Cn Tn (sym (says-fitting g v)) refl h refl)
+pub pass-fit : (l : List Stream) (Cn Tn : ℕ) → fitting l ≡ true → 1 ≤ Cn → passOf l Cn Tn ≡ passIn l Cn Tn
+unfolding passOf
+pass-fit l Cn Tn e h = rw (e, le-ltb Cn 1 h)

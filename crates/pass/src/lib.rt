@@ -3,10 +3,10 @@ ghost use mathlib.Core.Path.{_≡_};
 ghost use Prim.Native.Nat.{ℕ, _≤_, _<_, min, max};
 ghost use lib.Dec.{leb};
 ghost use lib.ListN.{getD};
-ghost use Rattle.line.specs.Demand.{due};
-ghost use Rattle.line.specs.Ends.{endsBefore, bound};
-ghost use Rattle.sums.specs.Lines.{lineWith, sumTo, Fit, Packed, PackedIn};
-ghost use Rattle.pass.specs.Pass.{demandTo, lastTo, passBy, passIn, notPassed, passOf, FitNew};
+ghost use Rattle.line.specs.Streams.{stream, due, endsBefore};
+ghost use Rattle.line.specs.Ends.{bound};
+ghost use Rattle.sums.specs.Lines.{along, sumOf, linesOf, most, Fit, Packed};
+ghost use Rattle.pass.specs.Pass.{demandOf, lastOf, passBy, passIn, notPassed, passedIn, FitNew};
 
 // R30, R14: whether an end was short, and if none was, the start that the ends leave.
 pub struct Pass {
@@ -14,22 +14,22 @@ pub struct Pass {
     pub start: u32,
 }
 
-// R10: one line's demand d ticks after the clock
-fn demand_one(end: u32, remaining: u32, need: u32, period: u32, d: u32) -> u32
-    requires { ⌜ Fit (lineWith end remaining need period) × (d ≤ 65535) ⌝ }
-    ensures { λ r. ⌜ (r ≡ due end remaining need period d) × (r ≤ 131070) ⌝ }
+// R10: one line's demand d ticks after the clock; its ends come a gap apart
+fn demand_one(end: u32, remaining: u32, need: u32, gap: u32, d: u32) -> u32
+    requires { ⌜ Fit (stream end remaining need gap) × (d ≤ 65535) ⌝ }
+    ensures { λ r. ⌜ (r ≡ due end remaining need gap d) × (r ≤ 131071) ⌝ }
 {
     if d < end {
         0
     } else {
-        remaining + need * ((d - end) / period)
+        remaining + need * ((d - end) / gap)
     }
 }
 
 // the first `count` terms, added up
-fn add(terms: &[u32; 16], count: usize) -> u32
-    requires { ⌜ (count ≤ 16) × ((k : ℕ) → k < count → getD (now terms) k 0 ≤ 131070) ⌝ }
-    ensures { λ r. ⌜ r ≡ sumTo (λ k. getD (now (terms .entry)) k 0) count ⌝ }
+fn add(terms: &[u32; sums::MOST], count: usize) -> u32
+    requires { ⌜ (count ≤ most) × ((k : ℕ) → k < count → getD (now terms) k 0 ≤ 131071) ⌝ }
+    ensures { λ r. ⌜ r ≡ sumOf (λ x. x) (along (λ k. getD (now (terms .entry)) k 0) 0 count) ⌝ }
 {
     let mut sum: u32 = 0;
     let mut i: usize = 0;
@@ -43,20 +43,20 @@ fn add(terms: &[u32; 16], count: usize) -> u32
 // R10, R12: the demand of the running lines at d: each line's in an array, and their sum. The array stays here, since it would be copied at every
 // end if it were handed on by value.
 fn demand_sum<'a>(
-    end: &'a [u32; 16],
-    remaining: &'a [u32; 16],
-    need: &'a [u32; 16],
-    period: &'a [u32; 16],
-    count: usize,
+    ends: &'a [u32],
+    remaining: &'a [u32],
+    needs: &'a [u32],
+    gaps: &'a [u32],
     d: u32,
 ) -> u32
-    requires { ⌜ Packed (now end) (now remaining) (now need) (now period) count × (d ≤ 65535) ⌝ }
-    ensures { λ r. ⌜ r ≡ demandTo (now (end .entry)) (now (remaining .entry)) (now (need .entry)) (now (period .entry)) count d ⌝ }
+    requires { ⌜ Packed (now ends) (now remaining) (now needs) (now gaps) × (d ≤ 65535) ⌝ }
+    ensures { λ r. ⌜ r ≡ demandOf (linesOf (now (ends .entry)) (now (remaining .entry)) (now (needs .entry)) (now (gaps .entry))) d ⌝ }
 {
-    let mut terms = [0; 16];
+    let mut terms = [0; sums::MOST];
     let mut i: usize = 0;
+    let count = ends.len();
     while i < count {
-        let x = demand_one(end[i], remaining[i], need[i], period[i], d);
+        let x = demand_one(ends[i], remaining[i], needs[i], gaps[i], d);
         terms[i] = x;
         i = i + 1;
     }
@@ -100,14 +100,13 @@ fn bound_at(need: u32, period: u32, last: u32, d: u32, s: u32) -> u32
 }
 
 // R15: the greatest first end, or 0 where no line runs.
-fn last_end(end: &[u32; 16], count: usize) -> u32
-    requires { ⌜ count ≤ 16 ⌝ }
-    ensures { λ r. ⌜ r ≡ lastTo (now (end .entry)) count ⌝ }
+fn last_end<'a>(ends: &'a [u32], remaining: &'a [u32], needs: &'a [u32], gaps: &'a [u32]) -> u32
+    ensures { λ r. ⌜ r ≡ lastOf (linesOf (now (ends .entry)) (now (remaining .entry)) (now (needs .entry)) (now (gaps .entry))) ⌝ }
 {
     let mut last: u32 = 0;
     let mut i: usize = 0;
-    while i < count {
-        last = greater(last, end[i]);
+    while i < ends.len() {
+        last = greater(last, ends[i]);
         i = i + 1;
     }
     last
@@ -122,24 +121,23 @@ struct New {
 
 // R30, R14: the ends from `e` on, every p ticks; at each one demand sum, for the refusal and for the bound on the start.
 fn pass_line<'a>(
-    end: &'a [u32; 16],
-    remaining: &'a [u32; 16],
-    need: &'a [u32; 16],
-    period: &'a [u32; 16],
-    count: usize,
+    ends: &'a [u32],
+    remaining: &'a [u32],
+    needs: &'a [u32],
+    gaps: &'a [u32],
     new: New,
     e: u32,
     p: u32,
     best: u32,
 ) -> Pass
-    requires { ⌜ Packed (now end) (now remaining) (now need) (now period) count × FitNew new × (1 ≤ p) × (p ≤ 65535) × (e ≤ 65535) ⌝ }
-    ensures { λ r. ⌜ r ≡ passBy (new .need) (new .period) (new .last) (demandTo (now (end .entry)) (now (remaining .entry)) (now (need .entry)) (now (period .entry)) count) best (endsBefore e p (new .last)) ⌝ }
+    requires { ⌜ Packed (now ends) (now remaining) (now needs) (now gaps) × FitNew new × (1 ≤ p) × (p ≤ 65536) × (e ≤ 65536) ⌝ }
+    ensures { λ r. ⌜ r ≡ passBy (new .need) (new .period) (new .last) (demandOf (linesOf (now (ends .entry)) (now (remaining .entry)) (now (needs .entry)) (now (gaps .entry)))) best (endsBefore e p (new .last)) ⌝ }
 {
     let mut start = best;
     let mut d = e;
     let last = new.last;
     while d < last {
-        let sum = demand_sum(end, remaining, need, period, count, d);
+        let sum = demand_sum(ends, remaining, needs, gaps, d);
         if !passes(sum, d) {
             return Pass {
                 short: true,
@@ -157,16 +155,18 @@ fn pass_line<'a>(
 }
 
 // R30, R14: the ends of each running line before the last end, lowest slot first.
-fn pass_all(g: sums::Gathered, need: u16, period: u16) -> Pass
-    requires { ⌜ PackedIn g × (1 ≤ need) ⌝ }
-    ensures { λ r. ⌜ r ≡ passIn g need period ⌝ }
+fn pass_all<'a>(
+    ends: &'a [u32],
+    remaining: &'a [u32],
+    needs: &'a [u32],
+    gaps: &'a [u32],
+    need: u16,
+    period: u16,
+) -> Pass
+    requires { ⌜ Packed (now ends) (now remaining) (now needs) (now gaps) × (1 ≤ need) ⌝ }
+    ensures { λ r. ⌜ r ≡ passIn (linesOf (now (ends .entry)) (now (remaining .entry)) (now (needs .entry)) (now (gaps .entry))) need period ⌝ }
 {
-    let count = g.count;
-    let end = g.end;
-    let left = g.remaining;
-    let needs = g.need;
-    let periods = g.period;
-    let last = last_end(&end, count);
+    let last = last_end(ends, remaining, needs, gaps);
     let new = New {
         need: need as u32,
         period: period as u32,
@@ -174,10 +174,10 @@ fn pass_all(g: sums::Gathered, need: u16, period: u16) -> Pass
     };
     let mut start: u32 = 0;
     let mut i: usize = 0;
-    while i < count {
-        let e = end[i];
-        let p = periods[i];
-        let r = pass_line(&end, &left, &needs, &periods, count, new, e, p, start);
+    while i < ends.len() {
+        let e = ends[i];
+        let p = gaps[i];
+        let r = pass_line(ends, remaining, needs, gaps, new, e, p, start);
         if r.short {
             return r;
         }
@@ -200,15 +200,22 @@ fn not_passed() -> Pass
     }
 }
 
-// R30, R14: the pass over the ends. Lines that are not fit, and a need of 0, count as short at the clock.
-pub fn over_ends(g: sums::Gathered, need: u16, period: u16) -> Pass
-    ensures { λ r. ⌜ r ≡ passOf g need period ⌝ }
+// R30, R14: the pass over the ends. Slices that differ in length, lines that are not fit, and a need of 0, count as short at the clock.
+pub fn over_ends<'a>(
+    ends: &'a [u32],
+    remaining: &'a [u32],
+    needs: &'a [u32],
+    gaps: &'a [u32],
+    need: u16,
+    period: u16,
+) -> Pass
+    ensures { λ r. ⌜ r ≡ passedIn (now (ends .entry)) (now (remaining .entry)) (now (needs .entry)) (now (gaps .entry)) need period ⌝ }
 {
-    if !sums::fits(g) {
+    if !sums::fits(ends, remaining, needs, gaps) {
         return not_passed();
     }
     if need < 1 {
         return not_passed();
     }
-    pass_all(g, need, period)
+    pass_all(ends, remaining, needs, gaps, need, period)
 }

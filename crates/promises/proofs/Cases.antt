@@ -5,13 +5,13 @@ use mathlib.Core.List.{List, [], _∷_, _++_, map}
 use native.Mathlib.Omega.{arith}
 use lib.ListN.{length, getD, replicate}
 use Rattle.periods.specs.Multiples.{euclid, gcdOf, lcmOf, frameFrom}
-use Rattle.line.specs.Slots.{total, lowest}
-use Rattle.line.specs.Demand.{due, lastEnd}
-use Rattle.line.specs.Stretch.{stretched}
+use Rattle.line.specs.Slots.{total, mapAt, lowest}
+use Rattle.line.specs.Streams.{due, every, endsBefore}
+use Rattle.line.specs.Demand.{lastEnd}
 use Rattle.line.specs.Shares.{periodsIn}
-use Rattle.line.specs.Ends.{every, endsBefore, endsOf, slack, bound, greatest, anyOf, start}
+use Rattle.line.specs.Ends.{endsOf, slack, bound, greatest, anyOf, start}
 use Rattle.table.specs.declared.Request.{Request}
-use Rattle.table.specs.Words.{emptyTable, refusal}
+use Rattle.table.specs.Words.{requestWith, emptyTable, refusal}
 use Rattle.table.specs.Ask.{askIn, askOf}
 use Rattle.table.specs.Step.{chosen, advance, stepOf}
 use Rattle.table.specs.Runs.{Act, asking, admitting, stepping, run}
@@ -46,7 +46,7 @@ free n = replicate (9 * n) 0
 
 -- a new line beside lines with these T'
 abbrev new : (T' : List ℕ) (need period : ℕ) → Request
-new ts c p = record { stretched = ts ++ replicate (16 - length ts) 0; need = c; period = p }
+new ts c p = requestWith (ts ++ replicate (16 - length ts) 0) c p
 
 -- some acts from the empty table, and the bytes of the image then
 pub record ImageCase : Type 0 where
@@ -82,12 +82,12 @@ imageCases =
 
 -- R78: the bytes after the acts over the boundary
 pub image-cases : map (λ (c : ImageCase). imageRun (c .acts) (imageOf emptyTable)) imageCases ≡ map (λ (c : ImageCase). c .image) imageCases
-unfolding euclid gcdOf lcmOf frameFrom total lowest due lastEnd stretched periodsIn every endsBefore endsOf slack bound greatest anyOf start askIn askOf chosen advance stepOf imageOf blankFrom slotsWrong lengthWrong wrongIn heldIn loadWith storeOf
+unfolding euclid gcdOf lcmOf frameFrom total lowest due lastEnd mapAt periodsIn every endsBefore endsOf slack bound greatest anyOf start askIn askOf chosen advance stepOf imageOf blankFrom slotsWrong lengthWrong wrongIn heldIn loadWith storeOf
 image-cases = refl
 
 -- R78: and the image of the table after the same acts
 pub table-cases : map (λ (c : ImageCase). imageOf (run (c .acts) emptyTable)) imageCases ≡ map (λ (c : ImageCase). c .image) imageCases
-unfolding euclid gcdOf lcmOf frameFrom total lowest due lastEnd stretched periodsIn every endsBefore endsOf slack bound greatest anyOf start askIn askOf chosen advance stepOf imageOf
+unfolding euclid gcdOf lcmOf frameFrom total lowest due lastEnd mapAt periodsIn every endsBefore endsOf slack bound greatest anyOf start askIn askOf chosen advance stepOf imageOf
 table-cases = refl
 
 -- ---- answers
@@ -106,7 +106,7 @@ pub answer-cases :
     ∷ stepAfter [] ∷ stepAfter one ∷ stepAfter three ∷ stepAfter (one ++ (stepping ∷ stepping ∷ [])) ∷ [])
     ≡ (grantedAs 0 0 ∷ grantedAs 1 0 ∷ refusedAs (refusal 8 0) ∷ refusedAs (refusal 5 0)
     ∷ grantedAs 0 255 ∷ grantedAs 0 0 ∷ grantedAs 0 1 ∷ grantedAs 0 255 ∷ [])
-unfolding euclid gcdOf lcmOf frameFrom total lowest due lastEnd stretched periodsIn every endsBefore endsOf slack bound greatest anyOf start askIn askOf chosen advance stepOf imageOf blankFrom slotsWrong lengthWrong wrongIn heldIn loadWith storeOf
+unfolding euclid gcdOf lcmOf frameFrom total lowest due lastEnd mapAt periodsIn every endsBefore endsOf slack bound greatest anyOf start askIn askOf chosen advance stepOf imageOf blankFrom slotsWrong lengthWrong wrongIn heldIn loadWith storeOf
 answer-cases = refl
 
 -- R74, R35: the last tick that a step goes on from, and the one after it
@@ -161,5 +161,5 @@ tooWide = admitting (new [] 1 65536) ∷ stepping ∷ []
 
 -- R78: where a number is wider the bytes are not the image of the run's table: its period is lost and the step is refused
 pub wider-is-lost : imageRun tooWide (imageOf emptyTable) ≡ imageOf (run tooWide emptyTable) → ⊥
-unfolding euclid gcdOf lcmOf frameFrom total lowest due lastEnd stretched periodsIn every endsBefore endsOf slack bound greatest anyOf start askIn askOf chosen advance stepOf imageOf blankFrom slotsWrong lengthWrong wrongIn heldIn loadWith storeOf
+unfolding euclid gcdOf lcmOf frameFrom total lowest due lastEnd mapAt periodsIn every endsBefore endsOf slack bound greatest anyOf start askIn askOf chosen advance stepOf imageOf blankFrom slotsWrong lengthWrong wrongIn heldIn loadWith storeOf
 wider-is-lost e = let z : _≡_ {A = ℕ} 0 1 = ap (λ (l : List ℕ). getD l 1 0) e in omega arith

@@ -26,7 +26,7 @@ least-start t q a r h e = subst (Answers t q) e (h .answers) .1
 -- the first that holds is one that holds
 some-first : (rs : List Row) (t : Table) (q : Request) (x : Refusal) → FirstOf rs t q x → SomeOf rs t q
 some-first [] t q x h = h
-some-first (r ∷ rs) t q x h = ⊎-elim (λ a. inl (a .0, a .1)) (λ a. inr (some-first rs t q x (a .1))) h
+some-first (r ∷ rs) t q x h = ⊎-elim (λ a. inl (x, a)) (λ a. inr (some-first rs t q x (a .1))) h
 
 -- where none holds, not one does
 none-some : (rs : List Row) (t : Table) (q : Request) → NoneOf rs t q → SomeOf rs t q → ⊥

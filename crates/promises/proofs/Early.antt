@@ -2,39 +2,38 @@
 use mathlib.Core.Path.{_≡_, refl, sym, ap, _∙_, subst}
 use mathlib.Core.Logic.{_⊎_, inl, inr, ⊎-elim}
 use mathlib.Core.Option.{Option, none, some}
-use mathlib.Core.List.{List, [], _∷_}
 use Prim.Native.Nat.{ℕ, zero, suc, _+_, _-_, _^_, _≤_, _<_}
 use native.Mathlib.Nat.{not-suc-le-zero}
 use native.Mathlib.Numerals.{add-one}
 use native.Mathlib.Omega.{arith}
 use borrow.Author.Tests.{lt-leb}
+use lib.ListN.{length}
 use Rattle.line.specs.declared.Held.{Held}
 use Rattle.line.specs.declared.Held.the-variants.{Nothing, Running, Waiting}
-use Rattle.line.specs.declared.Slot.{Slot}
 use Rattle.table.specs.declared.Table.{Table}
 use Rattle.table.specs.declared.Request.{Request}
 use Rattle.table.specs.declared.Stepped.{Stepped}
-use Rattle.line.specs.Slots.{at, Each, lowestOf}
+use Rattle.line.specs.Slots.{at, Each, Waits, lowestOf}
 use Rattle.table.specs.Words.{refusal, gives, refuses}
 use Rattle.line.specs.Sound.{Sound}
 use Rattle.line.specs.Demand.{demands, newDemand, endOf, lastEnd, Smooth}
 use Rattle.table.specs.Grounds.{entry, asked}
-use Rattle.line.specs.Stretch.{stretch, stretched}
+use Rattle.line.specs.Stretch.{stretch}
 use Rattle.line.specs.Shares.{frame}
 use Rattle.table.specs.Ask.{says, askOf}
-use Rattle.table.specs.Admit.{newLine, admittedAt}
-use Rattle.table.specs.Step.{saysRan, choose, serve, refusedStep, advance, stepOf}
+use Rattle.table.specs.Admit.{admittedAt}
+use Rattle.table.specs.Step.{saysRan, choose, serve, refusedStep, ticked, advance, stepOf}
 use Rattle.table.proofs.Step.{slot-of-which}
 use Rattle.line.specs.Tick.{short}
-use Rattle.theory.specs.Fine.{wantedAll, May, Kept, ticked}
+use Rattle.theory.specs.Fine.{May, Kept}
 use Rattle.theory.specs.Given.{Granted}
 use Rattle.theory.proofs.Numbers.{split}
-use Rattle.theory.proofs.Tail.{no-excess-from-last-end}
+use Rattle.theory.proofs.Tail.{last-within, no-excess-from-last-end}
 use Rattle.theory.proofs.Granted.{says-start, granted}
-use Rattle.theory.proofs.Stretched.{running-stretched}
-use Rattle.theory.proofs.Pump.{sound-serve, sound-pass, earliest-may, wantedAll-now, excess-kept}
+use Rattle.line.proofs.Stretched.{length-stretched, at-stretched}
+use Rattle.theory.proofs.Pump.{sound-serve, sound-pass, earliest-may, demands-now, excess-kept}
 use Rattle.theory.proofs.Step.{short-none, none-unsound, choose-earliest, advanced}
-use Rattle.theory.proofs.Admitted.{admitted-wanted, admitted-sound}
+use Rattle.theory.proofs.Admitted.{admitted-demands, admitted-sound}
 use Rattle.promises.specs.Demand3.{stepped, Sixteen, Misses}
 use Rattle.promises.proofs.Good.{slot-empty, admitted-slots}
 
@@ -52,10 +51,10 @@ short-step t i s h e = sound-step t s h ∙ rw e
 
 -- R77: n ticks ahead there is excess: a step before that reports 14
 pub runs-short : (n last : ℕ) (t : Table) → Each Sound (t .slots) → t .clock + n < last → last ≤ 2 ^ 48
-    → n < wantedAll (t .clock) (t .slots) (t .clock + n) → Misses t last
+    → n < demands (t .clock) (t .slots) (t .clock + n) → Misses t last
 runs-short zero last t s b l x =
     let z : t .clock + 0 ≡ t .clock = omega arith in
-    absurd (omega (arith, wantedAll-now (t .clock) (t .slots) s, rw z at x))
+    absurd (omega (arith, demands-now (t .clock) (t .slots) s, rw z at x))
 runs-short (suc n) last t s b l x = go (lowestOf short (serve o (t .slots))) refl (runs-short n last next)
   where
     o : Option ℕ
@@ -79,7 +78,7 @@ runs-short (suc n) last t s b l x = go (lowestOf short (serve o (t .slots))) ref
             subst (λ (s : Stepped). (p : Option ℕ) × (saysRan (stepOf (stepped m (s .table)) .outcome) ≡ gives p)) (sym e) (w .goes m (omega arith))
 
     go : (p : Option ℕ) → lowestOf short (serve o (t .slots)) ≡ p
-        → (Each Sound (next .slots) → next .clock + n < last → last ≤ 2 ^ 48 → n < wantedAll (next .clock) (next .slots) (next .clock + n) → Misses next last)
+        → (Each Sound (next .slots) → next .clock + n < last → last ≤ 2 ^ 48 → n < demands (next .clock) (next .slots) (next .clock + n) → Misses next last)
         → Misses t last
     go (some i) e rest = record {
       steps = 0;
@@ -93,7 +92,7 @@ runs-short (suc n) last t s b l x = go (lowestOf short (serve o (t .slots))) ref
         let m : May o (t .slots) = earliest-may o (t .slots) (choose-earliest (t .slots)) in
         let y = excess-kept (t .clock) o (t .slots) (t .clock + suc n) s m v (omega arith) (omega arith) in
         let a : t .clock + suc n ≡ t .clock + 1 + n = omega arith in
-        let c : wantedAll (t .clock + 1) (next .slots) (t .clock + 1 + n) ≡ wantedAll (suc (t .clock)) (next .slots) (t .clock + suc n) =
+        let c : demands (t .clock + 1) (next .slots) (t .clock + 1 + n) ≡ demands (suc (t .clock)) (next .slots) (t .clock + suc n) =
         rw (add-one (t .clock), ← add-one (t .clock), a) refl in
         later (rest (sound-pass (serve o (t .slots)) (sound-serve o (t .slots) m s)) (omega arith) l (omega (arith, y .0, c)))
         (sound-step t s (omega arith) ∙ advanced o t v)
@@ -109,16 +108,17 @@ search-excess f (suc n) =
     (λ x. inr (x .0, omega (arith, x .1), x .2))
     (search-excess f n)
 
--- the last end is within a sixteen-bit number of the clock
-end-near : (t0 : ℕ) (p : ℕ) (h : Held) → p < 2 ^ 16 → endOf t0 (stretch p h) < t0 + 2 ^ 16
-end-near t0 p Nothing b = omega arith
-end-near t0 p (Running r) b = omega arith
-end-near t0 p (Waiting w) b = omega arith
+-- the last end is within a sixteen-bit number of the clock, where no line waits
+end-near : (t0 : ℕ) (p : ℕ) (h : Held) → p < 2 ^ 16 → (Waits h → ⊥) → endOf t0 (stretch p h) < t0 + 2 ^ 16
+end-near t0 p Nothing b n = omega arith
+end-near t0 p (Running r) b n = omega arith
+end-near t0 p (Waiting w) b n = absurd (n refl)
 
-last-near : (t0 : ℕ) (l : List Slot) (p : ℕ → ℕ) → ((i : ℕ) → p i < 2 ^ 16) → lastEnd t0 (stretched l p) < t0 + 2 ^ 16
-unfolding lastEnd stretched
-last-near t0 [] p b = omega arith
-last-near t0 (s ∷ l) p b = omega (arith, end-near t0 (p 0) (s .held) (b 0), last-near t0 l (λ i. p (suc i)) (λ i. b (suc i)))
+last-near : (t : Table) (q : Request) → Sixteen q → Each (λ h. Waits h → ⊥) (t .slots) → lastEnd (t .clock) (asked t q) < t .clock + 2 ^ 16
+last-near t q six n =
+    last-within (t .clock) (2 ^ 16) (asked t q) (omega arith)
+    (λ i b. let c : i < length (t .slots) = rw (← length-stretched (t .slots) (entry q)) b in
+    rw (at-stretched (t .slots) (entry q) i) (end-near (t .clock) (entry q i) (at (t .slots) i) (six i) (n i c)))
 
 -- an earlier start has excess at some tick before the last end
 early-excess : (t : Table) (q : Request) (r r' : ℕ) → Granted t q r → t .clock ≤ r' → r' < r
@@ -150,10 +150,9 @@ no-earlier t q r r' six e late less =
     let w = early-excess t q r r' g late less in
     let l = asked t q in
     let s = admitted-slots t q r' (g .slot) (g .lowest-empty) in
-    let n = newLine (q .need) (q .period) (r' - t .clock) in
-    let same = admitted-wanted (t .clock) l (g .slot) (q .need) (q .period) r' (t .clock + w .0) (running-stretched (t .slots) (entry q) (g .longer) (g .none-waits)) (k .2) (k .3)
+    let same = admitted-demands (t .clock) l (g .slot) (q .need) (q .period) r' (t .clock + w .0) (k .2) (k .3)
     (omega (arith, d .new-some, d .new-fits)) late in
     runs-short (w .0) (lastEnd (t .clock) l) (admittedAt t q r')
     (rw s (admitted-sound l (g .slot) (q .need) (q .period) (r' - t .clock) (d .sound) (d .new-some) (d .new-fits)))
-    (w .1) (omega (arith, last-near (t .clock) (t .slots) (entry q) six, g .early))
+    (w .1) (omega (arith, last-near t q six (g .none-waits), g .early))
     (rw s (omega (arith, same, w .2)))

@@ -9,11 +9,12 @@ use lib.ListN.{take, drop, replicate}
 use Rattle.periods.specs.Multiples.{euclid, gcdOf, lcmOf, frameFrom}
 use Rattle.table.specs.declared.Table.{Table}
 use Rattle.table.specs.declared.Request.{Request}
-use Rattle.line.specs.Slots.{total, lowest}
-use Rattle.line.specs.Demand.{due, lastEnd}
-use Rattle.line.specs.Stretch.{stretched}
+use Rattle.line.specs.Slots.{total, mapAt, lowest}
+use Rattle.line.specs.Streams.{due, every, endsBefore}
+use Rattle.line.specs.Demand.{lastEnd}
 use Rattle.line.specs.Shares.{periodsIn}
-use Rattle.line.specs.Ends.{every, endsBefore, endsOf, slack, bound, greatest, anyOf, start}
+use Rattle.line.specs.Ends.{endsOf, slack, bound, greatest, anyOf, start}
+use Rattle.table.specs.Words.{requestWith}
 use Rattle.table.specs.Ask.{askIn, askOf}
 use Rattle.table.specs.Step.{chosen, advance, stepOf}
 use Rattle.table.specs.Runs.{Act, asking, admitting, stepping, run, trace, times}
@@ -45,7 +46,7 @@ abbrev oneLine : Table
 oneLine = tableOf 5 (running 1 4 0 1 ∷ [])
 
 abbrev toPeriod : ℕ → Request
-toPeriod p = record { stretched = p ∷ replicate 15 0; need = 1; period = 4 }
+toPeriod p = requestWith (p ∷ replicate 15 0) 1 4
 
 -- R76: at the tick 5 itself it is not before 5
 pub stretch-at-the-tick : Unstretched 0 5 (admitting (toPeriod 8) ∷ []) oneLine
@@ -53,7 +54,7 @@ stretch-at-the-tick = ((λ h s. omega arith), tt)
 
 -- R76: it is before 6
 pub stretch-before-the-tick : Unstretched 0 6 (admitting (toPeriod 8) ∷ []) oneLine → ⊥
-unfolding euclid gcdOf lcmOf frameFrom total lowest due lastEnd stretched periodsIn every endsBefore endsOf slack bound greatest anyOf start askIn askOf
+unfolding euclid gcdOf lcmOf frameFrom total lowest due lastEnd mapAt periodsIn every endsBefore endsOf slack bound greatest anyOf start askIn askOf
 stretch-before-the-tick u = u .0 (omega arith) ((5, refl), omega arith)
 
 -- R76: an equal period is no stretch, nor is a longer one that is only asked for
@@ -64,7 +65,7 @@ no-stretch = (((λ h s. omega (arith, s .1)), tt), ((λ h s. s), tt))
 
 -- R76: in case A slot 2 waits five ticks, and of the four ticks from its start on it gets one
 pub trace-A : trace onFromCaseA (admitted-table toCaseA (caseA .request)) ≡ replicate 8 (some 1) ++ (some 2 ∷ [])
-unfolding euclid gcdOf lcmOf frameFrom total lowest due lastEnd stretched periodsIn every endsBefore endsOf slack bound greatest anyOf start askIn askOf chosen advance stepOf
+unfolding euclid gcdOf lcmOf frameFrom total lowest due lastEnd mapAt periodsIn every endsBefore endsOf slack bound greatest anyOf start askIn askOf chosen advance stepOf
 trace-A = refl
 
 -- R73, R76: a tick that goes to nobody names no slot, and a refused step is no tick
@@ -75,26 +76,26 @@ times-edges = (refl, refl, refl)
 
 -- nine ticks, and then at 17, when slot 2 has had its period, it is stretched
 abbrev stretchedAfter : List Act
-stretchedAfter = onFromCaseA ++ (admitting (record { stretched = replicate 16 32; need = 1; period = 32 }) ∷ [])
+stretchedAfter = onFromCaseA ++ (admitting (requestWith (replicate 16 32) 1 32) ∷ [])
 
 stretched-in-time : Unstretched 2 (13 + 4) stretchedAfter (admitted-table toCaseA (caseA .request))
-unfolding euclid gcdOf lcmOf frameFrom total lowest due lastEnd stretched periodsIn every endsBefore endsOf slack bound greatest anyOf start askIn askOf chosen advance stepOf
+unfolding euclid gcdOf lcmOf frameFrom total lowest due lastEnd mapAt periodsIn every endsBefore endsOf slack bound greatest anyOf start askIn askOf chosen advance stepOf
 stretched-in-time =
     ((λ h s. s), ((λ h s. s), ((λ h s. s), ((λ h s. s), ((λ h s. s), ((λ h s. s), ((λ h s. s), ((λ h s. s), ((λ h s. s), ((λ h s. omega arith), tt))))))))))
 
 stretched-late : 13 + 4 ≤ run stretchedAfter (admitted-table toCaseA (caseA .request)) .clock
-unfolding euclid gcdOf lcmOf frameFrom total lowest due lastEnd stretched periodsIn every endsBefore endsOf slack bound greatest anyOf start askIn askOf chosen advance stepOf
+unfolding euclid gcdOf lcmOf frameFrom total lowest due lastEnd mapAt periodsIn every endsBefore endsOf slack bound greatest anyOf start askIn askOf chosen advance stepOf
 stretched-late = omega arith
 
 -- R76: a stretch at one period after the start comes too late to matter
 pub need-before-the-stretch : times 2 (take 4 (drop 5 (trace stretchedAfter (admitted-table toCaseA (caseA .request))))) ≡ 1
-unfolding euclid gcdOf lcmOf frameFrom total lowest due lastEnd stretched periodsIn every endsBefore endsOf slack bound greatest anyOf start askIn askOf chosen advance stepOf
+unfolding euclid gcdOf lcmOf frameFrom total lowest due lastEnd mapAt periodsIn every endsBefore endsOf slack bound greatest anyOf start askIn askOf chosen advance stepOf
 need-before-the-stretch = has-all-its-need toCaseA (caseA .request) 13 2 case-A-admitted stretchedAfter stretched-in-time stretched-late
 
 -- ---- sixteen bits
 
 abbrev withFirst : ℕ → Request
-withFirst p = record { stretched = p ∷ []; need = 1; period = 4 }
+withFirst p = requestWith (p ∷ []) 1 4
 
 -- R6: 65,535 is one, 65,536 is none
 pub sixteen-edges : Sixteen (withFirst 65535) × (Sixteen (withFirst 65536) → ⊥)

@@ -5,11 +5,11 @@ use native.Mathlib.Omega.{arith}
 use lib.ListN.{getD, replicate}
 use Rattle.periods.specs.Multiples.{euclid, gcdOf, lcmOf, frameFrom}
 use Rattle.table.specs.Words.{emptyTable}
-use Rattle.line.specs.Slots.{total, lowest}
-use Rattle.line.specs.Demand.{due, lastEnd}
-use Rattle.line.specs.Stretch.{stretched}
+use Rattle.line.specs.Slots.{total, mapAt, lowest}
+use Rattle.line.specs.Streams.{due, every, endsBefore}
+use Rattle.line.specs.Demand.{lastEnd}
 use Rattle.line.specs.Shares.{periodsIn}
-use Rattle.line.specs.Ends.{every, endsBefore, endsOf, slack, bound, greatest, anyOf, start}
+use Rattle.line.specs.Ends.{endsOf, slack, bound, greatest, anyOf, start}
 use Rattle.table.specs.Ask.{askIn, askOf}
 use Rattle.table.specs.Admit.{admittedAt}
 use Rattle.table.specs.Step.{chosen, advance, stepOf}
@@ -21,17 +21,17 @@ use Rattle.promises.proofs.Demand3.{no-earlier-start}
 
 -- R73: a run
 pub comes-to-case-A : run toCaseA emptyTable ≡ caseA .table
-unfolding euclid gcdOf lcmOf frameFrom total lowest due lastEnd stretched periodsIn every endsBefore endsOf slack bound greatest anyOf start askIn askOf chosen advance stepOf
+unfolding euclid gcdOf lcmOf frameFrom total lowest due lastEnd mapAt periodsIn every endsBefore endsOf slack bound greatest anyOf start askIn askOf chosen advance stepOf
 comes-to-case-A = refl
 
 -- R75: an admission in a run: slot 2 is granted 13
 pub case-A-admitted : Admission toCaseA (caseA .request) 13 2
-unfolding euclid gcdOf lcmOf frameFrom total lowest due lastEnd stretched periodsIn every endsBefore endsOf slack bound greatest anyOf start askIn askOf chosen advance stepOf
+unfolding euclid gcdOf lcmOf frameFrom total lowest due lastEnd mapAt periodsIn every endsBefore endsOf slack bound greatest anyOf start askIn askOf chosen advance stepOf
 case-A-admitted = record { granted = refl; slot = refl }
 
 -- R76: the steps go on to 17, and none stretches slot 2
 pub case-A-goes-on : 13 + 4 ≤ run onFromCaseA (admitted-table toCaseA (caseA .request)) .clock
-unfolding euclid gcdOf lcmOf frameFrom total lowest due lastEnd stretched periodsIn every endsBefore endsOf slack bound greatest anyOf start askIn askOf chosen advance stepOf
+unfolding euclid gcdOf lcmOf frameFrom total lowest due lastEnd mapAt periodsIn every endsBefore endsOf slack bound greatest anyOf start askIn askOf chosen advance stepOf
 case-A-goes-on = omega arith
 
 -- R76: none of them stretches slot 2
@@ -51,5 +51,5 @@ sixteen-A (suc (suc i)) = zeros 14 i
 
 -- R77: at 8 some period ends short before 32
 pub case-A-at-once-misses : Misses (admittedAt (caseA .table) (caseA .request) 8) 32
-unfolding euclid gcdOf lcmOf frameFrom total lowest due lastEnd stretched periodsIn every endsBefore endsOf slack bound greatest anyOf start askIn askOf
+unfolding euclid gcdOf lcmOf frameFrom total lowest due lastEnd mapAt periodsIn every endsBefore endsOf slack bound greatest anyOf start askIn askOf
 case-A-at-once-misses = no-earlier-start (caseA .table) (caseA .request) 13 8 sixteen-A refl (omega arith) (omega arith)

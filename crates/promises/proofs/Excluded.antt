@@ -5,13 +5,12 @@ use mathlib.Core.List.{List}
 use native.Mathlib.Omega.{arith}
 use lib.ListN.{getD, replicate}
 use Rattle.line.specs.declared.Held.{Held}
-use Rattle.line.specs.declared.Held.the-variants.{Nothing, Running, Waiting}
 use Rattle.table.specs.declared.Table.{Table}
 use Rattle.table.specs.declared.Request.{Request}
 use Rattle.table.specs.declared.Answer.{Answer}
 use Rattle.table.specs.declared.Stepped.{Stepped}
 use Rattle.table.specs.Words.{emptyTable, Said, gives}
-use Rattle.line.specs.Slots.{at, lowest}
+use Rattle.line.specs.Slots.{runOf, ifRuns, at, lowest}
 use Rattle.table.specs.Grounds.{asked, Answers}
 use Rattle.table.specs.Ask.{says}
 use Rattle.table.specs.Step.{chosen, advance, stepOf}
@@ -53,7 +52,7 @@ no-ask-says-the-clock f m r =
 
 -- R68: the closed formula, in case B
 pub no-ask-uses-the-closed-formula : (f : Table → Request → Answer) → MeetsAsk f
-    → says (f (caseB .table) (caseB .request)) ≡ gives (closedStart 6 (record { need = 8; period = 16; age = 6; remaining = 2 }) 32) → ⊥
+    → says (f (caseB .table) (caseB .request)) ≡ gives (closedStart 6 (runOf 8 16 6 2) 32) → ⊥
 unfolding cases
 no-ask-uses-the-closed-formula f m r =
     let x : _≡_ {A = Said ℕ} (gives 6) (gives 8) = sym (right-in f m caseB (cases-answer .1 .0)) ∙ r ∙ ap gives closed-formula-B in
@@ -89,9 +88,7 @@ no-step-leaves-the-table f m r =
     omega arith
 
 abbrev remaining : Held → ℕ
-remaining Nothing = 0
-remaining (Running r) = r .remaining
-remaining (Waiting w) = 0
+remaining h = ifRuns 0 (λ r. r .remaining) h
 
 -- in case A the tick at 8 goes to slot 1
 case-A-serves : at (stepOf (caseA .table) .table .slots) 1 ≡ at (caseA .table .slots) 1 → ⊥

@@ -4,22 +4,23 @@ use mathlib.Core.Option.{Option}
 use mathlib.Core.List.{List, [], _∷_, _++_}
 use Prim.Native.Nat.{ℕ, zero, suc, _+_, _-_, _^_, _≤_, _<_}
 use native.Mathlib.Omega.{arith}
-use borrow.Author.Tests.{lt-ltb}
 use lib.ListN.{length, take, drop}
+use Rattle.line.specs.declared.Held.{Held}
+use Rattle.line.specs.declared.Held.the-variants.{Running}
 use Rattle.table.specs.declared.Table.{Table}
 use Rattle.table.specs.declared.Request.{Request}
 use Rattle.table.specs.declared.Stepped.{Stepped}
-use Rattle.line.specs.Slots.{at}
-use Rattle.line.specs.Tick.{fresh, Owed, passed}
+use Rattle.line.specs.Slots.{runOf, Is, at}
+use Rattle.line.specs.Tick.{Owed, passed}
 use Rattle.table.specs.Admit.{newLine}
-use Rattle.table.specs.Step.{choose, serve, pass, stepOf}
+use Rattle.table.specs.Step.{choose, serve, pass, ticked, stepOf}
 use Rattle.table.specs.Runs.{Act, asking, admitting, stepping, after, run, ranIn, trace, isSlot, times}
 use Rattle.table.proofs.Step.{slot-of-which}
-use Rattle.theory.specs.Fine.{line, May, Kept, ticked}
+use Rattle.theory.specs.Fine.{May, Kept}
 use Rattle.theory.proofs.Numbers.{split}
 use Rattle.theory.proofs.Pump.{never-short, earliest-may}
 use Rattle.theory.proofs.Step.{choose-earliest}
-use Rattle.theory.proofs.Trace.{at-pass, length-serve, length-tick, owed-or-got, not-served, nearer, not-yet}
+use Rattle.theory.proofs.Trace.{at-pass, length-serve, length-tick, is-passed, owed-or-got, not-served, nearer, not-yet}
 use Rattle.promises.specs.Demand3.{Unstretched}
 use Rattle.promises.proofs.Good.{Good, at-last, good-after}
 use Rattle.promises.proofs.Kept.{admit-clock, admit-length, admit-running, admit-kept, admit-waiting, step-table, clock-after}
@@ -59,23 +60,23 @@ next t = ticked (choose (t .slots)) t .table
 good-next : (t : Table) → Good t → t .clock < 2 ^ 48 → Good (next t)
 good-next t g h = subst (λ (s : Stepped). Good (s .table)) (step-table t g h) (good-after stepping t g)
 
-one-tick : (t : Table) (k C P a x : ℕ) → Good t → k < length (t .slots) → at (t .slots) k ≡ line C P a x → a < P
+one-tick : (t : Table) (k C P a x : ℕ) → Good t → k < length (t .slots) → Is C P a x (at (t .slots) k) → a < P
     → (y : ℕ) × (y + isSlot k (choose (t .slots)) ≡ x) × (P ≤ a + 1 → y ≡ 0)
-    × (a + 1 < P → at (pass (serve (choose (t .slots)) (t .slots))) k ≡ line C P (a + 1) y)
+    × (a + 1 < P → Is C P (a + 1) y (at (pass (serve (choose (t .slots)) (t .slots))) k))
 one-tick t k C P a x g b e h =
     let o = choose (t .slots) in
     let s = owed-or-got o (t .slots) k C P a x (choice-may t) e in
-    let v : Kept (line C P a (s .0)) = subst Kept (s .1) (never-short o (g .fine) (choose-earliest (t .slots)) k (rw length-serve b)) in (
+    let l = s .1 in
+    let v : Kept (Running (l .0)) = subst Kept (l .1) (never-short o (g .fine) (choose-earliest (t .slots)) k (rw length-serve b)) in (
       s .0,
       s .2,
-      v,
-      λ c. let f : passed (line C P a (s .0)) ≡ line C P (a + 1) (s .0) = rw (lt-ltb (a + 1) P c) in
-          at-pass (serve o (t .slots)) k ∙ ap passed (s .1) ∙ f,
+      (λ c. sym (l .5) ∙ v (omega (arith, l .3, l .4))),
+      λ c. rw (at-pass (serve o (t .slots)) k) (is-passed (at (serve o (t .slots)) k) l c),
     )
 
 -- a line's rest of a period from what it has left after one tick of it
-rest-tick : (rest : List Act) (t : Table) (k C P a x : ℕ) → Good t → k < length (t .slots) → at (t .slots) k ≡ line C P a x → a < P
-    → ((y : ℕ) → at (next t .slots) k ≡ line C P (a + 1) y → a + 1 < P → Rest k (next t .clock + (P - (a + 1))) (P - (a + 1)) y rest (next t) (trace rest (next t)))
+rest-tick : (rest : List Act) (t : Table) (k C P a x : ℕ) → Good t → k < length (t .slots) → Is C P a x (at (t .slots) k) → a < P
+    → ((y : ℕ) → Is C P (a + 1) y (at (next t .slots) k) → a + 1 < P → Rest k (next t .clock + (P - (a + 1))) (P - (a + 1)) y rest (next t) (trace rest (next t)))
     → Rest k (t .clock + (P - a)) (P - a) x rest (next t) (choose (t .slots) ∷ trace rest (next t))
 rest-tick rest t k C P a x g b e h more u r =
     let s = one-tick t k C P a x g b e h in
@@ -87,7 +88,7 @@ rest-tick rest t k C P a x g b e h more u r =
     (λ c. rw m (omega (arith, s .1, more (s .0) (s .3 c) c (rw z at u) (rw z at r))))
 
 -- so a line of age a that is owed x gets exactly x by the end of its period
-pub gets-rest : (more : List Act) (t : Table) (k C P a x : ℕ) → Good t → k < length (t .slots) → at (t .slots) k ≡ line C P a x → a < P
+pub gets-rest : (more : List Act) (t : Table) (k C P a x : ℕ) → Good t → k < length (t .slots) → Is C P a x (at (t .slots) k) → a < P
     → Rest k (t .clock + (P - a)) (P - a) x more t (trace more t)
 gets-rest [] t k C P a x g b e h u r = absurd (omega arith)
 gets-rest (asking q ∷ rest) t k C P a x g b e h u r = gets-rest rest t k C P a x g b e h (u .1) r
@@ -109,6 +110,10 @@ waits-on t k C P w e =
     let s = not-served (choose (t .slots)) (t .slots) k (choice-may t) (λ v. not-yet C P w (subst Owed e v)) in
     at-pass (serve (choose (t .slots)) (t .slots)) k ∙ ap passed (s .0 ∙ e) ∙ nearer C P w
 
+-- R43: a line that has no more to wait is at the beginning of a period
+begun-is : (C P : ℕ) {h : Held} → h ≡ newLine C P 0 → Is C P 0 C h
+begun-is C P e = (runOf C P 0 C, e, refl, refl, refl, refl)
+
 -- in the run `more` from t, which has the trace tr: not stretched before `until` and run so far, slot k is named C times in the n ticks after the first w
 abbrev After : (k until w n C : ℕ) → List Act → Table → List (Option ℕ) → Type 0
 After k until w n C more t tr = Unstretched k until more t → until ≤ run more t .clock → times k (take n (drop w tr)) ≡ C
@@ -119,7 +124,7 @@ pub gets-need : (more : List Act) (t : Table) (k C P w : ℕ) → Good t → k <
 gets-need more t k C P zero g b p e u r =
     let z : t .clock + 0 + P ≡ t .clock + (P - 0) = omega arith in
     let y : P ≡ P - 0 = omega arith in
-    subst (λ (n : ℕ). times k (take n (trace more t)) ≡ C) (sym y) (gets-rest more t k C P 0 C g b e (omega arith) (rw z at u) (rw z at r))
+    subst (λ (n : ℕ). times k (take n (trace more t)) ≡ C) (sym y) (gets-rest more t k C P 0 C g b (begun-is C P e) (omega arith) (rw z at u) (rw z at r))
 gets-need [] t k C P (suc w) g b p e u r = absurd (omega arith)
 gets-need (asking q ∷ rest) t k C P (suc w) g b p e u r = gets-need rest t k C P (suc w) g b p e (u .1) r
 gets-need (admitting q ∷ rest) t k C P (suc w) g b p e u r =
@@ -137,7 +142,7 @@ gets-need (stepping ∷ rest) t k C P (suc w) g b p e u r =
 -- after the run `more` from t slot k is at the beginning of a period of at least P, exactly P if no act before `until` stretches it
 abbrev Started : (k C P until : ℕ) → List Act → Table → Type 0
 Started k C P until more t =
-    (T : ℕ) × (at (run more t .slots) k ≡ fresh C T) × (P ≤ T) × (Unstretched k until more t → T ≡ P)
+    (T : ℕ) × Is C T 0 C (at (run more t .slots) k) × (P ≤ T) × (Unstretched k until more t → T ≡ P)
 
 -- in the run `more` from t, should it end at the tick `start`
 abbrev Starts : (k C P start : ℕ) → List Act → Table → Type 0
@@ -148,35 +153,41 @@ one-more : (k C P until : ℕ) (a : Act) (rest : List Act) (t : Table) → Start
 one-more k C P until a rest t s = (s .0, s .1, s .2, λ u. s .3 (u .1))
 
 -- an admission that finds it at the beginning of its first period may stretch it
-started-admit : (q : Request) (rest : List Act) (t : Table) (k C P : ℕ) → k < length (t .slots) → at (t .slots) k ≡ fresh C P
-    → ((T : ℕ) → at (after (admitting q) t .slots) k ≡ fresh C T → Started k C T (t .clock + 1) rest (after (admitting q) t))
+started-admit : (q : Request) (rest : List Act) (t : Table) (k C P : ℕ) → k < length (t .slots) → Is C P 0 C (at (t .slots) k)
+    → ((T : ℕ) → Is C T 0 C (at (after (admitting q) t .slots) k) → Started k C T (t .clock + 1) rest (after (admitting q) t))
     → Started k C P (t .clock + 1) (admitting q ∷ rest) t
 started-admit q rest t k C P b e later =
     let w = admit-running t q k C P 0 C e b in
     let s = later (w .0) (w .1) in
     (s .0, s .1, omega (arith, w .2, s .2), λ u. s .3 (u .1) ∙ w .3 (u .0 (omega arith)))
 
+-- a line at the beginning of its first period, while the clock stays
+at-once : (more : List Act) (t : Table) (k C P : ℕ) → Good t → k < length (t .slots) → Is C P 0 C (at (t .slots) k)
+    → Starts k C P (t .clock) more t
+at-once [] t k C P g b e h = (P, e, omega arith, λ u. refl)
+at-once (asking q ∷ rest) t k C P g b e h = one-more k C P (t .clock + 1) (asking q) rest t (at-once rest t k C P g b e h)
+at-once (admitting q ∷ rest) t k C P g b e h =
+    let c = admit-clock t q in
+    started-admit q rest t k C P b e
+    (λ T f. rw c at (at-once rest (after (admitting q) t) k C T (good-after (admitting q) t g) (rw (admit-length t q) b) f (h ∙ sym c)))
+at-once (stepping ∷ rest) t k C P g b e h =
+    split (2 ^ 48) (t .clock)
+    (λ l. one-more k C P (t .clock + 1) stepping rest t (subst (λ (s : Stepped). Starts k C P (t .clock) rest (s .table)) (sym (at-last t l)) (at-once rest t k C P g b e) h))
+    (λ l. let c : stepOf t .table .clock ≡ t .clock + 1 = ap (λ (s : Stepped). s .table .clock) (step-table t g l) in
+    absurd (omega (arith, clock-run rest (stepOf t .table) (good-after stepping t g))))
+
 -- R75: at the tick of its start the line runs, with all its need before it
 pub at-start : (more : List Act) (t : Table) (k C P w : ℕ) → Good t → k < length (t .slots) → at (t .slots) k ≡ newLine C P w
     → Starts k C P (t .clock + w) more t
-at-start [] t k C P zero g b e h = (P, e, omega arith, λ u. refl)
-at-start [] t k C P (suc w) g b e h = absurd (omega arith)
-at-start (asking q ∷ rest) t k C P w g b e h = one-more k C P (t .clock + w + 1) (asking q) rest t (at-start rest t k C P w g b e h)
-at-start (admitting q ∷ rest) t k C P zero g b e h =
+at-start more t k C P zero g b e =
     let z : t .clock + 0 ≡ t .clock = omega arith in
-    let c = admit-clock t q in
-    rw z (started-admit q rest t k C P b e
-    (λ T f. let y : after (admitting q) t .clock + 0 ≡ t .clock = omega (arith, c) in
-    rw y at (at-start rest (after (admitting q) t) k C T 0 (good-after (admitting q) t g) (rw (admit-length t q) b) f (omega (arith, c)))))
-at-start (admitting q ∷ rest) t k C P (suc w) g b e h =
+    rw z (at-once more t k C P g b (begun-is C P e))
+at-start [] t k C P (suc w) g b e = λ h. absurd (omega arith)
+at-start (asking q ∷ rest) t k C P (suc w) g b e = λ h. one-more k C P (t .clock + suc w + 1) (asking q) rest t (at-start rest t k C P (suc w) g b e h)
+at-start (admitting q ∷ rest) t k C P (suc w) g b e = λ h.
     one-more k C P (t .clock + suc w + 1) (admitting q) rest t
     (subst (Starts k C P (t .clock + suc w) rest) (sym (admit-waiting t q k C P w e b)) (at-start rest t k C P (suc w) g b e) h)
-at-start (stepping ∷ rest) t k C P zero g b e h =
-    split (2 ^ 48) (t .clock)
-    (λ l. one-more k C P (t .clock + 0 + 1) stepping rest t (subst (λ (s : Stepped). Starts k C P (t .clock + 0) rest (s .table)) (sym (at-last t l)) (at-start rest t k C P 0 g b e) h))
-    (λ l. let c : stepOf t .table .clock ≡ t .clock + 1 = ap (λ (s : Stepped). s .table .clock) (step-table t g l) in
-    absurd (omega (arith, clock-run rest (stepOf t .table) (good-after stepping t g))))
-at-start (stepping ∷ rest) t k C P (suc w) g b e h =
+at-start (stepping ∷ rest) t k C P (suc w) g b e = λ h.
     split (2 ^ 48) (t .clock)
     (λ l. one-more k C P (t .clock + suc w + 1) stepping rest t (subst (λ (s : Stepped). Starts k C P (t .clock + suc w) rest (s .table)) (sym (at-last t l)) (at-start rest t k C P (suc w) g b e) h))
     (λ l. let z : t .clock + 1 + w ≡ t .clock + suc w = omega arith in

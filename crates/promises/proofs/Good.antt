@@ -13,7 +13,7 @@ use Rattle.table.specs.declared.Answer.{Answer}
 use Rattle.table.specs.declared.Answer.the-variants.{Start, Refused}
 use Rattle.table.specs.declared.Stepped.{Stepped}
 use Rattle.table.specs.Words.{emptyTable}
-use Rattle.line.specs.Slots.{at, isNothing, lowestOf}
+use Rattle.line.specs.Slots.{holding, at, isNothing, lowestOf}
 use Rattle.table.specs.Grounds.{entry, asked}
 use Rattle.line.specs.Stretch.{stretch}
 use Rattle.line.specs.Shares.{frame}
@@ -28,7 +28,6 @@ use Rattle.theory.proofs.Numbers.{split}
 use Rattle.theory.proofs.Tests.{nothing-says}
 use Rattle.theory.proofs.Granted.{granted}
 use Rattle.line.proofs.Stretched.{length-stretched, at-stretched}
-use Rattle.theory.proofs.Stretched.{running-stretched}
 use Rattle.theory.proofs.Admitted.{admitted-fine, empty-fine}
 use Rattle.theory.proofs.Step.{fine-step, fine-stepped}
 
@@ -54,8 +53,8 @@ slot-empty t q k e =
 
 -- R43: with an empty slot at k the new line stands there, beside the lines at their T'
 pub admitted-slots : (t : Table) (q : Request) (r k : ℕ) → lowestOf isNothing (t .slots) ≡ some k
-    → admittedAt t q r .slots ≡ putAt (some k) (newLine (q .need) (q .period) (r - t .clock)) (asked t q)
-admitted-slots t q r k e = ap (λ (o : Option ℕ). putAt o (newLine (q .need) (q .period) (r - t .clock)) (asked t q)) e
+    → admittedAt t q r .slots ≡ putAt (some k) (holding (newLine (q .need) (q .period) (r - t .clock))) (asked t q)
+admitted-slots t q r k e = ap (λ (o : Option ℕ). putAt o (holding (newLine (q .need) (q .period) (r - t .clock))) (asked t q)) e
 
 -- R42: a granted request makes a good table
 pub good-admitted : (t : Table) (q : Request) (r : ℕ) → Granted t q r → Good (admittedAt t q r)
@@ -66,7 +65,7 @@ good-admitted t q r g =
       multiple = frame (asked t q) (q .period);
       fine = subst (Fine (frame (asked t q) (q .period)) (t .clock)) (sym (admitted-slots t q r (g .slot) (g .lowest-empty)))
           (admitted-fine (frame (asked t q) (q .period)) (t .clock) (asked t q) (g .slot) (q .need) (q .period) r (d .sound)
-          (running-stretched (t .slots) (entry q) (g .longer) (g .none-waits)) (d .some-frame) (d .divides) (d .new-divides) (d .eight) (d .new-some) (d .new-fits)
+          (d .some-frame) (d .divides) (d .new-divides) (d .eight) (d .new-some) (d .new-fits)
           (e .2) (e .3) (g .least .smooth));
       clock-in = omega (arith, g .early);
     }

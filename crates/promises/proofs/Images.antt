@@ -26,7 +26,7 @@ use Rattle.house.specs.Tables.{changed, askFor, admittedIn, afterAdmit, ranAs, 
 use Rattle.promises.specs.Demand3.{Unfailing}
 use Rattle.promises.specs.Images.{AllNarrowed, imageBy, imageRun, LeftByContract, EmptyImage, ActsAlike, AnswersAlike, ImageRuns, ImageLoads, UnfailingStep, NeverMissedOnImages}
 use Rattle.promises.proofs.Demand3.{never-missed}
-use Rattle.promises.proofs.Widths.{wide-after}
+use Rattle.promises.proofs.Widths.{narrow-empty, wide-after}
 
 -- R85, R87, R88: the bytes that the contracts leave
 pub left-by-contract : LeftByContract
@@ -78,7 +78,7 @@ answers-alike t w = (λ q. ap (λ (s : Said Table). askFor s q) (loads-back 16 t
 
 -- R4: the empty table has the code's widths
 pub wide-empty : Wide 16 emptyTable
-wide-empty = record { slots = refl; clock = omega arith; lines = omega arith }
+wide-empty = record { slots = refl; clock = omega arith; lines = narrow-empty 16 }
 
 -- R78: a run from the image of any table with the code's widths
 pub image-run-from : (acts : List Act) (t : Table) → AllNarrowed acts → Wide 16 t → (imageRun acts (imageOf t) ≡ imageOf (run acts t)) × Wide 16 (run acts t)

@@ -1,5 +1,5 @@
 -- What an act leaves of one slot: an admission leaves a line that it does not stretch, a step serves it or lets it wait.
-use mathlib.Core.Path.{_≡_, refl, sym, ap, _∙_}
+use mathlib.Core.Path.{_≡_, refl, sym, ap, _∙_, subst}
 use mathlib.Core.Option.{Option, none, some}
 use mathlib.Core.List.{List}
 use Prim.Native.Nat.{ℕ, suc, _+_, _-_, _^_, _≤_, _<_}
@@ -7,27 +7,26 @@ use native.Mathlib.Omega.{arith}
 use borrow.Author.Tests.{lt-ltb}
 use lib.ListN.{length, length-set}
 use lib.Seq.{getD-set-same, getD-set-other}
-use Rattle.line.specs.declared.Held.{Held}
-use Rattle.line.specs.declared.Held.the-variants.{Nothing}
+use Rattle.line.specs.declared.Held.the-variants.{Nothing, Running}
 use Rattle.line.specs.declared.Slot.{Slot}
 use Rattle.table.specs.declared.Table.{Table}
 use Rattle.table.specs.declared.Request.{Request}
 use Rattle.table.specs.declared.Answer.{Answer}
 use Rattle.table.specs.declared.Answer.the-variants.{Start, Refused}
 use Rattle.table.specs.declared.Stepped.{Stepped}
-use Rattle.line.specs.Slots.{empty, at, isNothing, lowestOf}
+use Rattle.line.specs.Slots.{holding, empty, Is, at, isNothing, lowestOf}
 use Rattle.table.specs.Grounds.{entry, asked}
 use Rattle.line.specs.Stretch.{stretch}
 use Rattle.table.specs.Ask.{says, askOf}
 use Rattle.table.specs.Admit.{newLine, putAt, admittedAt, admitWith}
-use Rattle.table.specs.Step.{choose, stepOf}
+use Rattle.table.specs.Step.{choose, ticked, stepOf}
 use Rattle.table.specs.Runs.{Act, asking, admitting, stepping, after}
-use Rattle.theory.specs.Fine.{line, ticked}
 use Rattle.theory.specs.Given.{Granted}
 use Rattle.theory.proofs.Numbers.{split}
 use Rattle.theory.proofs.Granted.{granted}
 use Rattle.line.proofs.Stretched.{length-stretched, at-stretched}
 use Rattle.theory.proofs.Step.{fine-step}
+use Rattle.theory.proofs.Trace.{is-stretched}
 use Rattle.promises.specs.Demand3.{Stretches}
 use Rattle.promises.proofs.Good.{Good, at-last, slot-empty, admitted-slots}
 
@@ -41,16 +40,16 @@ admit-clock t q = go (askOf t q)
     go (Start r) = refl
     go (Refused x) = refl
 
-length-put : (o : Option ℕ) (h : Held) (l : List Slot) → length (putAt o h l) ≡ length l
-length-put none h l = refl
-length-put (some k) h l = length-set l k (record { held = h })
+length-put : (o : Option ℕ) (s : Slot) (l : List Slot) → length (putAt o s l) ≡ length l
+length-put none s l = refl
+length-put (some k) s l = length-set l k s
 
 -- an admission leaves the number of slots as it was
 pub admit-length : (t : Table) (q : Request) → length (after (admitting q) t .slots) ≡ length (t .slots)
 admit-length t q = go (askOf t q)
   where
     go : (a : Answer) → length (admitWith t q a .table .slots) ≡ length (t .slots)
-    go (Start r) = length-put (lowestOf isNothing (t .slots)) (newLine (q .need) (q .period) (r - t .clock)) (asked t q) ∙ length-stretched (t .slots) (entry q)
+    go (Start r) = length-put (lowestOf isNothing (t .slots)) (holding (newLine (q .need) (q .period) (r - t .clock))) (asked t q) ∙ length-stretched (t .slots) (entry q)
     go (Refused x) = refl
 
 -- the new line stands in the slot it was given
@@ -58,51 +57,53 @@ pub admitted-new : (t : Table) (q : Request) (r k : ℕ) → lowestOf isNothing 
     → at (admittedAt t q r .slots) k ≡ newLine (q .need) (q .period) (r - t .clock)
 admitted-new t q r k e =
     ap (λ (l : List Slot). at l k) (admitted-slots t q r k e)
-    ∙ ap (λ (s : Slot). s .held) (getD-set-same (asked t q) k (record { held = newLine (q .need) (q .period) (r - t .clock) }) empty (slot-empty t q k e .2))
+    ∙ ap (λ (s : Slot). s .held) (getD-set-same (asked t q) k (holding (newLine (q .need) (q .period) (r - t .clock))) empty (slot-empty t q k e .2))
 
 -- a running line keeps its place, at its T'
-admitted-old : (t : Table) (q : Request) (r j C P a x : ℕ) → Granted t q r → at (t .slots) j ≡ line C P a x
-    → at (admittedAt t q r .slots) j ≡ line C (entry q j) a x
-admitted-old t q r j C P a x g e =
-    let k = g .slot in
-    ap (λ (l : List Slot). at l j) (admitted-slots t q r k (g .lowest-empty))
-    ∙ ap (λ (s : Slot). s .held) (getD-set-other (asked t q) k j (record { held = newLine (q .need) (q .period) (r - t .clock) }) empty (other k (slot-empty t q k (g .lowest-empty) .1)))
-    ∙ at-stretched (t .slots) (entry q) j
-    ∙ ap (stretch (entry q j)) e
+admitted-old : (t : Table) (q : Request) (r j C P a x : ℕ) → Granted t q r → Is C P a x (at (t .slots) j)
+    → Is C (entry q j) a x (at (admittedAt t q r .slots) j)
+admitted-old t q r j C P a x g e = rw stands (is-stretched (entry q j) (at (t .slots) j) e)
   where
     other : (k : ℕ) → at (t .slots) k ≡ Nothing → j ≡ k → ⊥
     other k n z =
-        let m : line C P a x ≡ Nothing = sym e ∙ ap (at (t .slots)) z ∙ n in
+        let m : Running (e .0) ≡ Nothing = sym (e .1) ∙ ap (at (t .slots)) z ∙ n in
         let y : _≡_ {A = ℕ} 0 1 = cc in omega arith
 
+    stands : at (admittedAt t q r .slots) j ≡ stretch (entry q j) (at (t .slots) j)
+    stands =
+        let k = g .slot in
+        ap (λ (l : List Slot). at l j) (admitted-slots t q r k (g .lowest-empty))
+        ∙ ap (λ (s : Slot). s .held) (getD-set-other (asked t q) k j (holding (newLine (q .need) (q .period) (r - t .clock))) empty (other k (slot-empty t q k (g .lowest-empty) .1)))
+        ∙ at-stretched (t .slots) (entry q) j
+
 -- whatever the answer, it runs with a period that is not shorter, and where it was not stretched with its own
-pub admit-running : (t : Table) (q : Request) (j C P a x : ℕ) → at (t .slots) j ≡ line C P a x → j < length (t .slots)
-    → (T : ℕ) × (at (after (admitting q) t .slots) j ≡ line C T a x) × (P ≤ T) × ((Stretches j (admitting q) t → ⊥) → T ≡ P)
+pub admit-running : (t : Table) (q : Request) (j C P a x : ℕ) → Is C P a x (at (t .slots) j) → j < length (t .slots)
+    → (T : ℕ) × Is C T a x (at (after (admitting q) t .slots) j) × (P ≤ T) × ((Stretches j (admitting q) t → ⊥) → T ≡ P)
 admit-running t q j C P a x e b = go (askOf t q) refl
   where
     go : (d : Answer) → askOf t q ≡ d
-        → (T : ℕ) × (at (admitWith t q d .table .slots) j ≡ line C T a x) × (P ≤ T) × ((Stretches j (admitting q) t → ⊥) → T ≡ P)
+        → (T : ℕ) × Is C T a x (at (admitWith t q d .table .slots) j) × (P ≤ T) × ((Stretches j (admitting q) t → ⊥) → T ≡ P)
     go (Start r) h =
         let g = granted t q r h in
-        let up : P ≤ entry q j = split P (entry q j) (λ y. y) (λ y. absurd (g .longer j b (rw e y))) in (
+        let up : P ≤ entry q j = split P (entry q j) (λ y. y) (λ y. absurd (g .longer j b (rw (e .1) (omega (arith, y, e .3))))) in (
           entry q j,
           admitted-old t q r j C P a x g e,
           up,
-          λ n. split (entry q j) P (λ y. omega arith) (λ y. absurd (n ((r, ap says h), rw e y))),
+          λ n. split (entry q j) P (λ y. omega arith) (λ y. absurd (n ((r, ap says h), rw (e .1) (omega (arith, y, e .3))))),
         )
     go (Refused y) h = (P, e, omega arith, λ n. refl)
 
 -- not stretched: as it was
-pub admit-kept : (t : Table) (q : Request) (j C P a x : ℕ) → at (t .slots) j ≡ line C P a x → j < length (t .slots)
-    → (Stretches j (admitting q) t → ⊥) → at (after (admitting q) t .slots) j ≡ line C P a x
-admit-kept t q j C P a x e b n = let w = admit-running t q j C P a x e b in w .1 ∙ ap (λ (T : ℕ). line C T a x) (w .3 n)
+pub admit-kept : (t : Table) (q : Request) (j C P a x : ℕ) → Is C P a x (at (t .slots) j) → j < length (t .slots)
+    → (Stretches j (admitting q) t → ⊥) → Is C P a x (at (after (admitting q) t .slots) j)
+admit-kept t q j C P a x e b n = let w = admit-running t q j C P a x e b in subst (λ (T : ℕ). Is C T a x (at (after (admitting q) t .slots) j)) (w .3 n) (w .1)
 
 -- while a line waits no admission is granted, and nothing changes
 pub admit-waiting : (t : Table) (q : Request) (j C P w : ℕ) → at (t .slots) j ≡ newLine C P (suc w) → j < length (t .slots) → after (admitting q) t ≡ t
 admit-waiting t q j C P w e b = go (askOf t q) refl
   where
     go : (b : Answer) → askOf t q ≡ b → admitWith t q b .table ≡ t
-    go (Start r) h = absurd (granted t q r h .none-waits j b (rw (e, lt-ltb 0 (suc w) (omega arith)) tt))
+    go (Start r) h = absurd (granted t q r h .none-waits j b (rw (e, lt-ltb 0 (suc w) (omega arith)) refl))
     go (Refused y) h = refl
 
 -- ---- a step

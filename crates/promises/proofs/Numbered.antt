@@ -4,12 +4,11 @@ use mathlib.Core.Bool.{Bool, true, false, not}
 use mathlib.Core.Logic.{⊎-elim}
 use mathlib.Core.List.{List, [], _∷_}
 use mathlib.Core.Option.{Option, none, some}
-use Prim.Native.Nat.{ℕ, zero, suc, _+_, _^_}
+use Prim.Native.Nat.{ℕ, zero, suc, _^_}
 use native.Mathlib.Omega.{arith}
-use lib.ListN.{length, drop}
-use lib.Dec.{leb, ltb, eqb}
-use Rattle.line.specs.declared.Slot.{Slot}
-use Rattle.line.specs.Slots.{pick, both, isWaiting, lowestOf}
+use lib.ListN.{length}
+use lib.Dec.{leb}
+use Rattle.line.specs.Slots.{pick, isWaiting, lowestOf}
 use Rattle.table.specs.declared.Table.{Table}
 use Rattle.table.specs.declared.Request.{Request}
 use Rattle.table.specs.declared.Refusal.{Refusal}
@@ -17,17 +16,16 @@ use Rattle.table.specs.declared.Answer.{Answer}
 use Rattle.table.specs.declared.Answer.the-variants.{Start, Refused}
 use Rattle.table.specs.declared.Stepped.{Stepped}
 use Rattle.table.specs.Words.{refusal, Said, gives, refuses}
-use Rattle.table.specs.Grounds.{Row, grounds, FirstOf, Answers}
+use Rattle.table.specs.Grounds.{Late, Full, Waiters, Unsound, Shorter, Misfit, Wide, Overload, Behind, Short, Row, row, grounds, FirstOf, Answers}
 use Rattle.table.specs.Ask.{says, askOf}
 use Rattle.table.specs.Admit.{admitWith}
 use Rattle.table.specs.Step.{saysRan, choose, serve, refusedStep, stepUnless, advance, stepOf}
 use Rattle.line.specs.Tick.{short}
 use Rattle.line.specs.Sound.{sound}
 use Rattle.theory.proofs.Answers.{ask-answers}
-use Rattle.card.specs.declared.Record.{Record}
-use Rattle.card.specs.Bytes.{value, CK, TB, TF, TA, RQ, marked}
+use Rattle.card.proofs.Grounds.{Refuses, read-refuses}
 use Rattle.card.specs.Card.{Card, cardOf}
-use Rattle.card.specs.Reading.{lineRecordOf, lastOf, slotRecordOf, recordOf, putInFront, step, recordsOf, readWith, readOf}
+use Rattle.card.specs.Reading.{readWith, readOf}
 use Rattle.card.specs.Answers.{lengthOf, unlessWaiting, writeOf}
 use Rattle.image.specs.Loading.{wrongIn, tableIn, unlessWrong, loadWith, loadOf}
 use Rattle.image.specs.Answers.{storeOf}
@@ -48,18 +46,45 @@ zero-grants (refuses x) n e = absurd (n e)
 
 -- ---- ask and step
 
--- every ground's number is not 0
+-- the number of every ground's refusal is not 0
 abbrev AllNumbered : List Row → Type 0
 AllNumbered [] = Unit {0}
-AllNumbered (r ∷ rs) = (r .number ≡ 0 → ⊥) × AllNumbered rs
+AllNumbered (r ∷ rs) = ((t : Table) (q : Request) (x : Refusal) → r t q x → x .number ≡ 0 → ⊥) × AllNumbered rs
+
+row-numbered : (n : ℕ) (H : Table → Request → ℕ → Type 0) → (n ≡ 0 → ⊥) → (t : Table) (q : Request) (x : Refusal) → row n H t q x → x .number ≡ 0 → ⊥
+row-numbered n H h t q x g e = h (sym (ap (λ (y : Refusal). y .number) (g .2)) ∙ e)
 
 first-numbered : (rs : List Row) (t : Table) (q : Request) (x : Refusal) → AllNumbered rs → FirstOf rs t q x → x .number ≡ 0 → ⊥
 first-numbered [] t q x a f = absurd f
 first-numbered (r ∷ rs) t q x a f =
-    ⊎-elim (λ g e. a .0 (sym (ap (λ (y : Refusal). y .number) (g .2)) ∙ e)) (λ g. first-numbered rs t q x (a .1) (g .1)) f
+    ⊎-elim (a .0 t q x) (λ g. first-numbered rs t q x (a .1) (g .1)) f
 
 all-numbered : AllNumbered grounds
-all-numbered = (λ e. omega arith, (λ e. omega arith, (λ e. omega arith, (λ e. omega arith, (λ e. omega arith, (λ e. omega arith, (λ e. omega arith, (λ e. omega arith, (λ e. omega arith, (λ e. omega arith, tt))))))))))
+all-numbered = (
+  row-numbered 1 Late (λ e. omega arith),
+  (
+    row-numbered 2 Full (λ e. omega arith),
+    (
+      row-numbered 3 Waiters (λ e. omega arith),
+      (
+        row-numbered 4 Unsound (λ e. omega arith),
+        (
+          row-numbered 5 Shorter (λ e. omega arith),
+          (
+            row-numbered 6 Misfit (λ e. omega arith),
+            (
+              row-numbered 7 Wide (λ e. omega arith),
+              (
+                row-numbered 8 Overload (λ e. omega arith),
+                (row-numbered 9 Behind (λ e. omega arith), (row-numbered 10 Short (λ e. omega arith), tt)),
+              ),
+            ),
+          ),
+        ),
+      ),
+    ),
+  ),
+)
 
 -- R86: ask's refusals
 pub ask-numbered : (t : Table) (q : Request) → Numbered (says (askOf t q))
@@ -118,65 +143,13 @@ write-numbered t q room = go (lowestOf isWaiting (t .slots))
 
 -- ---- reader
 
--- a record that is refused has a number
-abbrev Marked : Record → Type 0
-Marked (Record.Line r t) = Unit {0}
-Marked Record.Free = Unit {0}
-Marked (Record.Last c n) = Unit {0}
-Marked (Record.Refused n) = n ≡ 0 → ⊥
-
-pick-marked : (b : Bool) (x y : Record) → Marked x → Marked y → Marked (pick b x y)
-pick-marked true x y p q = p
-pick-marked false x y p q = q
-
-broken : Marked (Record.Refused 11)
-broken e = omega arith
-
-old : Marked (Record.Refused 12)
-old e = omega arith
-
-record-marked : (left : ℕ) (l : List ℕ) → Marked (recordOf left l)
-unfolding recordOf
-record-marked left l =
-    let line : Marked (lineRecordOf l) = go (leb 12 (length l)) _ tt in
-    let last : Marked (lastOf l) = go (leb 6 (length l)) _ tt in
-    let unknown : Marked (pick (marked TA l) (Record.Refused 12) (Record.Refused 11)) = pick-marked (marked TA l) (Record.Refused 12) (Record.Refused 11) old broken in
-    let slot : Marked (slotRecordOf l) = pick-marked (marked TB l) (lineRecordOf l) _ line (pick-marked (marked TF l) Record.Free _ tt unknown) in
-    pick-marked (marked RQ l) (lastOf l) _ last (pick-marked (ltb 0 left) (slotRecordOf l) (Record.Refused 11) slot broken)
-  where
-    go : (b : Bool) (x : Record) → Marked x → Marked (pick b x (Record.Refused 11))
-    go b x m = pick-marked b x (Record.Refused 11) m broken
-
-in-front : (ss : List Slot) (ts : List ℕ) (s : Said Card) → Numbered s → Numbered (putInFront ss ts s)
-in-front ss ts (gives c) h = tt
-in-front ss ts (refuses x) h = h
-
-closing-numbered : (gap o : Bool) (at : ℕ) (c : Card) → Numbered (pick gap (refuses (refusal 11 at)) (pick o (gives c) (refuses (refusal 11 (at + 6)))))
-closing-numbered true o at c = λ e. omega arith
-closing-numbered false true at c = tt
-closing-numbered false false at c = λ e. omega arith
-
--- a record's step, where what follows it is numbered
-one-step : (k left : ℕ) (gap : Bool) (at : ℕ) (l : List ℕ) (next : Bool → ℕ → List ℕ → Said Card) (r : Record) → Marked r
-    → ((g : Bool) (a : ℕ) (x : List ℕ) → Numbered (next g a x)) → Numbered (step k left gap at l next r)
-one-step k left gap at l next (Record.Line r t) m h = in-front _ _ (next false (at + 12) (drop 12 l)) (h false (at + 12) (drop 12 l))
-one-step k left gap at l next Record.Free m h = in-front _ _ (next true (at + 2) (drop 2 l)) (h true (at + 2) (drop 2 l))
-one-step k left gap at l next (Record.Last c n) m h = closing-numbered gap (eqb (length l) 6) at _
-one-step k left gap at l next (Record.Refused n) m h = m
-
-records-numbered : (k left : ℕ) (gap : Bool) (at : ℕ) (l : List ℕ) → Numbered (recordsOf k left gap at l)
-unfolding recordsOf
-records-numbered k zero gap at l = one-step k 0 gap at l _ (recordOf 0 l) (record-marked 0 l) (λ g a x e. omega arith)
-records-numbered k (suc n) gap at l = one-step k (suc n) gap at l (recordsOf k n) (recordOf (suc n) l) (record-marked (suc n) l) (records-numbered k n)
-
 -- R57, R58: the reader's
 pub read-numbered : (n : ℕ) (l : List ℕ) → Numbered (readWith n l)
-unfolding readWith
-read-numbered n l = go (both (leb 10 (length l)) (marked CK l)) (recordsOf (value 8 l 2) n false 10 (drop 10 l)) (records-numbered (value 8 l 2) n false 10 (drop 10 l))
+read-numbered n l = go (readWith n l) (read-refuses n l)
   where
-    go : (b : Bool) (s : Said Card) → Numbered s → Numbered (pick b s (refuses (refusal 11 0)))
-    go true s h = h
-    go false s h = λ e. omega arith
+    go : (s : Said Card) → Refuses s → Numbered s
+    go (gives c) h = tt
+    go (refuses x) h = λ e. ⊎-elim (λ a. omega arith) (λ a. omega arith) h
 
 -- ---- what is put together of these
 

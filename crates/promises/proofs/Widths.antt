@@ -7,7 +7,7 @@ use Prim.Native.Nat.{ℕ, zero, suc, _+_, _-_, _^_, _<_}
 use native.Mathlib.Omega.{arith}
 use borrow.Author.Tests.{lt-ltb, le-ltb, lt-leb}
 use lib.Dec.{ltb}
-use lib.ListN.{set}
+use lib.ListN.{set, replicate}
 use Rattle.line.specs.declared.Held.{Held}
 use Rattle.line.specs.declared.Held.the-variants.{Nothing, Running, Waiting}
 use Rattle.line.specs.declared.Slot.{Slot}
@@ -16,19 +16,19 @@ use Rattle.table.specs.declared.Request.{Request}
 use Rattle.table.specs.declared.Answer.{Answer}
 use Rattle.table.specs.declared.Answer.the-variants.{Start, Refused}
 use Rattle.table.specs.declared.Stepped.{Stepped}
-use Rattle.line.specs.Slots.{pick, at, isNothing, lowestOf}
+use Rattle.line.specs.Slots.{pick, waitOf, holding, empty, begun, slotAt, at, mapAt, isNothing, lowestOf}
 use Rattle.line.specs.Sound.{sound}
 use Rattle.line.specs.Demand.{endOf, lastEnd}
 use Rattle.line.specs.Stretch.{stretch, stretched}
-use Rattle.line.specs.Tick.{fresh, served, passed, short}
+use Rattle.line.specs.Tick.{served, passed, servedSlot, short}
 use Rattle.table.specs.Grounds.{entry, asked}
 use Rattle.table.specs.Ask.{askOf}
 use Rattle.table.specs.Admit.{newLine, putAt, admitWith}
-use Rattle.table.specs.Step.{choose, serve, pass, stepUnless, advance, stepOf}
+use Rattle.table.specs.Step.{choose, serve, pass, stepUnless, ticked, advance, stepOf}
 use Rattle.table.specs.Runs.{Act, asking, admitting, stepping, after}
 use Rattle.image.specs.Image.{Narrow, AllNarrow, Wide}
-use Rattle.theory.specs.Fine.{ticked}
 use Rattle.theory.proofs.Numbers.{split}
+use Rattle.theory.proofs.Tail.{last-within}
 use Rattle.theory.proofs.Start.{least-by-last}
 use Rattle.theory.proofs.Granted.{granted}
 use Rattle.theory.proofs.Trace.{length-tick}
@@ -40,19 +40,24 @@ use Rattle.promises.proofs.Kept.{admit-clock, admit-length}
 
 -- R3: any slot, also one beyond the last
 narrow-at : (l : List Slot) → AllNarrow l → (i : ℕ) → Narrow (at l i)
-narrow-at [] n i = tt
+narrow-at [] n i = omega arith
 narrow-at (s ∷ l) n zero = n .0
 narrow-at (s ∷ l) n (suc i) = narrow-at l (n .1) i
 
+-- R4: the empty slots
+pub narrow-empty : (n : ℕ) → AllNarrow (replicate n empty)
+narrow-empty zero = tt
+narrow-empty (suc n) = (omega arith, narrow-empty n)
+
 -- R3: another line in a slot
-narrow-set : (l : List Slot) (j : ℕ) (v : Held) → AllNarrow l → Narrow v → AllNarrow (set l j (record { held = v }))
+narrow-set : (l : List Slot) (j : ℕ) (v : Slot) → AllNarrow l → Narrow (v .held) → AllNarrow (set l j v)
 narrow-set [] j v n m = tt
 narrow-set (s ∷ l) zero v n m = (m, n .1)
 narrow-set (s ∷ l) (suc j) v n m = (n .0, narrow-set l j v (n .1) m)
 
-narrow-put : (o : Option ℕ) (h : Held) (l : List Slot) → Narrow h → AllNarrow l → AllNarrow (putAt o h l)
-narrow-put none h l m n = n
-narrow-put (some k) h l m n = narrow-set l k h n m
+narrow-put : (o : Option ℕ) (s : Slot) (l : List Slot) → Narrow (s .held) → AllNarrow l → AllNarrow (putAt o s l)
+narrow-put none s l m n = n
+narrow-put (some k) s l m n = narrow-set l k s n m
 
 -- ---- a tick
 
@@ -63,7 +68,7 @@ narrow-served (Waiting w) n = n
 
 narrow-serve : (o : Option ℕ) (l : List Slot) → AllNarrow l → AllNarrow (serve o l)
 narrow-serve none l n = n
-narrow-serve (some j) l n = narrow-put (some j) (served (at l j)) l (narrow-served (at l j) (narrow-at l n j)) n
+narrow-serve (some j) l n = narrow-put (some j) (servedSlot (slotAt l j)) l (narrow-served (at l j) (narrow-at l n j)) n
 
 -- R45 to R47: an age rises only where it stays below its period
 narrow-passed : (h : Held) → Narrow h → Narrow (passed h)
@@ -114,7 +119,7 @@ narrow-stretch p (Waiting w) b n = n
 
 -- R42: every running line at its T'
 narrow-stretched : (l : List Slot) (p : ℕ → ℕ) → ((i : ℕ) → p i < 2 ^ 16) → AllNarrow l → AllNarrow (stretched l p)
-unfolding stretched
+unfolding mapAt
 narrow-stretched [] p b n = tt
 narrow-stretched (s ∷ l) p b n = (narrow-stretch (p 0) (s .held) (b 0) (n .0), narrow-stretched l (λ i. p (suc i)) (λ i. b (suc i)) (n .1))
 
@@ -122,8 +127,8 @@ narrow-stretched (s ∷ l) p b n = (narrow-stretch (p 0) (s .held) (b 0) (n .0),
 narrow-new : (C T w : ℕ) → C < 65536 → T < 65536 → w < 65536 → Narrow (newLine C T w)
 narrow-new C T w c p h = go (ltb 0 w)
   where
-    go : (b : Bool) → Narrow (pick b (Waiting (record { need = C; period = T; wait = w })) (fresh C T))
-    go true = (c, p, h)
+    go : (b : Bool) → Narrow (pick b (Waiting (waitOf C T w)) (begun C T))
+    go true = (c, p, h, omega arith)
     go false = (c, p, omega arith, c)
 
 end-near : (t0 : ℕ) (h : Held) → Narrow h → endOf t0 h < t0 + 65536
@@ -133,9 +138,7 @@ end-near t0 (Waiting w) n = omega arith
 
 -- R15: the last end is within sixteen bits of the clock
 last-near : (t0 : ℕ) (l : List Slot) → AllNarrow l → lastEnd t0 l < t0 + 65536
-unfolding lastEnd
-last-near t0 [] n = omega arith
-last-near t0 (s ∷ l) n = omega (arith, end-near t0 (s .held) (n .0), last-near t0 l (n .1))
+last-near t0 l n = last-within t0 65536 l (omega arith) (λ i b. end-near t0 (at l i) (narrow-at l n i))
 
 -- R15, R42: so is a start that is granted
 wait-near : (t : Table) (q : Request) (r : ℕ) → AllNarrow (asked t q) → askOf t q ≡ Start r → r - t .clock < 65536
@@ -151,7 +154,7 @@ narrow-admitted t q f n = go (askOf t q) refl
 
     go : (a : Answer) → askOf t q ≡ a → AllNarrow (admitWith t q a .table .slots)
     go (Start r) e =
-        narrow-put (lowestOf isNothing (t .slots)) (newLine (q .need) (q .period) (r - t .clock)) (asked t q)
+        narrow-put (lowestOf isNothing (t .slots)) (holding (newLine (q .need) (q .period) (r - t .clock))) (asked t q)
         (narrow-new (q .need) (q .period) (r - t .clock) (f .0) (f .1) (wait-near t q r lines e)) lines
     go (Refused x) e = n
 

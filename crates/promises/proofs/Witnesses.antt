@@ -2,13 +2,13 @@
 use mathlib.Core.Path.{_≡_, refl}
 use mathlib.Core.List.{map}
 use Rattle.periods.specs.Multiples.{euclid, gcdOf, lcmOf, frameFrom}
-use Rattle.line.specs.Slots.{total, lowest}
+use Rattle.line.specs.Slots.{total, mapAt, lowest}
 use Rattle.table.specs.Words.{refuses}
-use Rattle.line.specs.Demand.{due, lastEnd}
-use Rattle.line.specs.Stretch.{stretched}
+use Rattle.line.specs.Streams.{due, every, endsBefore}
+use Rattle.line.specs.Demand.{lastEnd}
 use Rattle.line.specs.Shares.{periodsIn}
 use Rattle.table.specs.Ask.{says, askIn, askOf}
-use Rattle.line.specs.Ends.{every, endsBefore, endsOf, slack, bound, greatest, anyOf, start}
+use Rattle.line.specs.Ends.{endsOf, slack, bound, greatest, anyOf, start}
 use Rattle.table.specs.Step.{saysRan, chosen, advance, stepOf}
 use Rattle.table.specs.Cases.{Case}
 use Rattle.card.specs.Bytes.{marked}
@@ -19,7 +19,7 @@ use Rattle.promises.specs.Witnesses.{askMeets, Meets, stepMeets, BrokenC
 
 -- R20, R21 to R30
 pub ask-meets : map (λ (c : Case). says (askOf (c .table) (c .request))) askMeets ≡ map (λ (c : Case). c .answer) askMeets
-unfolding euclid gcdOf lcmOf frameFrom total lowest due lastEnd stretched periodsIn every endsBefore endsOf slack bound greatest anyOf start askIn askOf askMeets
+unfolding euclid gcdOf lcmOf frameFrom total lowest due lastEnd mapAt periodsIn every endsBefore endsOf slack bound greatest anyOf start askIn askOf askMeets
 ask-meets = refl
 
 -- R20, R24, R34, R35

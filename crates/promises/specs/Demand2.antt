@@ -30,7 +30,7 @@ LeastStart = (t : Table) (q : Request) (a : Answer) (r : ℕ) → Asked t q a �
 -- R18: some ground of the list holds
 abbrev pub SomeOf : List Row → Table → Request → Type 0
 SomeOf [] t q = ⊥
-SomeOf (r ∷ rs) t q = ((k : ℕ) × r .Holds t q k) ⊎ SomeOf rs t q
+SomeOf (r ∷ rs) t q = ((x : Refusal) × r t q x) ⊎ SomeOf rs t q
 
 -- R18: ask refuses where a ground holds and nowhere else, and then with the first
 pub record ExactlyRefused : Type 0 where

@@ -5,17 +5,15 @@ use mathlib.Core.List.{List, [], _∷_}
 use mathlib.Core.Option.{Option, some}
 use lib.ListN.{take, drop, replicate}
 use Rattle.line.specs.declared.Held.{Held}
-use Rattle.line.specs.declared.Held.the-variants.{Nothing, Running, Waiting}
 use Rattle.table.specs.declared.Table.{Table}
 use Rattle.table.specs.declared.Request.{Request}
 use Rattle.table.specs.declared.Refusal.{Refusal}
 use Rattle.table.specs.Words.{emptyTable, refusal, gives, refuses}
-use Rattle.line.specs.Slots.{at, Each, isNothing, lowestOf}
+use Rattle.line.specs.Slots.{ifRuns, Is, at, Each, isNothing, lowestOf}
 use Rattle.line.specs.Sound.{Sound}
 use Rattle.line.specs.Demand.{lastEnd}
 use Rattle.table.specs.Grounds.{entry, asked, Answers}
 use Rattle.table.specs.Ask.{says, askOf}
-use Rattle.line.specs.Tick.{fresh}
 use Rattle.table.specs.Admit.{admittedAt}
 use Rattle.table.specs.Step.{saysRan, stepOf}
 use Rattle.table.specs.Runs.{Act, asking, admitting, stepping, after, run, trace, times}
@@ -57,9 +55,7 @@ StartsByLastEnd = (acts : List Act) (q : Request) (r k : ℕ) → Admission acts
 
 -- R76: a granted admission gives slot k a longer period; an equal one does not count
 abbrev pub Lengthened : ℕ → Held → Type 0
-Lengthened p Nothing = ⊥
-Lengthened p (Running r) = r .period < p
-Lengthened p (Waiting w) = ⊥
+Lengthened p h = ifRuns ⊥ (λ r. r .period < p) h
 
 -- R76: the act makes the period of slot k longer
 abbrev pub Stretches : ℕ → Act → Table → Type 0
@@ -77,7 +73,7 @@ Unstretched k until (a ∷ rest) t = (t .clock < until → Stretches k a t → �
 abbrev pub RunsFromStart : Type 0
 RunsFromStart = (acts : List Act) (q : Request) (r k : ℕ) → Admission acts q r k
     → (more : List Act) → run more (admitted-table acts q) .clock ≡ r
-    → (T : ℕ) × (at (run more (admitted-table acts q) .slots) k ≡ fresh (q .need) T) × (q .period ≤ T)
+    → (T : ℕ) × Is (q .need) T 0 (q .need) (at (run more (admitted-table acts q) .slots) k) × (q .period ≤ T)
     × (Unstretched k (r + 1) more (admitted-table acts q) → T ≡ q .period)
 
 -- R76: the list of slots that ran names k exactly Cn times from r to r + Tn

@@ -2,15 +2,16 @@
 use mathlib.Core.List.{List, _∷_}
 use lib.ListN.{replicate}
 use Rattle.table.specs.declared.Request.{Request}
+use Rattle.table.specs.Words.{requestWith}
 use Rattle.table.specs.Runs.{Act, admitting, stepping}
 
 -- the request that admits slot 0 of case A
 abbrev pub firstLine : Request
-firstLine = record { stretched = replicate 16 0; need = 8; period = 16 }
+firstLine = requestWith (replicate 16 0) 8 16
 
 -- the request that admits slot 1 of case A
 abbrev pub secondLine : Request
-secondLine = record { stretched = 16 ∷ replicate 15 0; need = 8; period = 16 }
+secondLine = requestWith (16 ∷ replicate 15 0) 8 16
 
 -- the run that comes to the table of case A
 abbrev pub toCaseA : List Act

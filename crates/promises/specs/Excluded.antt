@@ -1,5 +1,5 @@
 -- What meets a contract, and wrong programs that do not.
-use Prim.Native.Nat.{ℕ, _+_, _<_}
+use Prim.Native.Nat.{ℕ, _<_}
 use mathlib.Core.Path.{_≡_}
 use mathlib.Core.List.{List}
 use Rattle.table.specs.declared.Table.{Table}
@@ -7,7 +7,7 @@ use Rattle.table.specs.declared.Request.{Request}
 use Rattle.table.specs.declared.Refusal.{Refusal}
 use Rattle.table.specs.declared.Answer.{Answer}
 use Rattle.table.specs.declared.Stepped.{Stepped}
-use Rattle.table.specs.Words.{gives, refuses}
+use Rattle.table.specs.Words.{laterWith, gives, refuses}
 use Rattle.table.specs.Grounds.{Answers}
 use Rattle.table.specs.Ask.{says}
 use Rattle.table.specs.Step.{stepOf}
@@ -46,7 +46,7 @@ LeavesTheTable f = (t : Table) → f t .table ≡ t
 
 -- R45: after the first tick it moves the clock alone
 abbrev pub OnlyMovesTheClock : (Table → Stepped) → Type 0
-OnlyMovesTheClock f = (t : Table) → 0 < t .clock → f t .table ≡ record { clock = t .clock + 1; slots = t .slots }
+OnlyMovesTheClock f = (t : Table) → 0 < t .clock → f t .table ≡ laterWith t (t .slots)
 
 -- R56: it hands out one and the same request for all cards that read
 abbrev pub OneRequest : (List ℕ → ReadCard) → Type 0

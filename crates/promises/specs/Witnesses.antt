@@ -8,7 +8,7 @@ use Rattle.table.specs.declared.Refusal.{Refusal}
 use Rattle.line.specs.Slots.{empty}
 use Rattle.table.specs.Words.{refusal, refuses}
 use Rattle.table.specs.Cases.{CaseLine, Case, line, running, waiting, tableOf, tableFor, requestFor, case, caseA, caseG, caseI, caseJ, caseL}
-use Rattle.card.specs.Bytes.{TA}
+use Rattle.card.specs.Layout.{TA}
 use Rattle.card.specs.Card.{cardOf}
 
 -- slot 0 runs a line, slot 1 is empty, slot 2 waits

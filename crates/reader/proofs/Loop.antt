@@ -1,68 +1,59 @@
--- What the reader's loop keeps, and what each of its ways does. n is the number of slots.
+-- What the reader's loop over the records keeps, and what each of its ways does. n is the number of slots.
 use mathlib.Core.Path.{_≡_, refl, sym, ap, ap₂, _∙_}
-use mathlib.Core.List.{List, [], _∷_, _++_}
+use mathlib.Core.List.{List, [], _∷_, _++_, map}
 use mathlib.Core.Bool.{Bool, true, false}
-use Prim.Native.Nat.{ℕ, suc, _+_, _-_, _≤_, _<_}
+use Prim.Native.Nat.{ℕ, zero, suc, _+_, _-_, _≤_, _<_}
 use native.Mathlib.Omega.{arith}
 use native.Mathlib.Numerals.{add-one}
-use native.Mathlib.Nat.{add-zero}
-use lib.ListN.{length, take, drop, set, getD, replicate, length-drop, length-set, take-append-drop}
-use lib.Seq.{getD-drop, take-suc-set, drop-set-lt, drop-drop, take-suc}
+use lib.ListN.{length, take, drop, set, replicate, length-drop, length-set, take-append-drop}
+use lib.Seq.{take-suc-set, drop-set-lt, drop-drop}
 use lib.Dec.{eqb}
 use borrow.Author.Tests.{eq-eqb, ne-eqb}
-use Rattle.line.specs.declared.Run.{Run}
-use Rattle.line.specs.declared.Held.the-variants.{Running}
-use Rattle.line.specs.declared.Slot.{Slot}
+use Rattle.line.specs.declared.Slot.{Slot as Place}
 use Rattle.line.specs.Slots.{pick, empty}
-use Rattle.table.specs.Words.{refusal, Said, gives, refuses}
+use Rattle.table.specs.Words.{tableWith, requestWith, refusal, Said, gives, refuses}
+use Rattle.card.specs.declared.SlotRecord.{SlotRecord}
 use Rattle.card.specs.declared.Record.{Record}
-use Rattle.card.specs.declared.Record.the-variants.{Line, Free, Last, Refused}
-use Rattle.card.specs.Bytes.{value}
-use Rattle.card.specs.Card.{Card}
-use Rattle.card.specs.Reading.{putInFront, ending, closing, broken, recordOf, recordsOf}
+use Rattle.card.specs.declared.Record.the-variants.{Slot, Last, Refused}
+use Rattle.card.specs.Bytes.{value, marked}
+use Rattle.card.specs.Layout.{CK, isFree, clockAt, clockLength, lastLength, recordLength}
+use Rattle.card.specs.Marked.{free, slotFor, entryFor, Records, saying}
+use Rattle.card.specs.Card.{Card, carrying}
+use Rattle.card.specs.Reading.{putInFront, ending, closing, broken, recordOf, recordsOf, cardFor, meaning, readWith, readOf}
 use Rattle.card.proofs.Records.{seen-stands}
-use Rattle.card.proofs.Steps.{records-line, records-free, records-last, records-refused, in-front-twice, in-front-nothing}
-use Rattle.card.proofs.ReadsBack.{made}
+use Rattle.card.proofs.Steps.{reads-clock, records-slot, records-last, records-refused, in-front-twice, in-front-nothing}
 
 -- the records behind the clock's, read with n slots
-abbrev pub reading : ℕ → List ℕ → Said Card
-reading n l = recordsOf (value 8 l 2) n false 10 (drop 10 l)
+abbrev pub reading : ℕ → List ℕ → Said Records
+reading n l = recordsOf (value 8 l clockAt) n false clockLength (drop clockLength l)
+
+-- R54: a card that CK opens means what the records behind it do
+pub read-clock : (l : List ℕ) → clockLength ≤ length l → marked CK l ≡ true → meaning (reading 16 l) ≡ readOf l
+unfolding readWith
+read-clock l h e = ap meaning (sym (reads-clock 16 l h e))
 
 -- i records are read, the next stands at an offset, and what is read there gives the whole
-pub record Mid (n : ℕ) (l : List ℕ) (ss : List Slot) (ts : List ℕ) (at i : ℕ) (gap : Bool) : Type 0 where
+pub record Mid (n : ℕ) (l : List ℕ) (rs : List SlotRecord) (at i : ℕ) (gap : Bool) : Type 0 where
   pub few : i ≤ n
   pub room : at ≤ length l
-  pub slots : length ss ≡ n
-  pub stretched : length ts ≡ n
-  pub slots-rest : drop i ss ≡ replicate (n - i) empty
-  pub stretched-rest : drop i ts ≡ replicate (n - i) 0
-  pub whole : reading n l ≡ putInFront (take i ss) (take i ts) (recordsOf (value 8 l 2) (n - i) gap at (drop at l))
+  pub long : length rs ≡ n
+  pub rest : drop i rs ≡ replicate (n - i) free
+  pub whole : reading n l ≡ putInFront (take i rs) (recordsOf (value 8 l clockAt) (n - i) gap at (drop at l))
 
--- no record is read: all slots are empty
-pub mid-start : (l : List ℕ) → 10 ≤ length l → Mid 16 l (replicate 16 empty) (replicate 16 0) 10 0 false
+-- no record is read: all are TF
+pub mid-start : (l : List ℕ) → clockLength ≤ length l → Mid 16 l (replicate 16 free) clockLength 0 false
 mid-start l h = record {
   few = omega arith;
   room = h;
-  slots = refl;
-  stretched = refl;
-  slots-rest = refl;
-  stretched-rest = refl;
+  long = refl;
+  rest = refl;
   whole = sym (in-front-nothing (reading 16 l));
 }
 
-module _ {A : Type 0} (n : ℕ) (xs : List A) (x : A) (i : ℕ) (h : 0 < n - i) (e : drop i xs ≡ replicate (n - i) x) where
-  rest-next : drop (i + 1) xs ≡ replicate (n - (i + 1)) x
-  rest-next =
-      let p : n - i ≡ suc (n - (i + 1)) = omega arith in
-      sym (drop-drop 1 i xs) ∙ ap (drop 1) (e ∙ ap (λ (k : ℕ). replicate k x) p)
-
-  rest-first : length xs ≡ n → take (i + 1) xs ≡ take i xs ++ (x ∷ [])
-  rest-first q =
-      let p : n - i ≡ suc (n - (i + 1)) = omega arith in
-      let g : getD xs i x ≡ x =
-      ap (λ (k : ℕ). getD xs k x) (sym (add-zero i)) ∙ sym (getD-drop i xs 0 x)
-      ∙ ap (λ (l : List A). getD l 0 x) (e ∙ ap (λ (k : ℕ). replicate k x) p) in
-      ap (λ (k : ℕ). take k xs) (add-one i) ∙ take-suc xs i x (omega arith) ∙ ap (λ (y : A). take i xs ++ (y ∷ [])) g
+rest-next : (n : ℕ) (rs : List SlotRecord) (i : ℕ) → 0 < n - i → drop i rs ≡ replicate (n - i) free → drop (i + 1) rs ≡ replicate (n - (i + 1)) free
+rest-next n rs i h e =
+    let p : n - i ≡ suc (n - (i + 1)) = omega arith in
+    sym (drop-drop 1 i rs) ∙ ap (drop 1) (e ∙ ap (λ (k : ℕ). replicate k free) p)
 
 -- RQ at an offset of a card that is len bytes long
 module _ (gap : Bool) (at len : ℕ) (c : Card) where
@@ -71,104 +62,118 @@ module _ (gap : Bool) (at len : ℕ) (c : Card) where
   closing-gap g = ap (λ (o : Bool). closing o at (len - at) c) g
 
   -- R57: RQ is not the end of the card
-  pub closing-more : gap ≡ false → (len ≡ at + 6 → ⊥) → closing gap at (len - at) c ≡ broken (at + 6)
-  closing-more g h = ap₂ (λ (o u : Bool). pick o (broken at) (pick u (gives c) (broken (at + 6)))) g (ne-eqb (len - at) 6 (λ e. h (omega arith)))
+  pub closing-more : gap ≡ false → (len ≡ at + lastLength → ⊥) → closing gap at (len - at) c ≡ broken (at + lastLength)
+  closing-more g h =
+      ap₂ (λ (o u : Bool). pick o (broken at) (pick u (gives c) (broken (at + lastLength)))) g (ne-eqb (len - at) lastLength (λ e. h (omega arith)))
 
   -- R57: RQ ends the card
-  pub closing-good : gap ≡ false → len ≡ at + 6 → closing gap at (len - at) c ≡ gives c
-  closing-good g h = ap₂ (λ (o u : Bool). pick o (broken at) (pick u (gives c) (broken (at + 6)))) g (eq-eqb (len - at) 6 (omega arith))
+  pub closing-good : gap ≡ false → len ≡ at + lastLength → closing gap at (len - at) c ≡ gives c
+  closing-good g h =
+      ap₂ (λ (o u : Bool). pick o (broken at) (pick u (gives c) (broken (at + lastLength)))) g (eq-eqb (len - at) lastLength (omega arith))
 
--- the slots in front of what RQ gives
-in-front-closing : (ss : List Slot) (ts : List ℕ) (gap : Bool) (at m k left c t : ℕ)
-    → putInFront ss ts (closing gap at m (ending k left c t)) ≡ closing gap at m (made k (ss ++ replicate left empty) (ts ++ replicate left 0) c t)
-in-front-closing ss ts true at m k left c t = refl
-in-front-closing ss ts false at m k left c t = go (eqb m 6)
+-- what the records mean that RQ closes
+meaning-closing : (gap : Bool) (at b : ℕ) (m : Records) → meaning (closing gap at b m) ≡ closing gap at b (cardFor m)
+meaning-closing true at b m = refl
+meaning-closing false at b m = go (eqb b lastLength)
   where
-    go : (o : Bool) → putInFront ss ts (pick o (gives (ending k left c t)) (broken (at + 6)))
-        ≡ pick o (gives (made k (ss ++ replicate left empty) (ts ++ replicate left 0) c t)) (broken (at + 6))
+    go : (o : Bool) → meaning (pick o (gives m) (broken (at + lastLength))) ≡ pick o (gives (cardFor m)) (broken (at + lastLength))
+    go true = refl
+    go false = refl
+
+-- the records in front of what RQ gives
+in-front-closing : (rs : List SlotRecord) (gap : Bool) (at b k left c t : ℕ)
+    → putInFront rs (closing gap at b (ending k left c t)) ≡ closing gap at b (saying k (rs ++ replicate left free) c t)
+in-front-closing rs true at b k left c t = refl
+in-front-closing rs false at b k left c t = go (eqb b lastLength)
+  where
+    go : (o : Bool) → putInFront rs (pick o (gives (ending k left c t)) (broken (at + lastLength)))
+        ≡ pick o (gives (saying k (rs ++ replicate left free) c t)) (broken (at + lastLength))
     go true = refl
     go false = refl
 
 -- the record x was seen at the offset
-module _ {n : ℕ} {l : List ℕ} {ss : List Slot} {ts : List ℕ} {at i : ℕ} {gap : Bool} (m : Mid n l ss ts at i gap) {x : Record} (s : x ≡ recordOf (n - i) (drop at l)) where
-  -- a whole line stands in front: a slot is left for it, and its twelve bytes are there
-  pub line-room : {r : Run} {t : ℕ} → x ≡ Line r t → (i < n) × (at + 12 ≤ length l)
-  line-room e = let v = seen-stands (n - i) (drop at l) (sym s ∙ e) in (omega (arith, v .0), omega (arith, length-drop at l, v .1, m .room))
+module _ {n : ℕ} {l : List ℕ} {rs : List SlotRecord} {at i : ℕ} {gap : Bool} (m : Mid n l rs at i gap) {x : Record} (s : x ≡ recordOf (n - i) (drop at l)) where
+  -- a slot's record stands in front: a slot is left for it, and its bytes are there
+  pub slot-room : {r : SlotRecord} → x ≡ Slot r → (i < n) × (at + recordLength (r .mark) ≤ length l)
+  slot-room e = let v = seen-stands (n - i) (drop at l) (sym s ∙ e) in (omega (arith, v .0), omega (arith, length-drop at l, v .1, m .room))
 
-  -- TF stands in front: a slot is left for it, and its two bytes are there
-  pub free-room : x ≡ Free → (i < n) × (at + 2 ≤ length l)
-  free-room e = let v = seen-stands (n - i) (drop at l) (sym s ∙ e) in (omega (arith, v .0), omega (arith, length-drop at l, v .1, m .room))
-
-  -- a whole RQ stands in front: its six bytes are there
-  pub last-room : {c t : ℕ} → x ≡ Last c t → at + 6 ≤ length l
+  -- a whole RQ stands in front: its bytes are there
+  pub last-room : {c t : ℕ} → x ≡ Last c t → at + lastLength ≤ length l
   last-room e = let v = seen-stands (n - i) (drop at l) (sym s ∙ e) in omega (arith, length-drop at l, v .0, m .room)
 
-  -- R53: a line goes into slot i with its entry
-  pub mid-line : (r : Run) (t : ℕ) → x ≡ Line r t
-      → Mid n l (set ss i (record { held = Running r })) (set ts i t) (at + 12) (i + 1) false
-  mid-line r t e =
-      let k = value 8 l 2 in
-      let new : Slot = record { held = Running r } in
-      let v = seen-stands (n - i) (drop at l) (sym s ∙ e) in
-      let h : 0 < n - i = v .0 in
+  -- R53: a slot's record is that of slot i
+  pub mid-slot : (r : SlotRecord) → x ≡ Slot r → Mid n l (set rs i r) (at + recordLength (r .mark)) (i + 1) (isFree (r .mark))
+  mid-slot r e =
+      let k = value 8 l clockAt in
+      let w = recordLength (r .mark) in
+      let o = isFree (r .mark) in
+      let v = slot-room e in
+      let h : 0 < n - i = omega (arith, v .0) in
       let p : n - i ≡ suc (n - (i + 1)) = omega arith in
-      let next = recordsOf k (n - (i + 1)) false (at + 12) (drop (at + 12) l) in
-      let e2 : recordsOf k (n - i) gap at (drop at l) ≡ putInFront (new ∷ []) (t ∷ []) next =
+      let next = recordsOf k (n - (i + 1)) o (at + w) (drop (at + w) l) in
+      let e2 : recordsOf k (n - i) gap at (drop at l) ≡ putInFront (r ∷ []) next =
       ap (λ (j : ℕ). recordsOf k j gap at (drop at l)) p
-      ∙ records-line k (n - (i + 1)) gap at (drop at l) r t (ap (λ (j : ℕ). recordOf j (drop at l)) (sym p) ∙ sym s ∙ e)
-      ∙ ap (λ (x : List ℕ). putInFront (new ∷ []) (t ∷ []) (recordsOf k (n - (i + 1)) false (at + 12) x)) (drop-drop 12 at l) in
-      let t1 : take i ss ++ (new ∷ []) ≡ take (i + 1) (set ss i new) =
-      sym (ap (λ (j : ℕ). take j (set ss i new)) (add-one i) ∙ take-suc-set ss i new (omega (arith, m .slots))) in
-      let t2 : take i ts ++ (t ∷ []) ≡ take (i + 1) (set ts i t) =
-      sym (ap (λ (j : ℕ). take j (set ts i t)) (add-one i) ∙ take-suc-set ts i t (omega (arith, m .stretched))) in
+      ∙ records-slot k (n - (i + 1)) gap at (drop at l) r (ap (λ (j : ℕ). recordOf j (drop at l)) (sym p) ∙ sym s ∙ e)
+      ∙ ap (λ (y : List ℕ). putInFront (r ∷ []) (recordsOf k (n - (i + 1)) o (at + w) y)) (drop-drop w at l) in
+      let t : take i rs ++ (r ∷ []) ≡ take (i + 1) (set rs i r) =
+      sym (ap (λ (j : ℕ). take j (set rs i r)) (add-one i) ∙ take-suc-set rs i r (omega (arith, m .long))) in
       record {
         few = omega arith;
-        room = omega (arith, length-drop at l, v .1, m .room);
-        slots = length-set ss i new ∙ m .slots;
-        stretched = length-set ts i t ∙ m .stretched;
-        slots-rest = drop-set-lt (i + 1) ss i new (omega arith) ∙ rest-next n ss empty i h (m .slots-rest);
-        stretched-rest = drop-set-lt (i + 1) ts i t (omega arith) ∙ rest-next n ts 0 i h (m .stretched-rest);
+        room = v .1;
+        long = length-set rs i r ∙ m .long;
+        rest = drop-set-lt (i + 1) rs i r (omega arith) ∙ rest-next n rs i h (m .rest);
         whole =
-            m .whole ∙ ap (putInFront (take i ss) (take i ts)) e2 ∙ in-front-twice (take i ss) (new ∷ []) (take i ts) (t ∷ []) next
-            ∙ ap₂ (λ (x : List Slot) (y : List ℕ). putInFront x y next) t1 t2;
+            m .whole ∙ ap (putInFront (take i rs)) e2 ∙ in-front-twice (take i rs) (r ∷ []) next
+            ∙ ap (λ (y : List SlotRecord). putInFront y next) t;
       }
 
-  -- R53: TF leaves slot i and its entry as they are
-  pub mid-free : x ≡ Free → Mid n l ss ts (at + 2) (i + 1) true
-  mid-free e =
-      let k = value 8 l 2 in
-      let v = seen-stands (n - i) (drop at l) (sym s ∙ e) in
-      let h : 0 < n - i = v .0 in
-      let p : n - i ≡ suc (n - (i + 1)) = omega arith in
-      let next = recordsOf k (n - (i + 1)) true (at + 2) (drop (at + 2) l) in
-      let e2 : recordsOf k (n - i) gap at (drop at l) ≡ putInFront (empty ∷ []) (0 ∷ []) next =
-      ap (λ (j : ℕ). recordsOf k j gap at (drop at l)) p
-      ∙ records-free k (n - (i + 1)) gap at (drop at l) (ap (λ (j : ℕ). recordOf j (drop at l)) (sym p) ∙ sym s ∙ e)
-      ∙ ap (λ (x : List ℕ). putInFront (empty ∷ []) (0 ∷ []) (recordsOf k (n - (i + 1)) true (at + 2) x)) (drop-drop 2 at l) in
-      record {
-        few = omega arith;
-        room = omega (arith, length-drop at l, v .1, m .room);
-        slots = m .slots;
-        stretched = m .stretched;
-        slots-rest = rest-next n ss empty i h (m .slots-rest);
-        stretched-rest = rest-next n ts 0 i h (m .stretched-rest);
-        whole =
-            m .whole ∙ ap (putInFront (take i ss) (take i ts)) e2 ∙ in-front-twice (take i ss) (empty ∷ []) (take i ts) (0 ∷ []) next
-            ∙ ap₂ (λ (x : List Slot) (y : List ℕ). putInFront x y next)
-            (sym (rest-first n ss empty i h (m .slots-rest) (m .slots))) (sym (rest-first n ts 0 i h (m .stretched-rest) (m .stretched)));
-      }
-
-  -- R54: with RQ the slots and entries are those of the card
-  pub mid-last : (c t : ℕ) → x ≡ Last c t → (k : ℕ) → k ≡ value 8 l 2
-      → reading n l ≡ closing gap at (length l - at) (made k ss ts c t)
+  -- R54: with RQ the records are those of the card
+  pub mid-last : (c t : ℕ) → x ≡ Last c t → (k : ℕ) → k ≡ value 8 l clockAt
+      → reading n l ≡ closing gap at (length l - at) (saying k rs c t)
   mid-last c t e k q =
-      m .whole ∙ ap (putInFront (take i ss) (take i ts)) (records-last (value 8 l 2) (n - i) gap at (drop at l) c t (sym s ∙ e))
-      ∙ in-front-closing (take i ss) (take i ts) gap at (length (drop at l)) (value 8 l 2) (n - i) c t
-      ∙ ap₂ (λ (x : List Slot) (y : List ℕ). closing gap at (length (drop at l)) (made (value 8 l 2) x y c t))
-      (ap (λ (x : List Slot). take i ss ++ x) (sym (m .slots-rest)) ∙ take-append-drop i ss)
-      (ap (λ (x : List ℕ). take i ts ++ x) (sym (m .stretched-rest)) ∙ take-append-drop i ts)
-      ∙ ap₂ (λ (x j : ℕ). closing gap at x (made j ss ts c t)) (length-drop at l) (sym q)
+      m .whole ∙ ap (putInFront (take i rs)) (records-last (value 8 l clockAt) (n - i) gap at (drop at l) c t (sym s ∙ e))
+      ∙ in-front-closing (take i rs) gap at (length (drop at l)) (value 8 l clockAt) (n - i) c t
+      ∙ ap (λ (y : List SlotRecord). closing gap at (length (drop at l)) (saying (value 8 l clockAt) y c t))
+      (ap (λ (y : List SlotRecord). take i rs ++ y) (sym (m .rest)) ∙ take-append-drop i rs)
+      ∙ ap₂ (λ (y j : ℕ). closing gap at y (saying j rs c t)) (length-drop at l) (sym q)
 
   -- R57, R58: a refused record refuses the card, at its offset
   pub mid-refused : (r : ℕ) → x ≡ Refused r → reading n l ≡ refuses (refusal r at)
-  mid-refused r e = m .whole ∙ ap (putInFront (take i ss) (take i ts)) (records-refused (value 8 l 2) (n - i) gap at (drop at l) r (sym s ∙ e))
+  mid-refused r e = m .whole ∙ ap (putInFront (take i rs)) (records-refused (value 8 l clockAt) (n - i) gap at (drop at l) r (sym s ∙ e))
+
+-- ---- slots and entries
+
+map-set : {A B : Type 0} (f : A → B) (l : List A) (i : ℕ) (v : A) → set (map f l) i (f v) ≡ map f (set l i v)
+map-set f [] i v = refl
+map-set f (x ∷ xs) zero v = refl
+map-set {B = B} f (x ∷ xs) (suc i) v = ap (λ (t : List B). f x ∷ t) (map-set f xs i v)
+
+-- the slots and the entries are those of the records that are read
+pub record Kept (n : ℕ) (l : List ℕ) (ss : List Place) (ts : List ℕ) (at i : ℕ) (gap : Bool) : Type 0 where
+  pub rs : List SlotRecord
+  pub mid : Mid n l rs at i gap
+  pub slots : ss ≡ map slotFor rs
+  pub stretched : ts ≡ map entryFor rs
+
+-- no record is read: all slots are empty
+pub kept-start : (l : List ℕ) → clockLength ≤ length l → Kept 16 l (replicate 16 empty) (replicate 16 0) clockLength 0 false
+kept-start l h = record { rs = replicate 16 free; mid = mid-start l h; slots = refl; stretched = refl }
+
+-- the record x was seen at the offset
+module _ {n : ℕ} {l : List ℕ} {ss : List Place} {ts : List ℕ} {at i : ℕ} {gap : Bool} (v : Kept n l ss ts at i gap) {x : Record} (s : x ≡ recordOf (n - i) (drop at l)) where
+  -- R53: a slot's record goes into slot i, with its entry
+  pub kept-slot : (r : SlotRecord) → x ≡ Slot r
+      → Kept n l (set ss i (slotFor r)) (set ts i (entryFor r)) (at + recordLength (r .mark)) (i + 1) (isFree (r .mark))
+  kept-slot r e = record {
+    rs = set (v .rs) i r;
+    mid = mid-slot (v .mid) s r e;
+    slots = ap (λ (y : List Place). set y i (slotFor r)) (v .slots) ∙ map-set slotFor (v .rs) i r;
+    stretched = ap (λ (y : List ℕ). set y i (entryFor r)) (v .stretched) ∙ map-set entryFor (v .rs) i r;
+  }
+
+  -- R53, R54: with RQ the slots and entries are those of the card
+  pub kept-last : (c t : ℕ) → x ≡ Last c t → (k : ℕ) → k ≡ value 8 l clockAt
+      → meaning (reading n l) ≡ closing gap at (length l - at) (carrying (tableWith k ss) (requestWith ts c t))
+  kept-last c t e k q =
+      ap meaning (mid-last (v .mid) s c t e k q) ∙ meaning-closing gap at (length l - at) (saying k (v .rs) c t)
+      ∙ sym (ap₂ (λ (y : List Place) (z : List ℕ). closing gap at (length l - at) (carrying (tableWith k y) (requestWith z c t))) (v .slots) (v .stretched))

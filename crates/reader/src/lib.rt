@@ -3,18 +3,18 @@ ghost use mathlib.Core.Path.{_≡_};
 ghost use mathlib.Core.Bool.{false};
 ghost use Prim.Native.Nat.{_+_, _-_, _≤_, _<_};
 ghost use lib.ListN.{length, drop};
-ghost use Rattle.line.specs.declared.Held.the-variants.{Running};
-ghost use Rattle.line.specs.Slots.{empty};
 ghost use Rattle.table.specs.Words.{refusal, refuses};
 ghost use Rattle.card.specs.Bytes.{value, markOf, marked};
+ghost use Rattle.card.specs.Layout.{clockAt, clockLength, lastLength};
 ghost use Rattle.card.specs.Card.{carrying};
-ghost use Rattle.card.specs.Reading.{lineRecordOf, lastOf, slotRecordOf, recordOf, recordsOf, closing, readOf};
+ghost use Rattle.card.specs.Reading.{lineRecordOf, lastOf, slotRecordOf, recordOf, closing, recordsOf, meaning, readOf};
 ghost use Rattle.card.specs.Answers.{handed};
 use card::CardAnswer;
+use card::Mark;
 use card::ReadCard;
 use card::Record;
-use line::Held;
-use line::Run;
+use card::SlotRecord;
+use card::layout;
 use line::Slot;
 use table::Refusal;
 use table::Request;
@@ -38,13 +38,13 @@ fn get16(s: &[u8], at: usize) -> u16
 
 // R53: CK, and the clock after it.
 fn clock(s: &[u8]) -> u64
-    requires { ⌜ 10 ≤ length (now s) ⌝ }
-    ensures { λ r. ⌜ r ≡ value 8 (now (s .entry)) 2 ⌝ }
+    requires { ⌜ clockLength ≤ length (now s) ⌝ }
+    ensures { λ r. ⌜ r ≡ value 8 (now (s .entry)) clockAt ⌝ }
 {
-    let a = get16(s, 2) as u64;
-    let b = get16(s, 4) as u64;
-    let c = get16(s, 6) as u64;
-    let d = get16(s, 8) as u64;
+    let a = get16(s, layout::CLOCK_AT) as u64;
+    let b = get16(s, layout::CLOCK_AT + 2) as u64;
+    let c = get16(s, layout::CLOCK_AT + 4) as u64;
+    let d = get16(s, layout::CLOCK_AT + 6) as u64;
     a + b * 65536 + c * 4294967296 + d * 281474976710656
 }
 
@@ -61,45 +61,42 @@ fn opens(s: &[u8], mark: &[u8; 2]) -> bool
     s[1] == mark[1]
 }
 
-// R53, R57: TB, and what follows it.
-fn line(s: &[u8]) -> Record
-    ensures { λ r. ⌜ r ≡ lineRecordOf (now (s .entry)) ⌝ }
+// R53, R57: a slot's record with the numbers of a line, under its mark.
+fn line(s: &[u8], mark: Mark) -> Record
+    ensures { λ r. ⌜ r ≡ lineRecordOf mark (now (s .entry)) ⌝ }
 {
-    if s.len() < 12 {
+    if s.len() < layout::LINE_LENGTH {
         return Record::Refused(11);
     }
-    Record::Line(
-        Run {
-            need: get16(s, 2),
-            period: get16(s, 4),
-            age: get16(s, 8),
-            remaining: get16(s, 10),
-        },
-        get16(s, 6),
-    )
+    let need = get16(s, layout::NEED_AT);
+    let period = get16(s, layout::PERIOD_AT);
+    let stretched = get16(s, layout::STRETCHED_AT);
+    let fourth = get16(s, layout::FOURTH_AT);
+    let fifth = get16(s, layout::FIFTH_AT);
+    Record::Slot(SlotRecord::new(mark, need, period, stretched, fourth, fifth))
 }
 
 // R53, R57: RQ, and what follows it.
 fn last(s: &[u8]) -> Record
     ensures { λ r. ⌜ r ≡ lastOf (now (s .entry)) ⌝ }
 {
-    if s.len() < 6 {
+    if s.len() < layout::LAST_LENGTH {
         return Record::Refused(11);
     }
-    Record::Last(get16(s, 2), get16(s, 4))
+    Record::Last(get16(s, layout::NEED_AT), get16(s, layout::PERIOD_AT))
 }
 
 // R32, R57, R58: a slot's record at the front of `s`.
 fn slot_record(s: &[u8]) -> Record
     ensures { λ r. ⌜ r ≡ slotRecordOf (now (s .entry)) ⌝ }
 {
-    if opens(s, b"TB") {
-        return line(s);
+    if opens(s, &layout::TB) {
+        return line(s, Mark::TB);
     }
-    if opens(s, b"TF") {
-        return Record::Free;
+    if opens(s, &layout::TF) {
+        return Record::Slot(SlotRecord::free());
     }
-    if opens(s, b"TA") {
+    if opens(s, &layout::TA) {
         return Record::Refused(12);
     }
     Record::Refused(11)
@@ -109,68 +106,13 @@ fn slot_record(s: &[u8]) -> Record
 fn front(s: &[u8], left: usize) -> Record
     ensures { λ r. ⌜ r ≡ recordOf left (now (s .entry)) ⌝ }
 {
-    if opens(s, b"RQ") {
+    if opens(s, &layout::RQ) {
         return last(s);
     }
     if left == 0 {
         return Record::Refused(11);
     }
     slot_record(s)
-}
-
-fn free() -> Slot
-    ensures { λ r. ⌜ r ≡ empty ⌝ }
-{
-    Slot {
-        held: Held::Nothing,
-    }
-}
-
-fn running(run: Run) -> Slot
-    ensures { λ r. ⌜ r ≡ record { held = Running run } ⌝ }
-{
-    Slot {
-        held: Held::Running(run),
-    }
-}
-
-fn request_of(stretched: [u16; 16], need: u16, period: u16) -> Request
-    ensures { λ r. ⌜ r ≡ record { stretched = stretched; need = need; period = period } ⌝ }
-{
-    Request {
-        stretched: stretched,
-        need: need,
-        period: period,
-    }
-}
-
-// R56: what is handed out beside a refusal.
-fn refused(number: u16, at: usize) -> ReadCard
-    ensures { λ r. ⌜ r ≡ handed (refuses (refusal number at)) ⌝ }
-{
-    ReadCard {
-        table: Table::empty(),
-        request: request_of([0u16; 16], 0, 0),
-        answer: CardAnswer::Refused(Refusal::new(number, at as u64)),
-    }
-}
-
-// R57: RQ at `at`, on a card of `len` bytes: no TF stands before it, and no byte after it.
-fn closed(len: usize, at: usize, gap: bool, table: Table, request: Request) -> ReadCard
-    requires { ⌜ at + 6 ≤ len ⌝ }
-    ensures { λ r. ⌜ r ≡ handed (closing gap at (len - at) (carrying table request)) ⌝ }
-{
-    if gap {
-        return refused(11, at);
-    }
-    if len != at + 6 {
-        return refused(11, at + 6);
-    }
-    ReadCard {
-        table: table,
-        request: request,
-        answer: CardAnswer::Read,
-    }
 }
 
 // The record at an offset.
@@ -181,37 +123,60 @@ fn record_at(card: &[u8], at: usize, left: usize) -> Record
     front(&card[at..], left)
 }
 
-// R54, R55: the records after the clock's; slots without one hold nothing.
-fn records(card: &[u8]) -> ReadCard
-    requires { ⌜ 10 ≤ length (now card) ⌝ }
-    ensures { λ r. ⌜ r ≡ handed (recordsOf (value 8 (now (card .entry)) 2) 16 false 10 (drop 10 (now (card .entry)))) ⌝ }
+// R56: what is handed out beside a refusal.
+fn refused(number: u16, at: usize) -> ReadCard
+    ensures { λ r. ⌜ r ≡ handed (refuses (refusal number at)) ⌝ }
 {
-    let mut slots = [free(); 16];
+    let refusal = Refusal::new(number, at as u64);
+    ReadCard {
+        table: Table::empty(),
+        request: Request::new([0u16; 16], 0, 0),
+        answer: CardAnswer::Refused(refusal),
+    }
+}
+
+// R57: RQ at `at`, on a card of `len` bytes: no TF stands before it, and no byte after it.
+fn closed(len: usize, at: usize, gap: bool, table: Table, request: Request) -> ReadCard
+    requires { ⌜ at + lastLength ≤ len ⌝ }
+    ensures { λ r. ⌜ r ≡ handed (closing gap at (len - at) (carrying table request)) ⌝ }
+{
+    if gap {
+        return refused(11, at);
+    }
+    if len != at + layout::LAST_LENGTH {
+        return refused(11, at + layout::LAST_LENGTH);
+    }
+    ReadCard {
+        table: table,
+        request: request,
+        answer: CardAnswer::Read,
+    }
+}
+
+// R53, R54, R55: the records after the clock's, each made a slot and its entry at once; a slot without one is as one marked TF.
+fn records(card: &[u8]) -> ReadCard
+    requires { ⌜ clockLength ≤ length (now card) ⌝ }
+    ensures { λ r. ⌜ r ≡ handed (meaning (recordsOf (value 8 (now (card .entry)) clockAt) 16 false clockLength (drop clockLength (now (card .entry))))) ⌝ }
+{
+    let none = Slot::empty();
+    let mut slots = [none; 16];
     let mut stretched = [0u16; 16];
-    let mut at: usize = 10;
+    let mut at: usize = layout::CLOCK_LENGTH;
     let mut i: usize = 0;
     let mut gap = false;
     loop {
         let r = record_at(card, at, 16 - i);
         match r {
-            Record::Line(run, t) => {
-                slots[i] = running(run);
-                stretched[i] = t;
-                at = at + 12;
+            Record::Slot(x) => {
+                slots[i] = x.slot();
+                stretched[i] = x.stretched;
+                at = at + x.length();
+                gap = x.is_free();
                 i = i + 1;
-                gap = false;
-            }
-            Record::Free => {
-                at = at + 2;
-                i = i + 1;
-                gap = true;
             }
             Record::Last(need, period) => {
-                let table = Table {
-                    clock: clock(card),
-                    slots: slots,
-                };
-                let request = request_of(stretched, need, period);
+                let table = Table::new(clock(card), slots);
+                let request = Request::new(stretched, need, period);
                 return closed(card.len(), at, gap, table, request);
             }
             Record::Refused(number) => {
@@ -225,10 +190,10 @@ fn records(card: &[u8]) -> ReadCard
 pub fn read(card: &[u8]) -> ReadCard
     ensures { λ r. ⌜ r ≡ handed (readOf (now (card .entry))) ⌝ }
 {
-    if card.len() < 10 {
+    if card.len() < layout::CLOCK_LENGTH {
         return refused(11, 0);
     }
-    if !opens(card, b"CK") {
+    if !opens(card, &layout::CK) {
         return refused(11, 0);
     }
     records(card)

@@ -8,7 +8,7 @@ use native.Mathlib.Omega.{arith}
 use lib.ListN.{length, replicate}
 use Rattle.table.specs.declared.Answer.{Answer}
 use Rattle.table.specs.declared.Answer.the-variants.{Start, Refused}
-use Rattle.table.specs.Words.{gives, refuses}
+use Rattle.table.specs.Words.{refusal, gives, refuses}
 use Rattle.table.specs.Ask.{says}
 use Rattle.reply.specs.declared.Written.the-variants.{Length, Short}
 use Rattle.reply.specs.Line.{digitsIn, digits, valueFrom, valueOf, AllDigits, answerLine, Wide, Replied, lengthOf, lengthFor, heldAfter}
@@ -63,7 +63,7 @@ abbrev released : ℕ → List ℕ → LineEdge
 released n l = record { answer = Start n; bytes = l }
 
 abbrev refusedBy : (number place : ℕ) → List ℕ → LineEdge
-refusedBy n k l = record { answer = Refused (record { number = n; place = k }); bytes = l }
+refusedBy n k l = record { answer = Refused (refusal n k); bytes = l }
 
 -- `release 0`
 abbrev zeroLine : List ℕ
@@ -95,7 +95,7 @@ unfolding digitsIn digits answerLine lineEdges
 line-edges = refl
 
 -- R61: the greatest numbers that an answer has are among those whose line is at most 40 bytes long
-pub widest : Wide (gives 18446744073709551615) × Wide (refuses (record { number = 65535; place = 18446744073709551615 }))
+pub widest : Wide (gives 18446744073709551615) × Wide (refuses (refusal 65535 18446744073709551615))
 widest = (omega arith, (omega arith, omega arith))
 
 -- R61: a line in an array of 40 bytes, and zeros after it

@@ -1,5 +1,5 @@
--- The laws of the sums: term by term, the frame's list, and which ground holds first.
+-- The laws of the sums: lists given by their numbers, sums term by term, and which ground holds first.
+pub mod Along
 pub mod Adding
-pub mod Filling
 pub mod Weighing
 pub mod Edges

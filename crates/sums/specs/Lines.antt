@@ -1,77 +1,61 @@
--- The running lines at their T', counted from the clock: as a list, and as the code's arrays hold them.
-use Prim.Native.Nat.{ℕ, zero, suc, _+_, _-_, _*_, _/_, _≤_, _<_}
-use mathlib.Core.List.{List, [], _∷_, _++_}
-use lib.ListN.{getD}
-use Rattle.sums.specs.declared.Gathered.{Gathered}
+-- Lines gathered as slices of numbers, counted from the clock: line k has the k-th number of each slice. As a list, and what is known of those that are fit.
+use Prim.Native.Nat.{ℕ, zero, suc, _+_, _≤_, _<_}
+use mathlib.Core.Path.{_≡_}
+use mathlib.Core.Bool.{Bool, true}
+use mathlib.Core.List.{List, [], _∷_}
+use lib.Dec.{eqb}
+use lib.ListN.{length, getD}
+use Rattle.line.specs.declared.Stream.{Stream}
+use Rattle.line.specs.Slots.{both}
+use Rattle.line.specs.Streams.{stream}
 
--- a running line: its first end counted from the clock, what remains of its need, its need and its T'
-pub record Line : Type 0 where
-  pub end : ℕ
-  pub remaining : ℕ
-  pub need : ℕ
-  pub period : ℕ
+-- f at i, i + 1, …: n of them
+unfoldable pub along : {A : Type 0} → (ℕ → A) → (i n : ℕ) → List A
+along f i zero = []
+along f i (suc n) = f i ∷ along f (suc i) n
 
--- a line with these numbers
-abbrev pub lineWith : (e c n p : ℕ) → Line
-lineWith e c n p = record { end = e; remaining = c; need = n; period = p }
-
--- f added up over the lines
-unfoldable pub sumOf : (Line → ℕ) → List Line → ℕ
+-- f added up over a list
+unfoldable pub sumOf : {A : Type 0} → (A → ℕ) → List A → ℕ
 sumOf f [] = 0
 sumOf f (x ∷ l) = f x + sumOf f l
 
--- f added up over the numbers below n
-unfoldable pub sumTo : (ℕ → ℕ) → ℕ → ℕ
-sumTo f zero = 0
-sumTo f (suc n) = sumTo f n + f n
+-- the test holds of each
+unfoldable pub allOf : {A : Type 0} → (A → Bool) → List A → Bool
+allOf test [] = true
+allOf test (x ∷ l) = both (test x) (allOf test l)
 
--- line k of four arrays
-abbrev pub lineAt : (e c n p : List ℕ) → ℕ → Line
-lineAt e c n p k = lineWith (getD e k 0) (getD c k 0) (getD n k 0) (getD p k 0)
+-- R9: line k of four slices: its first end, what remains of its need, its need, and the ticks from one end to the next
+abbrev pub lineAt : (e c n p : List ℕ) → ℕ → Stream
+lineAt e c n p k = stream (getD e k 0) (getD c k 0) (getD n k 0) (getD p k 0)
 
--- the first k lines of four arrays
-unfoldable pub linesTo : (e c n p : List ℕ) → ℕ → List Line
-linesTo e c n p zero = []
-linesTo e c n p (suc k) = linesTo e c n p k ++ (lineAt e c n p k ∷ [])
+-- the lines of four slices, as many as there are ends
+abbrev pub linesOf : (e c n p : List ℕ) → List Stream
+linesOf e c n p = along (lineAt e c n p) 0 (length e)
 
--- the lines gathered
-abbrev pub linesOf : Gathered → List Line
-linesOf g = linesTo (g .end) (g .remaining) (g .need) (g .period) (g .count)
+-- four slices have the same length
+abbrev pub alike : (e c n p : List ℕ) → Bool
+alike e c n p = both (eqb (length c) (length e)) (both (eqb (length n) (length e)) (eqb (length p) (length e)))
 
--- line k of those gathered
-abbrev pub lineOfAt : Gathered → ℕ → Line
-lineOfAt g k = lineAt (g .end) (g .remaining) (g .need) (g .period) k
+-- the most lines that are weighed
+abbrev pub most : ℕ
+most = 16
 
--- R24, R25, R3: what is known of a gathered line, since neither ground held and its numbers have sixteen bits
-pub record Fit (x : Line) : Type 0 where
+-- R3: the longest time from one end to the next, above every period
+abbrev pub longest : ℕ
+longest = 65536
+
+-- R24, R25, R3: what is known of a line that is fit
+pub record Fit (x : Stream) : Type 0 where
   pub some : 1 ≤ x .period
   pub ends : x .end ≤ x .period
   pub less : x .need ≤ x .period
   pub rest : x .remaining ≤ x .need
-  pub wide : x .period ≤ 65535
+  pub wide : x .period ≤ longest
 
--- sixteen lines at most, each of them fit
-pub record Packed (e c n p : List ℕ) (count : ℕ) : Type 0 where
-  pub few : count ≤ 16
-  pub each : (k : ℕ) → k < count → Fit (lineAt e c n p k)
-
--- the lines gathered are fit
-abbrev pub PackedIn : Gathered → Type 0
-PackedIn g = Packed (g .end) (g .remaining) (g .need) (g .period) (g .count)
-
--- R16, R28: C/T' times F
-abbrev pub shareOf : ℕ → Line → ℕ
-shareOf F x = x .need * (F / x .period)
-
--- R16, R29: c + C × a / T', times F
-abbrev pub claimOf : ℕ → Line → ℕ
-claimOf F x = F * x .remaining + x .need * (F / x .period) * (x .period - x .end)
-
--- R16, R29: C, times F
-abbrev pub fullOf : ℕ → Line → ℕ
-fullOf F x = F * x .need
-
--- the first k periods of an array
-unfoldable pub periodsTo : List ℕ → ℕ → List ℕ
-periodsTo p zero = []
-periodsTo p (suc k) = periodsTo p k ++ (getD p k 0 ∷ [])
+-- slices of one length, not too many lines, each of them fit
+pub record Packed (e c n p : List ℕ) : Type 0 where
+  pub same-c : length c ≡ length e
+  pub same-n : length n ≡ length e
+  pub same-p : length p ≡ length e
+  pub few : length e ≤ most
+  pub each : (k : ℕ) → k < length e → Fit (lineAt e c n p k)

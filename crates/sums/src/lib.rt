@@ -1,23 +1,21 @@
-// The lines gathered: whether they are fit, their frame (R8), and the grounds that their sums decide, every term taken times the frame (R16).
+// Lines gathered as slices of numbers: whether they are fit, their frame (R8), and the grounds that their sums decide, every term taken times the frame (R16).
 ghost use mathlib.Core.Path.{_≡_};
 ghost use mathlib.Core.List.{_∷_};
 ghost use Prim.Native.Nat.{_*_, _/_, _≤_};
-ghost use Rattle.periods.specs.Multiples.{frameOf, capped};
+ghost use Rattle.periods.specs.Multiples.{frameOf};
 ghost use Rattle.line.specs.Slots.{both};
-ghost use Rattle.sums.specs.Lines.{lineWith, Fit, periodsTo, PackedIn};
-ghost use Rattle.sums.specs.Weighed.{isFit, fitting, Weighs, AddedUp, weighedFit, weighed};
+ghost use Rattle.line.specs.Streams.{stream};
+ghost use Rattle.sums.specs.Lines.{alike, linesOf, Fit, Packed};
+ghost use Rattle.sums.specs.Weighed.{isFit, fittingIn, Weighs, AddedUp, weighedFit, weighedIn};
 
 // R27: the longest frame allowed
 const LIMIT: u64 = 1_000_000;
 
-// R9: line k, for k below `count`: its first end, counted from the clock; what remains of its need, its need, its T'.
-pub struct Gathered {
-    pub count: usize,
-    pub end: [u32; 16],
-    pub remaining: [u32; 16],
-    pub need: [u32; 16],
-    pub period: [u32; 16],
-}
+// the most lines that are weighed
+pub const MOST: usize = 16;
+
+// R3: the longest time from one end of a line to the next: above every period, so that a line's second end can lie behind every first one
+const LONGEST: u32 = 65_536;
 
 // R28, R29: shares, claims and whole needs, of one line or of all, times the frame.
 struct Weights {
@@ -33,46 +31,49 @@ fn and(a: bool, b: bool) -> bool
     if a { b } else { false }
 }
 
-// R24, R25, R3: a line's numbers agree with each other, and its period has sixteen bits
+// four slices have the same length: line k has the k-th number of each
+fn same_length<'a>(
+    ends: &'a [u32],
+    remaining: &'a [u32],
+    needs: &'a [u32],
+    periods: &'a [u32],
+) -> bool
+    ensures { λ r. ⌜ r ≡ alike (now (ends .entry)) (now (remaining .entry)) (now (needs .entry)) (now (periods .entry)) ⌝ }
+{
+    let n = ends.len();
+    and(
+        remaining.len() == n,
+        and(needs.len() == n, periods.len() == n),
+    )
+}
+
+// R24, R25, R3: a line's numbers agree with each other
 fn line_fits(end: u32, remaining: u32, need: u32, period: u32) -> bool
-    ensures { λ r. ⌜ r ≡ isFit (lineWith end remaining need period) ⌝ }
+    ensures { λ r. ⌜ r ≡ isFit (stream end remaining need period) ⌝ }
 {
     let inside = and(end <= period, need <= period);
-    let sized = and(1 <= period, period <= 65535);
+    let sized = and(1 <= period, period <= LONGEST);
     and(and(remaining <= need, inside), sized)
 }
 
-// R24, R25, R3: sixteen lines at most, each of them fit
-pub fn fits(g: Gathered) -> bool
-    ensures { λ r. ⌜ r ≡ fitting g ⌝ }
+// R24, R25, R3: slices of one length, sixteen lines at most, each of them fit
+pub fn fits<'a>(ends: &'a [u32], remaining: &'a [u32], needs: &'a [u32], periods: &'a [u32]) -> bool
+    ensures { λ r. ⌜ r ≡ fittingIn (now (ends .entry)) (now (remaining .entry)) (now (needs .entry)) (now (periods .entry)) ⌝ }
 {
-    if g.count > 16 {
+    if !same_length(ends, remaining, needs, periods) {
+        return false;
+    }
+    if ends.len() > MOST {
         return false;
     }
     let mut i: usize = 0;
-    while i < g.count {
-        if !line_fits(g.end[i], g.remaining[i], g.need[i], g.period[i]) {
+    while i < ends.len() {
+        if !line_fits(ends[i], remaining[i], needs[i], periods[i]) {
             return false;
         }
         i = i + 1;
     }
     true
-}
-
-// R8: the frame of Tn and every T', or 1,000,001 where it is above 1,000,000.
-fn frame(g: Gathered, new: u16) -> u64
-    requires { ⌜ PackedIn g ⌝ }
-    ensures { λ r. ⌜ (r ≡ capped (frameOf (new ∷ periodsTo (g .period) (g .count)))) × (r ≤ 1000001) ⌝ }
-{
-    let mut all = [0; 17];
-    all[0] = new;
-    let mut i: usize = 0;
-    while i < g.count {
-        all[i + 1] = g.period[i] as u16;
-        i = i + 1;
-    }
-    let n = g.count + 1;
-    periods::frame(&all[..n])
 }
 
 // R16, R28: C/T', times the frame.
@@ -85,16 +86,16 @@ fn share(frame: u64, need: u32, period: u32) -> u64
 
 // R16, R29: n ticks, times the frame or a share of it
 fn times(x: u64, n: u32) -> u64
-    requires { ⌜ (x ≤ 1000000) × (n ≤ 65535) ⌝ }
-    ensures { λ r. ⌜ (r ≡ x * n) × (r ≤ 65535000000) ⌝ }
+    requires { ⌜ (x ≤ 1000000) × (n ≤ 65536) ⌝ }
+    ensures { λ r. ⌜ (r ≡ x * n) × (r ≤ 65536000000) ⌝ }
 {
     x * n as u64
 }
 
 // R28, R29: one line's share, claim and need, each times the frame; the age is what the first end leaves of the period.
 fn line_weights(frame: u64, end: u32, remaining: u32, need: u32, period: u32) -> Weights
-    requires { ⌜ (frame ≤ 1000000) × Fit (lineWith end remaining need period) ⌝ }
-    ensures { λ r. ⌜ Weighs frame (lineWith end remaining need period) r ⌝ }
+    requires { ⌜ (frame ≤ 1000000) × Fit (stream end remaining need period) ⌝ }
+    ensures { λ r. ⌜ Weighs frame (stream end remaining need period) r ⌝ }
 {
     let part = share(frame, need, period);
     let claim = times(frame, remaining) + times(part, period - end);
@@ -106,39 +107,52 @@ fn line_weights(frame: u64, end: u32, remaining: u32, need: u32, period: u32) ->
     }
 }
 
-// R28, R29: the running lines' shares, claims and needs, each added up
-fn add_up(g: Gathered, frame: u64) -> Weights
-    requires { ⌜ PackedIn g × (frame ≤ 1000000) ⌝ }
-    ensures { λ r. ⌜ AddedUp g frame r ⌝ }
+// R28, R29: the lines' shares, claims and needs, each added up
+fn add_up<'a>(
+    frame: u64,
+    ends: &'a [u32],
+    remaining: &'a [u32],
+    needs: &'a [u32],
+    periods: &'a [u32],
+) -> Weights
+    requires { ⌜ Packed (now ends) (now remaining) (now needs) (now periods) × (frame ≤ 1000000) ⌝ }
+    ensures { λ r. ⌜ AddedUp (linesOf (now (ends .entry)) (now (remaining .entry)) (now (needs .entry)) (now (periods .entry))) frame r ⌝ }
 {
     let mut shares: u64 = 0;
     let mut claims: u64 = 0;
-    let mut needs: u64 = 0;
+    let mut fulls: u64 = 0;
     let mut i: usize = 0;
-    while i < g.count {
-        let w = line_weights(frame, g.end[i], g.remaining[i], g.need[i], g.period[i]);
+    while i < ends.len() {
+        let w = line_weights(frame, ends[i], remaining[i], needs[i], periods[i]);
         shares = shares + w.shares;
         claims = claims + w.claims;
-        needs = needs + w.needs;
+        fulls = fulls + w.needs;
         i = i + 1;
     }
     Weights {
         shares: shares,
         claims: claims,
-        needs: needs,
+        needs: fulls,
     }
 }
 
 // R27, R28, R29: the first that holds of lines that are fit, and a new line that fits its period; 0 where none does
-fn weigh_fit(g: Gathered, need: u16, period: u16) -> u16
-    requires { ⌜ PackedIn g × (1 ≤ need) × (need ≤ period) ⌝ }
-    ensures { λ r. ⌜ r ≡ weighedFit g (frameOf (period ∷ periodsTo (g .period) (g .count))) need period ⌝ }
+fn weigh_fit<'a>(
+    ends: &'a [u32],
+    remaining: &'a [u32],
+    needs: &'a [u32],
+    periods: &'a [u32],
+    need: u16,
+    period: u16,
+) -> u16
+    requires { ⌜ Packed (now ends) (now remaining) (now needs) (now periods) × (1 ≤ need) × (need ≤ period) ⌝ }
+    ensures { λ r. ⌜ r ≡ weighedFit (linesOf (now (ends .entry)) (now (remaining .entry)) (now (needs .entry)) (now (periods .entry))) (frameOf (period ∷ now (periods .entry))) need period ⌝ }
 {
-    let f = frame(g, period);
+    let f = periods::frame(period as u32, periods);
     if f > LIMIT {
         return 7;
     }
-    let w = add_up(g, f);
+    let w = add_up(f, ends, remaining, needs, periods);
     let shares = w.shares + share(f, need as u32, period as u32);
     if shares > f {
         return 8;
@@ -149,15 +163,22 @@ fn weigh_fit(g: Gathered, need: u16, period: u16) -> u16
     0
 }
 
-// R18, R26 to R29: the number of the first ground that holds, of 4 (the lines gathered are not fit) and 6 to 9; 0 where none does
-pub fn weigh(g: Gathered, need: u16, period: u16) -> u16
-    ensures { λ r. ⌜ r ≡ weighed g need period ⌝ }
+// R18, R26 to R29: the number of the first ground that holds, of 4 (the lines are not fit) and 6 to 9; 0 where none does
+pub fn weigh<'a>(
+    ends: &'a [u32],
+    remaining: &'a [u32],
+    needs: &'a [u32],
+    periods: &'a [u32],
+    need: u16,
+    period: u16,
+) -> u16
+    ensures { λ r. ⌜ r ≡ weighedIn (now (ends .entry)) (now (remaining .entry)) (now (needs .entry)) (now (periods .entry)) need period ⌝ }
 {
-    if !fits(g) {
+    if !fits(ends, remaining, needs, periods) {
         return 4;
     }
     if !and(1 <= need, need <= period) {
         return 6;
     }
-    weigh_fit(g, need, period)
+    weigh_fit(ends, remaining, needs, periods, need, period)
 }

@@ -8,14 +8,14 @@ use Rattle.line.specs.declared.Held.the-variants.{Nothing}
 use Rattle.line.specs.declared.Slot.{Slot}
 use Rattle.table.specs.declared.Table.{Table}
 use Rattle.table.specs.declared.Request.{Request}
-use Rattle.line.specs.Slots.{empty, total, lowest}
-use Rattle.table.specs.Words.{emptyTable, refusal, Said, gives, refuses}
-use Rattle.line.specs.Demand.{due, lastEnd}
-use Rattle.line.specs.Stretch.{stretched}
+use Rattle.line.specs.Slots.{empty, total, mapAt, lowest}
+use Rattle.table.specs.Words.{requestWith, emptyTable, refusal, Said, gives, refuses}
+use Rattle.line.specs.Streams.{due, every, endsBefore}
+use Rattle.line.specs.Demand.{lastEnd}
 use Rattle.table.specs.Grounds.{asked}
 use Rattle.line.specs.Shares.{frame, periodsIn}
 use Rattle.table.specs.Ask.{says, askIn, askOf}
-use Rattle.line.specs.Ends.{every, endsBefore, endsOf, slack, bound, greatest, anyOf, start}
+use Rattle.line.specs.Ends.{endsOf, slack, bound, greatest, anyOf, start}
 use Rattle.table.specs.Admit.{admitOf}
 use Rattle.table.specs.Cases.{CaseLine, Case, line, running, waiting, tableOf, tableFor, case, caseA, caseC, caseG, caseK, caseL}
 
@@ -24,7 +24,7 @@ refused n k = refuses (refusal n k)
 
 -- every T' is p
 abbrev everyPeriod : (p Cn Tn : ℕ) → Request
-everyPeriod p Cn Tn = record { stretched = replicate 16 p; need = Cn; period = Tn }
+everyPeriod p Cn Tn = requestWith (replicate 16 p) Cn Tn
 
 abbrev row : Table → Request → Said ℕ → Case
 row t q a = record { table = t; request = q; answer = a }
@@ -123,7 +123,7 @@ askEdges = clocks ++ (slots ++ (soundness ++ (stretches ++ (newLines ++ (frames 
 
 -- R18, R19, R21 to R30: each ground on both sides of its edge, its place, and its order with the next
 pub ask-edges : map (λ (c : Case). says (askOf (c .table) (c .request))) askEdges ≡ map (λ (c : Case). c .answer) askEdges
-unfolding euclid gcdOf lcmOf frameFrom total lowest due lastEnd stretched periodsIn every endsBefore endsOf slack bound greatest anyOf start askIn askOf askEdges
+unfolding euclid gcdOf lcmOf frameFrom total lowest due lastEnd mapAt periodsIn every endsBefore endsOf slack bound greatest anyOf start askIn askOf askEdges
 ask-edges = refl
 
 abbrev frameIn : Case → ℕ
@@ -131,11 +131,11 @@ frameIn c = frame (asked (c .table) (c .request)) (c .request .period)
 
 -- R8, R67: the frames of cases K and L
 pub frames-K-L : (frameIn caseK ≡ 1000000) × (frameIn caseL ≡ 1000256)
-unfolding euclid gcdOf lcmOf frameFrom stretched periodsIn
+unfolding euclid gcdOf lcmOf frameFrom mapAt periodsIn
 frames-K-L = (refl, refl)
 
--- R15: no line runs, a waiting one is none, and the greatest of two
-pub last-end-edges : map (lastEnd 7) ([] ∷ (empty ∷ []) ∷ (waiting 1 8 3 ∷ []) ∷ (running 1 8 3 1 ∷ empty ∷ running 1 9 2 0 ∷ []) ∷ []) ≡ 7 ∷ 7 ∷ 7 ∷ 14 ∷ []
+-- R15: no line, a waiting one by its start, and the greatest of two
+pub last-end-edges : map (lastEnd 7) ([] ∷ (empty ∷ []) ∷ (waiting 1 8 3 ∷ []) ∷ (running 1 8 3 1 ∷ empty ∷ running 1 9 2 0 ∷ []) ∷ []) ≡ 7 ∷ 7 ∷ 10 ∷ 14 ∷ []
 unfolding lastEnd
 last-end-edges = refl
 
@@ -167,5 +167,5 @@ admitEdges =
 -- R42, R43: the answer and the whole table
 pub admit-edges : map {B = Said ℕ × Table} (λ (e : AdmitEdge). (says (admitOf (e .asks .table) (e .asks .request) .answer), admitOf (e .asks .table) (e .asks .request) .table)) admitEdges
     ≡ map (λ (e : AdmitEdge). (e .asks .answer, e .leaves)) admitEdges
-unfolding euclid gcdOf lcmOf frameFrom total lowest due lastEnd stretched periodsIn every endsBefore endsOf slack bound greatest anyOf start askIn askOf admitEdges
+unfolding euclid gcdOf lcmOf frameFrom total lowest due lastEnd mapAt periodsIn every endsBefore endsOf slack bound greatest anyOf start askIn askOf admitEdges
 admit-edges = refl

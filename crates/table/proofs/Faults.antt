@@ -6,11 +6,11 @@ use native.Mathlib.Omega.{arith}
 use native.Mathlib.Decide.{decLe}
 use borrow.Author.Tests.{le-ltb}
 use Rattle.line.specs.declared.Slot.{Slot}
-use Rattle.line.specs.Slots.{total}
-use Rattle.line.specs.Demand.{due, newDemand, Smooth, lastEnd}
-use Rattle.line.specs.Stretch.{stretched}
+use Rattle.line.specs.Slots.{runOf, total, mapAt}
+use Rattle.line.specs.Streams.{due, every, endsBefore}
+use Rattle.line.specs.Demand.{newDemand, Smooth, lastEnd}
 use Rattle.table.specs.Grounds.{asked}
-use Rattle.line.specs.Ends.{every, endsBefore, endsOf}
+use Rattle.line.specs.Ends.{endsOf}
 use Rattle.table.specs.Cases.{caseA, caseD, caseM}
 use Rattle.table.specs.Faults.{closedStart, excessWith, floorStart, QuietAtEnds}
 
@@ -19,31 +19,31 @@ pub not-smooth : (t0 : ℕ) (l : List Slot) (Cn Tn r t : ℕ) → t0 ≤ t → 0
 not-smooth t0 l Cn Tn r t h x s = omega (arith, s .no-excess t h)
 
 -- R68: the closed formula gives 8 in case B
-pub closed-formula-B : closedStart 6 (record { need = 8; period = 16; age = 6; remaining = 2 }) 32 ≡ 8
+pub closed-formula-B : closedStart 6 (runOf 8 16 6 2) 32 ≡ 8
 unfolding closedStart
 closed-formula-B = refl
 
 -- R68: with nothing remaining it is the end itself, and where more remains than time is left it is cut at t0
-pub closed-formula-edges : (closedStart 6 (record { need = 8; period = 16; age = 6; remaining = 0 }) 32 ≡ 16)
-    × (closedStart 6 (record { need = 8; period = 16; age = 6; remaining = 8 }) 32 ≡ 6)
-    × (closedStart 6 (record { need = 8; period = 16; age = 6; remaining = 2 }) 48 ≡ 10)
+pub closed-formula-edges : (closedStart 6 (runOf 8 16 6 0) 32 ≡ 16)
+    × (closedStart 6 (runOf 8 16 6 8) 32 ≡ 6)
+    × (closedStart 6 (runOf 8 16 6 2) 48 ≡ 10)
 unfolding closedStart
 closed-formula-edges = (refl, refl, refl)
 
 -- R68: the floor gives 103 in case D, and with 103 the line that ends at 108 is a tick short
 pub floor-D : floorStart 100 (asked (caseD .table) (caseD .request)) 2 4 108 ≡ 103
-unfolding floorStart total due stretched
+unfolding floorStart total due mapAt
 floor-D = refl
 
 -- R68: its last term: once Tn − Cn more in case A; once less in case M, where x is below Cn; and cut at t0 where that is below 0
 pub floor-edges : (floorStart 8 (asked (caseA .table) (caseA .request)) 1 4 16 ≡ 13)
     × (floorStart 100 (asked (caseM .table) (caseM .request)) 3 6 108 ≡ 101)
     × (floorStart 100 (asked (caseM .table) (caseM .request)) 4 8 108 ≡ 100)
-unfolding floorStart total due stretched
+unfolding floorStart total due mapAt
 floor-edges = (refl, refl, refl)
 
 floor-D-excess : excessWith 100 (asked (caseD .table) (caseD .request)) 2 4 103 108 ≡ 1
-unfolding total due stretched
+unfolding total due mapAt
 floor-D-excess = refl
 
 -- R68, R13
@@ -52,16 +52,16 @@ floor-D-not-smooth = not-smooth 100 (asked (caseD .table) (caseD .request)) 2 4 
 
 -- R68: the running lines' ends alone give 103 in case M: it is the least start with no excess there
 ends-M : endsOf 100 (lastEnd 100 (asked (caseM .table) (caseM .request))) (asked (caseM .table) (caseM .request)) ≡ 108 ∷ []
-unfolding every endsBefore endsOf lastEnd stretched
+unfolding every endsBefore endsOf lastEnd mapAt
 ends-M = refl
 
 -- R68: in case M a start at 103 is quiet at every end of a running line
 pub only-ends-M : QuietAtEnds 100 (asked (caseM .table) (caseM .request)) 3 6 103
-unfolding total due stretched
+unfolding total due mapAt
 only-ends-M = rw ends-M (omega arith, tt)
 
 demand-M : (u : ℕ) → excessWith 100 (asked (caseM .table) (caseM .request)) 3 6 u 108 ≡ 7 + newDemand 3 6 u 108 - 8
-unfolding total due stretched
+unfolding total due mapAt
 demand-M u = refl
 
 -- R68: no earlier start has none there
@@ -78,7 +78,7 @@ only-ends-M-least u h q = by (decLe 103 u)
 
 -- R68: the new line's own first end would then be 109, with an excess of 1
 pub only-ends-M-excess : excessWith 100 (asked (caseM .table) (caseM .request)) 3 6 103 109 ≡ 1
-unfolding total due stretched
+unfolding total due mapAt
 only-ends-M-excess = refl
 
 -- R68, R13
@@ -87,7 +87,7 @@ only-ends-M-not-smooth = not-smooth 100 (asked (caseM .table) (caseM .request)) 
 
 -- started at once in case A there is an excess of 2 at 16
 at-once-A-excess : excessWith 8 (asked (caseA .table) (caseA .request)) 1 4 8 16 ≡ 2
-unfolding total due stretched
+unfolding total due mapAt
 at-once-A-excess = refl
 
 -- R68: the new line's share, 1/4, is below the others', and a start at once is not smooth

@@ -8,7 +8,8 @@ use lib.ListN.{replicate}
 use Rattle.table.specs.declared.Table.{Table}
 use Rattle.table.specs.declared.Request.{Request}
 use Rattle.line.specs.Slots.{at, Waits}
-use Rattle.table.specs.Words.{refusal, refuses}
+use Rattle.line.proofs.Search.{true-false}
+use Rattle.table.specs.Words.{requestWith, refusal, refuses}
 use Rattle.table.specs.Grounds.{Answers}
 use Rattle.table.specs.Cases.{running, waiting, tableOf}
 
@@ -16,13 +17,13 @@ abbrev twoGrounds : Table
 twoGrounds = tableOf 5 (running 9 8 0 0 ∷ waiting 1 8 3 ∷ [])
 
 abbrev anyRequest : Request
-anyRequest = record { stretched = replicate 16 8; need = 1; period = 8 }
+anyRequest = requestWith (replicate 16 8) 1 8
 
 -- R18, R23, R24: 3 is given, at slot 1, and not 4 at slot 0
 pub waiting-before-unsound : Answers twoGrounds anyRequest (refuses (refusal 3 1))
 waiting-before-unsound =
-    inr ((λ k h. omega (arith, h .0)), inr ((λ k h. h .0 2 (omega arith) refl), inl (1, record { inside = omega arith; here = tt; below = below }, refl)))
+    inr ((λ x h. omega (arith, h .1 .0)), inr ((λ x h. h .1 .0 2 (omega arith) refl), inl (1, record { inside = omega arith; here = refl; below = below }, refl)))
   where
     below : (i : ℕ) → i < 1 → Waits (at (twoGrounds .slots) i) → ⊥
-    below zero b v = v
+    below zero b v = true-false v refl
     below (suc i) b v = omega arith

@@ -1,5 +1,5 @@
 -- The step's branches, over plain values: what each return shows, from what the calls ensure; and that a refused step keeps the table.
-use Prim.Native.Nat.{ℕ, _+_, _^_, _≤_, _<_}
+use Prim.Native.Nat.{ℕ, _^_, _≤_, _<_}
 use mathlib.Core.Path.{_≡_, refl, ap, ap₂, sym, _∙_}
 use mathlib.Core.Bool.{Bool, true, false, not}
 use mathlib.Core.Option.{Option, none, some}
@@ -16,15 +16,28 @@ use Rattle.table.specs.declared.Which.{Which}
 use Rattle.table.specs.declared.Which.the-variants.{None, At}
 use Rattle.table.specs.declared.Outcome.the-variants.{Ran, Refused}
 use Rattle.table.specs.declared.Stepped.{Stepped}
-use Rattle.line.specs.Slots.{pick, at, lowestOf}
-use Rattle.table.specs.Words.{slotOf, whichOf}
+use Rattle.line.specs.Slots.{pick, slotAt, lowestOf}
+use Rattle.table.specs.Words.{withSlots, laterWith, slotOf, whichOf}
 use Rattle.line.specs.Sound.{sound}
-use Rattle.table.specs.Step.{choose, serve, pass, refusedStep, stepUnless, advance, stepOf}
-use Rattle.line.specs.Tick.{served, short}
+use Rattle.table.specs.Step.{choose, serve, pass, refusedStep, stepUnless, ticked, advance, stepOf}
+use Rattle.line.specs.Tick.{servedSlot, short}
 
--- a table is its clock and its slots
-pub table-is : {t : Table} {n : ℕ} {l : List Slot} → t .clock ≡ n → t .slots ≡ l → t ≡ record { clock = n; slots = l }
-table-is e f = ap₂ (λ (n : ℕ) (l : List Slot). let t : Table = record { clock = n; slots = l } in t) e f
+-- t is t₀ but for its slots: what a loop over the slots keeps
+pub record OnlySlots (t₀ t : Table) : Type 0 where
+  pub same : t ≡ withSlots t₀ (t .slots)
+
+-- at first nothing differs
+pub only-none : {t : Table} → OnlySlots t t
+only-none = record { same = refl }
+
+module _ {t₀ t : Table} (v : OnlySlots t₀ t) where
+  -- other slots still
+  pub only-on : (l : List Slot) → OnlySlots t₀ (withSlots t l)
+  only-on l = record { same = ap (λ (x : Table). withSlots x l) (v .same) }
+
+  -- with the slots that are wanted it is the table that is wanted
+  pub only-end : {l : List Slot} → t .slots ≡ l → t ≡ withSlots t₀ l
+  only-end e = v .same ∙ ap (withSlots t₀) e
 
 -- the slot that the code names, taken for the one that is served
 module _ {w : Which} (l : List Slot) where
@@ -34,10 +47,10 @@ module _ {w : Which} (l : List Slot) where
 
   -- R45: a number that is no slot's serves nobody
   pub serve-out : {k : ℕ} → w ≡ At k → length l ≤ k → l ≡ serve (slotOf w) l
-  serve-out {k} e h = sym (ap (λ (x : Which). serve (slotOf x) l) e ∙ set-out l k (record { held = served (at l k) }) h)
+  serve-out {k} e h = sym (ap (λ (x : Which). serve (slotOf x) l) e ∙ set-out l k (servedSlot (slotAt l k)) h)
 
   -- R45: the slot named is served
-  pub serve-at : {k : ℕ} {s : Slot} → w ≡ At k → s ≡ record { held = served (at l k) } → set l k s ≡ serve (slotOf w) l
+  pub serve-at : {k : ℕ} {s : Slot} → w ≡ At k → s ≡ servedSlot (slotAt l k) → set l k s ≡ serve (slotOf w) l
   serve-at {k} e f = ap (λ (x : Slot). set l k x) f ∙ sym (ap (λ (x : Which). serve (slotOf x) l) e)
 
 -- a slot named by the code's answer, and back
@@ -50,24 +63,20 @@ pub slot-of-which : (o : Option ℕ) → slotOf (whichOf o) ≡ o
 slot-of-which none = refl
 slot-of-which (some k) = refl
 
--- the step in which the slot w is served and no period ends short
-abbrev fine : Table → Which → Stepped
-fine t w = record { table = record { clock = t .clock + 1; slots = pass (serve (slotOf w) (t .slots)) }; outcome = Ran (whichOf (slotOf w)) }
-
-module _ (t : Table) (w late : Which) {u : Table} (eu : u ≡ record { clock = t .clock; slots = serve (slotOf w) (t .slots) })
+module _ (t : Table) (w late : Which) {u : Table} (eu : u ≡ withSlots t (serve (slotOf w) (t .slots)))
     (el : slotOf late ≡ lowestOf short (u .slots)) where
-  advance-by : (o : Option ℕ) → slotOf late ≡ o → stepUnless o 14 t (fine t w) ≡ advance (slotOf w) t
+  advance-by : (o : Option ℕ) → slotOf late ≡ o → stepUnless o 14 t (ticked (slotOf w) t) ≡ advance (slotOf w) t
   unfolding advance
-  advance-by o e = ap (λ (p : Option ℕ). stepUnless p 14 t (fine t w)) (sym e ∙ el ∙ ap (λ (v : Table). lowestOf short (v .slots)) eu)
+  advance-by o e = ap (λ (p : Option ℕ). stepUnless p 14 t (ticked (slotOf w) t)) (sym e ∙ el ∙ ap (λ (v : Table). lowestOf short (v .slots)) eu)
 
   pub advance-short : {k : ℕ} → late ≡ At k → refusedStep t 14 k ≡ advance (slotOf w) t
   advance-short {k} e = advance-by (some k) (ap slotOf e)
 
-  pub advance-fine : {v : Table} → late ≡ None → v ≡ record { clock = u .clock; slots = pass (u .slots) }
-      → _≡_ {A = Stepped} (record { table = record { clock = t .clock + 1; slots = v .slots }; outcome = Ran w }) (advance (slotOf w) t)
-  advance-fine e ev =
-      ap₂ (λ (l : List Slot) (x : Which). let s : Stepped = record { table = record { clock = t .clock + 1; slots = l }; outcome = Ran x } in s)
-      (ap (λ (x : Table). x .slots) ev ∙ ap (λ (x : Table). pass (x .slots)) eu) (which-of w)
+  pub advance-fine : {v next : Table} → late ≡ None → v ≡ withSlots u (pass (u .slots)) → next ≡ laterWith t (v .slots)
+      → _≡_ {A = Stepped} (record { table = next; outcome = Ran w }) (advance (slotOf w) t)
+  advance-fine {v} {next} e ev en =
+      ap₂ (λ (x : Table) (y : Which). let s : Stepped = record { table = x; outcome = Ran y } in s)
+      (en ∙ ap (laterWith t) (ap (λ (x : Table). x .slots) ev ∙ ap (λ (x : Table). pass (x .slots)) eu)) (which-of w)
       ∙ advance-by none (ap slotOf e)
 
 module _ (t : Table) where
@@ -107,8 +116,7 @@ module _ (t : Table) (x : Refusal) where
   advance-keeps : (o : Option ℕ) → Keeps (advance o t)
   unfolding advance
   advance-keeps o =
-      let s : Stepped = record { table = record { clock = t .clock + 1; slots = pass (serve o (t .slots)) }; outcome = Ran (whichOf o) } in
-      keeps-unless (lowestOf short (serve o (t .slots))) 14 s (keeps-ran (whichOf o) s refl)
+      keeps-unless (lowestOf short (serve o (t .slots))) 14 (ticked o t) (keeps-ran (whichOf o) (ticked o t) refl)
 
   -- R48, R17: a refused step keeps the table
   pub refused-keeps : stepOf t .outcome ≡ Refused x → stepOf t .table ≡ t

@@ -12,27 +12,24 @@ use Rattle.table.specs.declared.Request.{Request}
 use Rattle.table.specs.declared.Answer.{Answer}
 use Rattle.table.specs.declared.Answer.the-variants.{Start, Refused}
 use Rattle.table.specs.declared.Admitted.{Admitted}
-use Rattle.line.specs.Slots.{pick, isNothing, lowestOf}
+use Rattle.line.specs.Slots.{pick, waitOf, holding, begun, isNothing, lowestOf}
+use Rattle.table.specs.Words.{withSlots}
 use Rattle.table.specs.Grounds.{asked}
 use Rattle.table.specs.Ask.{askOf}
-use Rattle.line.specs.Tick.{fresh}
 
 -- R43: the new line runs at once where there is nothing to wait for, else it waits
 abbrev pub newLine : (Cn Tn wait : ℕ) → Held
-newLine Cn Tn w = pick (ltb 0 w) (Waiting (record { need = Cn; period = Tn; wait = w })) (fresh Cn Tn)
+newLine Cn Tn w = pick (ltb 0 w) (Waiting (waitOf Cn Tn w)) (begun Cn Tn)
 
--- a line put into the slot named
-abbrev pub putAt : Option ℕ → Held → List Slot → List Slot
-putAt none h l = l
-putAt (some k) h l = set l k (record { held = h })
+-- s for the slot named
+abbrev pub putAt : Option ℕ → Slot → List Slot → List Slot
+putAt none s l = l
+putAt (some k) s l = set l k s
 
 -- R42, R43: each running line at its T', and the new line, started at r, in the lowest empty slot
 abbrev pub admittedAt : Table → Request → (r : ℕ) → Table
 admittedAt t q r =
-    record {
-      clock = t .clock;
-      slots = putAt (lowestOf isNothing (t .slots)) (newLine (q .need) (q .period) (r - t .clock)) (asked t q);
-    }
+    withSlots t (putAt (lowestOf isNothing (t .slots)) (holding (newLine (q .need) (q .period) (r - t .clock))) (asked t q))
 
 -- R42, R17: the same answer as ask's, with the new table or after a refusal the old one
 abbrev pub admitWith : Table → Request → Answer → Admitted

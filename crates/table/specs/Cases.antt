@@ -6,8 +6,8 @@ use Rattle.line.specs.declared.Held.the-variants.{Running, Waiting}
 use Rattle.line.specs.declared.Slot.{Slot}
 use Rattle.table.specs.declared.Table.{Table}
 use Rattle.table.specs.declared.Request.{Request}
-use Rattle.line.specs.Slots.{empty}
-use Rattle.table.specs.Words.{refusal, Said, gives, refuses}
+use Rattle.line.specs.Slots.{runOf, waitOf, holding, empty}
+use Rattle.table.specs.Words.{tableWith, requestWith, refusal, Said, gives, refuses}
 
 -- a line of a case: C, T, T', age, remaining
 pub record CaseLine : Type 0 where
@@ -29,15 +29,15 @@ line C T T' a c = record { need = C; period = T; stretched = T'; age = a; remain
 
 -- a slot that runs a line
 abbrev pub running : (C T age remaining : ℕ) → Slot
-running C T a c = record { held = Running (record { need = C; period = T; age = a; remaining = c }) }
+running C T a c = holding (Running (runOf C T a c))
 
 -- a slot whose line waits
 abbrev pub waiting : (C T wait : ℕ) → Slot
-waiting C T w = record { held = Waiting (record { need = C; period = T; wait = w }) }
+waiting C T w = holding (Waiting (waitOf C T w))
 
 -- the slots from 0 up; the others hold nothing
 abbrev pub tableOf : (clock : ℕ) → List Slot → Table
-tableOf t0 l = record { clock = t0; slots = l ++ replicate (16 - length l) empty }
+tableOf t0 l = tableWith t0 (l ++ replicate (16 - length l) empty)
 
 -- the slot of a line of a case
 abbrev pub slotFor : CaseLine → Slot
@@ -49,8 +49,7 @@ tableFor t0 bs = tableOf t0 (map slotFor bs)
 
 -- the request of a case: each line's T', 0 for the other slots, and the new line
 abbrev pub requestFor : List CaseLine → (Cn Tn : ℕ) → Request
-requestFor bs Cn Tn =
-    record { stretched = map (λ (b : CaseLine). b .stretched) bs ++ replicate (16 - length bs) 0; need = Cn; period = Tn }
+requestFor bs Cn Tn = requestWith (map (λ (b : CaseLine). b .stretched) bs ++ replicate (16 - length bs) 0) Cn Tn
 
 -- a case by its clock, its lines, its new line and its answer
 abbrev pub case : (clock : ℕ) → List CaseLine → (Cn Tn : ℕ) → Said ℕ → Case

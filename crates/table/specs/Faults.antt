@@ -4,12 +4,12 @@ use mathlib.Core.List.{List}
 use Rattle.periods.specs.Multiples.{All}
 use Rattle.line.specs.declared.Run.{Run}
 use Rattle.line.specs.declared.Slot.{Slot}
-use Rattle.line.specs.Demand.{firstEnd, demands, newDemand, excess, lastEnd}
+use Rattle.line.specs.Demand.{demands, newDemand, excess, lastEnd}
 use Rattle.line.specs.Ends.{endsOf}
 
 -- R68: the closed formula: the line's end at its old period, less what remains over the share that it frees, cut at t0
 unfoldable pub closedStart : (t0 : ℕ) → Run → (T' : ℕ) → ℕ
-closedStart t0 r T' = max t0 (firstEnd t0 r - r .remaining * (r .period * T') / (r .need * (T' - r .period)))
+closedStart t0 r T' = max t0 (t0 + (r .period - r .age) - r .remaining * (r .period * T') / (r .need * (T' - r .period)))
 
 -- the excess at t with the new line started at r
 abbrev pub excessWith : (t0 : ℕ) → List Slot → (Cn Tn r t : ℕ) → ℕ

@@ -71,14 +71,13 @@ abbrev pub Short : Table → Request → ℕ → Type 0
 Short t q k =
     ((x : ℕ) × (t .clock ≤ x) × (0 < excess (demands (t .clock) (asked t q) x) (t .clock) x)) × (k ≡ 0)
 
--- a row of the refusals' table
-pub record Row : Type 1 where
-  pub number : ℕ
-  pub Holds : Table → Request → ℕ → Type 0
+-- a row of the refusals' table: when it holds, and with which refusal
+abbrev pub Row : Type 1
+Row = Table → Request → Refusal → Type 0
 
--- a row by its number and its ground
+-- R17: the row of a ground whose refusal says no more than its number and its place
 abbrev pub row : ℕ → (Table → Request → ℕ → Type 0) → Row
-row n H = record { number = n; Holds = H }
+row n H t q x = (k : ℕ) × H t q k × (x ≡ refusal n k)
 
 -- R18: the grounds in their order
 abbrev pub grounds : List Row
@@ -98,13 +97,12 @@ grounds =
 -- R18: x is the refusal of the first ground that holds
 abbrev pub FirstOf : List Row → Table → Request → Refusal → Type 0
 FirstOf [] t q x = ⊥
-FirstOf (r ∷ rs) t q x =
-    ((k : ℕ) × r .Holds t q k × (x ≡ refusal (r .number) k)) ⊎ (((k : ℕ) → r .Holds t q k → ⊥) × FirstOf rs t q x)
+FirstOf (r ∷ rs) t q x = r t q x ⊎ (((y : Refusal) → r t q y → ⊥) × FirstOf rs t q x)
 
 -- R18: no ground holds
 abbrev pub NoneOf : List Row → Table → Request → Type 0
 NoneOf [] t q = Unit {0}
-NoneOf (r ∷ rs) t q = ((k : ℕ) → r .Holds t q k → ⊥) × NoneOf rs t q
+NoneOf (r ∷ rs) t q = ((x : Refusal) → r t q x → ⊥) × NoneOf rs t q
 
 -- what ask and admit are to answer: the first ground's refusal, or where none holds the least smooth start
 abbrev pub AnswersBy : List Row → Table → Request → Said ℕ → Type 0

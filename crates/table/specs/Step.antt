@@ -1,5 +1,5 @@
 -- The step of the pump, R44 to R48: who gets the tick, the table a tick later, and the refusals 15, 4, 14.
-use Prim.Native.Nat.{ℕ, zero, suc, _+_, _^_, _≤_, _<_}
+use Prim.Native.Nat.{ℕ, zero, suc, _^_, _≤_, _<_}
 use mathlib.Core.Bool.{not}
 use mathlib.Core.List.{List, map}
 use mathlib.Core.Option.{Option, none, some}
@@ -10,11 +10,11 @@ use Rattle.table.specs.declared.Table.{Table}
 use Rattle.table.specs.declared.Outcome.{Outcome}
 use Rattle.table.specs.declared.Outcome.the-variants.{Ran, Refused}
 use Rattle.table.specs.declared.Stepped.{Stepped}
-use Rattle.line.specs.Slots.{pick, at, lowestOf}
-use Rattle.table.specs.Words.{slotOf, refusal, Said, gives, refuses, whichOf}
+use Rattle.line.specs.Slots.{pick, slotAt, at, lowestOf}
+use Rattle.table.specs.Words.{slotOf, laterWith, refusal, Said, gives, refuses, whichOf}
 use Rattle.line.specs.Sound.{sound}
 use Rattle.table.specs.Admit.{putAt}
-use Rattle.line.specs.Tick.{Owed, isOwed, toEnd, served, short, passedSlot}
+use Rattle.line.specs.Tick.{Owed, isOwed, toEnd, servedSlot, short, passedSlot}
 
 -- R48: what each case of a step's answer says: the slot that ran or none, or the refusal
 abbrev pub saysRan : Outcome → Said (Option ℕ)
@@ -50,7 +50,7 @@ choose l = chosen (length l) l
 -- R45: the slot named is served, or nobody
 abbrev pub serve : Option ℕ → List Slot → List Slot
 serve none l = l
-serve (some j) l = putAt (some j) (served (at l j)) l
+serve (some j) l = putAt (some j) (servedSlot (slotAt l j)) l
 
 -- R45 to R47: every slot a tick later
 abbrev pub pass : List Slot → List Slot
@@ -65,11 +65,13 @@ abbrev pub stepUnless : Option ℕ → ℕ → Table → Stepped → Stepped
 stepUnless none n t s = s
 stepUnless (some k) n t s = refusedStep t n k
 
+-- R45, R48: the tick in which the slot named, or none, is served, where no period ends short
+abbrev pub ticked : Option ℕ → Table → Stepped
+ticked o t = record { table = laterWith t (pass (serve o (t .slots))); outcome = Ran (whichOf o) }
+
 -- R45, R48: a tick in which the slot named, or none, is served
 unfoldable pub advance : Option ℕ → Table → Stepped
-advance o t =
-    stepUnless (lowestOf short (serve o (t .slots))) 14 t
-    (record { table = record { clock = t .clock + 1; slots = pass (serve o (t .slots)) }; outcome = Ran (whichOf o) })
+advance o t = stepUnless (lowestOf short (serve o (t .slots))) 14 t (ticked o t)
 
 -- R48, R35, R7: 15, then 4, then 14
 unfoldable pub stepOf : Table → Stepped

@@ -1,25 +1,48 @@
--- The table, R2 and R4, a refusal, R17, and what an answer says.
-use Prim.Native.Nat.{ℕ}
+-- The table, R2 and R4, a request, R6, a refusal, R17, how each is made, and what an answer says.
+use Prim.Native.Nat.{ℕ, _+_}
+use mathlib.Core.List.{List}
 use mathlib.Core.Option.{Option, none, some}
 use lib.ListN.{replicate}
 use Rattle.table.specs.declared.Table.{Table}
+use Rattle.table.specs.declared.Request.{Request}
 use Rattle.table.specs.declared.Refusal.{Refusal}
 use Rattle.table.specs.declared.Which.{Which}
 use Rattle.table.specs.declared.Which.the-variants.{None, At}
+use Rattle.line.specs.declared.Slot.{Slot}
 use Rattle.line.specs.Slots.{empty}
+
+-- ---- makers: a table, a request and a refusal are made here alone, so that they can grow
+
+-- R2: a table of this clock and these slots, and nothing else is known of it
+abbrev pub tableWith : (clock : ℕ) → List Slot → Table
+tableWith k l = record { clock = k; slots = l }
+
+-- R2: the table t with these slots
+abbrev pub withSlots : Table → List Slot → Table
+withSlots t l = record { clock = t .clock; slots = l }
+
+-- R45: the table t a tick later, with these slots
+abbrev pub laterWith : Table → List Slot → Table
+laterWith t l = record { clock = t .clock + 1; slots = l }
+
+-- R6: a request of these T' and this new line
+abbrev pub requestWith : (stretched : List ℕ) → (Cn Tn : ℕ) → Request
+requestWith ts Cn Tn = record { stretched = ts; need = Cn; period = Tn }
+
+-- R17: a number and a place
+abbrev pub refusal : (number place : ℕ) → Refusal
+refusal n k = record { number = n; place = k }
+
+-- ----
 
 -- R4, R2: clock 0, and nothing in any slot
 abbrev pub emptyTable : Table
-emptyTable = record { clock = 0; slots = replicate 16 empty }
+emptyTable = tableWith 0 (replicate 16 empty)
 
 -- the slot that the code's answer names, or none
 abbrev pub slotOf : Which → Option ℕ
 slotOf None = none
 slotOf (At k) = some k
-
--- R17: a number and a place. A refusal is made here alone, so that it can grow.
-abbrev pub refusal : (number place : ℕ) → Refusal
-refusal n k = record { number = n; place = k }
 
 -- what an answer says: what was asked for, or the refusal
 pub data Said (A : Type 0) : Type 0 where

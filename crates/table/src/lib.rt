@@ -1,9 +1,8 @@
 // The words of the pump: the table, the request, the refusal and the answers, and what is looked for among the slots.
 ghost use mathlib.Core.Path.{_≡_};
-ghost use mathlib.Core.Bool.{not};
-ghost use Rattle.line.specs.Slots.{isNothing, isWaiting, lowestOf};
-ghost use Rattle.line.specs.Sound.{sound};
-ghost use Rattle.table.specs.Words.{refusal, emptyTable, slotOf};
+ghost use Rattle.line.specs.Slots.{lowestOf};
+ghost use Rattle.line.specs.Tick.{is};
+ghost use Rattle.table.specs.Words.{tableWith, requestWith, refusal, emptyTable, slotOf};
 
 mod pump; // the step
 
@@ -20,7 +19,7 @@ pub struct Request {
     pub period: u16,
 }
 
-// R17: a number and a place. A refusal is made by `Refusal::new` alone, so that it can grow.
+// R17: a number and a place. Tables, requests and refusals are made by the makers below alone, and changed field by field, so that they can grow.
 pub struct Refusal {
     pub number: u16,
     pub place: u64,
@@ -68,60 +67,47 @@ impl Refusal {
     }
 }
 
-impl Table {
-    // R4: clock 0, and nothing in any slot.
-    pub fn empty() -> Table
-        ensures { λ r. ⌜ r ≡ emptyTable ⌝ }
+impl Request {
+    // R6: a request of these T' and this new line.
+    pub fn new(stretched: [u16; 16], need: u16, period: u16) -> Request
+        ensures { λ r. ⌜ r ≡ requestWith stretched need period ⌝ }
     {
-        let none = line::Slot {
-            held: line::Held::Nothing,
-        };
-        let slots = [none; 16];
+        Request {
+            stretched: stretched,
+            need: need,
+            period: period,
+        }
+    }
+}
+
+impl Table {
+    // R2: a table of this clock and these slots.
+    pub fn new(clock: u64, slots: [line::Slot; 16]) -> Table
+        ensures { λ r. ⌜ r ≡ tableWith clock slots ⌝ }
+    {
         Table {
-            clock: 0,
+            clock: clock,
             slots: slots,
         }
     }
 
-    // R24, R19: the lowest slot whose line is not sound.
-    pub fn lowest_unsound(self) -> Which
-        ensures { λ r. ⌜ slotOf r ≡ lowestOf (λ h. not (sound h)) (self .slots) ⌝ }
+    // R4: clock 0, and nothing in any slot.
+    pub fn empty() -> Table
+        ensures { λ r. ⌜ r ≡ emptyTable ⌝ }
     {
-        let mut k: usize = 0;
-        while k < 16 {
-            let s = self.slots[k];
-            if s.sound() {
-                k = k + 1;
-            } else {
-                return Which::At(k);
-            }
-        }
-        Which::None
+        let none = line::Slot::empty();
+        let slots = [none; 16];
+        Table::new(0, slots)
     }
 
-    // R23, R19: the lowest slot whose line waits.
-    pub fn lowest_waiting(self) -> Which
-        ensures { λ r. ⌜ slotOf r ≡ lowestOf isWaiting (self .slots) ⌝ }
+    // R19: the lowest slot of the kind that is looked for.
+    pub fn lowest(self, kind: line::Kind) -> Which
+        ensures { λ r. ⌜ slotOf r ≡ lowestOf (is kind) (self .slots) ⌝ }
     {
         let mut i: usize = 0;
         while i < 16 {
             let s = self.slots[i];
-            if s.waits() {
-                return Which::At(i);
-            }
-            i = i + 1;
-        }
-        Which::None
-    }
-
-    // R43, R22: the lowest slot that holds nothing.
-    pub fn lowest_empty(self) -> Which
-        ensures { λ r. ⌜ slotOf r ≡ lowestOf isNothing (self .slots) ⌝ }
-    {
-        let mut i: usize = 0;
-        while i < 16 {
-            let s = self.slots[i];
-            if s.is_empty() {
+            if s.is(kind) {
                 return Which::At(i);
             }
             i = i + 1;

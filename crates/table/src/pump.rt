@@ -1,9 +1,7 @@
 // The step of the pump, R44 to R48: who gets the tick, the table a tick later, and the refusals 15, 4, 14.
 ghost use mathlib.Core.Path.{_≡_};
 ghost use Prim.Native.Nat.{_+_, _^_, _<_};
-ghost use Rattle.line.specs.Slots.{lowestOf};
-ghost use Rattle.line.specs.Tick.{short};
-ghost use Rattle.table.specs.Words.{slotOf};
+ghost use Rattle.table.specs.Words.{withSlots, slotOf};
 ghost use Rattle.table.specs.Step.{choose, serve, pass, refusedStep, advance, stepOf};
 use crate::Outcome;
 use crate::Refusal;
@@ -36,7 +34,7 @@ impl Table {
 
     // R45: the slot named gets the tick; a number that is no slot's serves nobody.
     fn serve(self, w: Which) -> Table
-        ensures { λ r. ⌜ r ≡ record { clock = self .clock; slots = serve (slotOf w) (self .slots) } ⌝ }
+        ensures { λ r. ⌜ r ≡ withSlots self (serve (slotOf w) (self .slots)) ⌝ }
     {
         match w {
             Which::None => self,
@@ -53,25 +51,9 @@ impl Table {
         }
     }
 
-    // R34, R19: the lowest slot whose period ends short with this tick.
-    fn lowest_short(self) -> Which
-        ensures { λ r. ⌜ slotOf r ≡ lowestOf short (self .slots) ⌝ }
-    {
-        let mut i: usize = 0;
-        while i < 16 {
-            let s = self.slots[i];
-            let late = s.short();
-            if late {
-                return Which::At(i);
-            }
-            i = i + 1;
-        }
-        Which::None
-    }
-
     // R45 to R47: what each slot holds a tick later. The clock stays: `advance` moves it.
     fn pass(self) -> Table
-        ensures { λ r. ⌜ r ≡ record { clock = self .clock; slots = pass (self .slots) } ⌝ }
+        ensures { λ r. ⌜ r ≡ withSlots self (pass (self .slots)) ⌝ }
     {
         let mut t = self;
         let mut i: usize = 0;
@@ -101,16 +83,12 @@ impl Table {
         ensures { λ r. ⌜ r ≡ advance (slotOf w) self ⌝ }
     {
         let served = self.serve(w);
-        let late = served.lowest_short();
+        let late = served.lowest(line::Kind::Short);
         match late {
             Which::At(k) => self.refused(14, k),
             Which::None => {
-                let passed = served.pass();
-                let slots = passed.slots;
-                let next = Table {
-                    clock: self.clock + 1,
-                    slots: slots,
-                };
+                let mut next = served.pass();
+                next.clock = self.clock + 1;
                 Stepped {
                     table: next,
                     outcome: Outcome::Ran(w),
@@ -126,7 +104,7 @@ impl Table {
         if 281474976710656 <= self.clock {
             return self.refused(15, 0);
         }
-        let bad = self.lowest_unsound();
+        let bad = self.lowest(line::Kind::Unsound);
         match bad {
             Which::At(k) => self.refused(4, k),
             Which::None => {

@@ -3,44 +3,30 @@ use mathlib.Core.Path.{_≡_, refl, ap}
 use mathlib.Core.Option.{some}
 use mathlib.Core.List.{List}
 use Prim.Native.Nat.{ℕ, _+_, _*_, _-_, _/_, _∣_, _≤_, _<_}
-use native.Mathlib.Nat.{sub-zero}
+use native.Mathlib.Nat.{sub-zero, mul-le-mul-left}
 use native.Mathlib.Omega.{arith}
 use borrow.Author.Tests.{lt-ltb, le-ltb}
 use lib.ListN.{length, replicate}
+use Rattle.periods.proofs.Whole.{whole}
 use Rattle.line.specs.declared.Held.{Held}
-use Rattle.line.specs.declared.Held.the-variants.{Nothing, Running, Waiting}
+use Rattle.line.specs.declared.Held.the-variants.{Nothing}
 use Rattle.line.specs.declared.Slot.{Slot}
-use Rattle.line.specs.Slots.{empty, at, Each, total, Waits}
+use Rattle.line.specs.Slots.{holding, empty, at, Each, total}
 use Rattle.line.specs.Sound.{Sound}
-use Rattle.line.specs.Demand.{due, demand, newDemand, demands, Smooth}
-use Rattle.line.specs.Shares.{share, claim, full}
+use Rattle.line.specs.Streams.{due}
+use Rattle.line.specs.Demand.{demand, newDemand, demands, Smooth}
+use Rattle.line.specs.Shares.{Divides, share, claim, full}
 use Rattle.table.specs.Admit.{newLine, putAt}
-use Rattle.theory.specs.Fine.{wanted, wantedAll, shareHeld, Divides, Fine, Lag}
+use Rattle.theory.specs.Fine.{Fine, Lag}
 use Rattle.theory.proofs.Numbers.{split, due-renew}
-use Rattle.theory.proofs.Sums.{total-eq, total-zero, total-set, each-set, each-empty}
-
--- R10: without a waiting line the demand is that of the rule
-pub wanted-running : (k : ℕ) (h : Held) (t : ℕ) → (Waits h → ⊥) → wanted k h t ≡ demand k h t
-wanted-running k Nothing t n = refl
-wanted-running k (Running r) t n = refl
-wanted-running k (Waiting w) t n = absurd (n tt)
-
--- R28: where no line waits, the share that the pump counts is the one that ask counts
-pub share-held-running : (M : ℕ) (h : Held) → (Waits h → ⊥) → shareHeld M h ≡ share M h
-share-held-running M Nothing n = refl
-share-held-running M (Running r) n = refl
-share-held-running M (Waiting w) n = absurd (n tt)
-
--- R12: where no line waits, what the pump must give is the demand that ask counts
-pub wantedAll-running : (k : ℕ) (l : List Slot) (t : ℕ) → Each (λ h. Waits h → ⊥) l → wantedAll k l t ≡ demands k l t
-wantedAll-running k l t n = total-eq (λ h. wanted k h t) (λ h. demand k h t) l (λ i b. wanted-running k (at l i) t (n i b))
+use Rattle.theory.proofs.Sums.{total-zero, total-set, each-set, each-empty}
 
 -- R11, R43: the new line in the table asks for what the rule says: one that starts at once is at the beginning of a period
-pub new-wanted : (k C P r t : ℕ) → 1 ≤ P → k ≤ r → wanted k (newLine C P (r - k)) t ≡ newDemand C P r t
-new-wanted k C P r t p b =
+pub new-asks : (k C P r t : ℕ) → 1 ≤ P → k ≤ r → demand k (newLine C P (r - k)) t ≡ newDemand C P r t
+new-asks k C P r t p b =
     split (r - k) 0
     (λ g. let e : k ≡ r = omega arith in
-    rw (le-ltb 0 (r - k) g) (cc (sub-zero (k + P), due-renew k C P t p, e)))
+    rw (le-ltb 0 (r - k) g, sub-zero P) (cc (due-renew k C P t p, e)))
     (λ g. let e : k + (r - k) ≡ r = omega arith in
     rw (lt-ltb 0 (r - k) g) (ap (λ (n : ℕ). due n 0 C P t) e))
 
@@ -50,7 +36,7 @@ module _ (C P w : ℕ) where
   new-sound a b = split w 0 (λ g. rw (le-ltb 0 w g) (omega arith)) (λ g. rw (lt-ltb 0 w g) (omega arith))
 
   -- R28: its share is Cn/Tn, times M
-  pub new-share : (M : ℕ) → shareHeld M (newLine C P w) ≡ C * (M / P)
+  pub new-share : (M : ℕ) → share M (newLine C P w) ≡ C * (M / P)
   new-share M = split w 0 (λ g. rw (le-ltb 0 w g)) (λ g. rw (lt-ltb 0 w g))
 
   -- R8: a common multiple of its period is one for it
@@ -58,56 +44,57 @@ module _ (C P w : ℕ) where
   new-divides d = split w 0 (λ g. rw (le-ltb 0 w g) d) (λ g. rw (lt-ltb 0 w g) d)
 
   -- R29: it is not behind its share
-  pub new-lag : (M : ℕ) → claim M (newLine C P w) ≤ full M (newLine C P w)
-  new-lag M = split w 0 (λ g. rw (le-ltb 0 w g) (omega arith)) (λ g. rw (lt-ltb 0 w g) (omega arith))
+  pub new-lag : (M : ℕ) → P ∣ M → claim M (newLine C P w) ≤ full M (newLine C P w)
+  new-lag M d =
+      split w 0 (λ g. let z : P - (P - 0) ≡ 0 = omega arith in rw (le-ltb 0 w g) (omega (arith, ap (λ (n : ℕ). C * (M / P) * n) z)))
+      (λ g. let b : P - w ≤ P = omega arith in rw (lt-ltb 0 w g) (omega (arith, mul-le-mul-left (C * (M / P)) b, ap (λ (n : ℕ). C * n) (whole P M d))))
 
 -- R11: with the new line put in, what the pump must give is the running lines' demand and the new line's
-pub admitted-wanted : (k : ℕ) (l : List Slot) (j C P r t : ℕ) → Each (λ h. Waits h → ⊥) l → j < length l → at l j ≡ Nothing → 1 ≤ P → k ≤ r
-    → wantedAll k (putAt (some j) (newLine C P (r - k)) l) t ≡ demands k l t + newDemand C P r t
-admitted-wanted k l j C P r t n h e p b =
+pub admitted-demands : (k : ℕ) (l : List Slot) (j C P r t : ℕ) → j < length l → at l j ≡ Nothing → 1 ≤ P → k ≤ r
+    → demands k (putAt (some j) (holding (newLine C P (r - k))) l) t ≡ demands k l t + newDemand C P r t
+admitted-demands k l j C P r t h e p b =
     omega (
       arith,
-      total-set (λ x. wanted k x t) l j (newLine C P (r - k)) h,
-      ap (λ (x : Held). wanted k x t) e,
-      new-wanted k C P r t p b,
-      wantedAll-running k l t n,
+      total-set (λ x. demand k x t) l j (holding (newLine C P (r - k))) h,
+      ap (λ (x : Held). demand k x t) e,
+      new-asks k C P r t p b,
     )
 
 -- R5: sound lines stay so when a new line that fits its period is put in
-pub admitted-sound : (l : List Slot) (j C P w : ℕ) → Each Sound l → 1 ≤ C → C ≤ P → Each Sound (putAt (some j) (newLine C P w) l)
-admitted-sound l j C P w a b c = each-set Sound l j (newLine C P w) a (new-sound C P w b c)
+pub admitted-sound : (l : List Slot) (j C P w : ℕ) → Each Sound l → 1 ≤ C → C ≤ P → Each Sound (putAt (some j) (holding (newLine C P w)) l)
+admitted-sound l j C P w a b c = each-set Sound l j (holding (newLine C P w)) a (new-sound C P w b c)
 
 -- R42, R74: a smooth start makes a fine table
 pub admitted-fine : (M k : ℕ) (l : List Slot) (j C P r : ℕ)
-    → Each Sound l → Each (λ h. Waits h → ⊥) l → 0 < M → Each (Divides M) l → P ∣ M → total (share M) l + C * (M / P) ≤ M → 1 ≤ C → C ≤ P
+    → Each Sound l → 0 < M → Each (Divides M) l → P ∣ M → total (share M) l + C * (M / P) ≤ M → 1 ≤ C → C ≤ P
     → j < length l → at l j ≡ Nothing → Smooth k l (newDemand C P) r
-    → Fine M k (putAt (some j) (newLine C P (r - k)) l)
-admitted-fine M k l j C P r a n m d p x c q h e s =
+    → Fine M k (putAt (some j) (holding (newLine C P (r - k))) l)
+admitted-fine M k l j C P r a m d p x c q h e s =
     record {
       sound = admitted-sound l j C P (r - k) a c q;
       shares =
           record {
             some-frame = m;
-            common = each-set (Divides M) l j (newLine C P (r - k)) d (new-divides C P (r - k) p);
+            common = each-set (Divides M) l j (holding (newLine C P (r - k))) d (new-divides C P (r - k) p);
             at-most-one =
                 omega (
                   arith,
-                  total-set (shareHeld M) l j (newLine C P (r - k)) h,
+                  total-set (share M) l j (holding (newLine C P (r - k))) h,
                   new-share C P (r - k) M,
-                  total-eq (shareHeld M) (share M) l (λ i b. share-held-running M (at l i) (n i b)),
+                  ap (share M) e,
                 );
           };
-      no-excess = λ t b. omega (arith, admitted-wanted k l j C P r t n h e (omega arith) (s .from-clock), s .no-excess t b);
+      no-excess = λ t b. omega (arith, admitted-demands k l j C P r t h e (omega arith) (s .from-clock), s .no-excess t b);
     }
 
 -- R29: a new line does not lag
-pub lag-admitted : (M : ℕ) (l : List Slot) (j C P w : ℕ) → Lag M l → j < length l → at l j ≡ Nothing → Lag M (putAt (some j) (newLine C P w) l)
-lag-admitted M l j C P w g h e =
+pub lag-admitted : (M : ℕ) (l : List Slot) (j C P w : ℕ) → P ∣ M → Lag M l → j < length l → at l j ≡ Nothing → Lag M (putAt (some j) (holding (newLine C P w)) l)
+lag-admitted M l j C P w d g h e =
     omega (
       arith,
-      total-set (claim M) l j (newLine C P w) h,
-      total-set (full M) l j (newLine C P w) h,
-      new-lag C P w M,
+      total-set (claim M) l j (holding (newLine C P w)) h,
+      total-set (full M) l j (holding (newLine C P w)) h,
+      new-lag C P w M d,
       ap (claim M) e,
       ap (full M) e,
     )
@@ -121,9 +108,9 @@ empty-fine k n =
           record {
             some-frame = omega arith;
             common = each-empty (Divides 1) n tt;
-            at-most-one = omega (arith, total-zero (shareHeld 1) (replicate n empty) (each-empty (λ h. shareHeld 1 h ≡ 0) n refl));
+            at-most-one = omega (arith, total-zero (share 1) (replicate n empty) (each-empty (λ h. share 1 h ≡ 0) n refl));
           };
-      no-excess = λ t b. omega (arith, total-zero (λ h. wanted k h t) (replicate n empty) (each-empty (λ h. wanted k h t ≡ 0) n refl));
+      no-excess = λ t b. omega (arith, total-zero (λ h. demand k h t) (replicate n empty) (each-empty (λ h. demand k h t ≡ 0) n refl));
     }
 
 -- R29: in an empty table nobody is behind

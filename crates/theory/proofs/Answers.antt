@@ -12,6 +12,7 @@ use lib.ListN.{length}
 use Rattle.line.specs.declared.Slot.{Slot}
 use Rattle.table.specs.declared.Table.{Table}
 use Rattle.table.specs.declared.Request.{Request}
+use Rattle.table.specs.declared.Refusal.{Refusal}
 use Rattle.table.specs.declared.Answer.{Answer}
 use Rattle.line.specs.Slots.{both, at, Each, total, isNothing, isWaiting, Waits, lowest, lowestOf}
 use Rattle.table.specs.Words.{Said, gives, refuses}
@@ -23,39 +24,39 @@ use Rattle.line.specs.Shares.{frame, share, claim, full}
 use Rattle.table.specs.Ask.{says, isNone, refusedAt, refusedIf, askIn, askOf}
 use Rattle.line.specs.Ends.{endsOf, anyOf, shortAt}
 use Rattle.line.proofs.Search.{true-false, lowest-is, lowest-none}
-use Rattle.line.proofs.Sound.{sound-says, unsound-says}
+use Rattle.line.proofs.Sound.{sound-says, unsound-says, shrunk-says, shrunk-not}
 use Rattle.theory.specs.Fine.{Longer}
 use Rattle.theory.proofs.Start.{start-least}
 use Rattle.theory.proofs.Ten.{alone-without-short-end, found-short}
-use Rattle.theory.proofs.Stretched.{sound-stretched, running-stretched}
-use Rattle.theory.proofs.Tests.{lowest-of, none-of, nothing-says, waits-says, waits-not, shrunk-says, shrunk-not, some-of, none-is, fits-says, fits-not}
+use Rattle.theory.proofs.Stretched.{sound-stretched}
+use Rattle.theory.proofs.Tests.{lowest-of, none-of, nothing-says, some-of, none-is, fits-says, fits-not}
 use Rattle.theory.proofs.Granted.{given}
 
 -- ---- one row of the refusals' table
 
 -- a ground that does not hold is passed over
 pass-row : (r : Row) (rs : List Row) (t : Table) (q : Request) (a : Said ℕ)
-    → ((k : ℕ) → r .Holds t q k → ⊥) → AnswersBy rs t q a → AnswersBy (r ∷ rs) t q a
+    → ((x : Refusal) → r t q x → ⊥) → AnswersBy rs t q a → AnswersBy (r ∷ rs) t q a
 pass-row r rs t q (gives x) n h = ((n, h .0), h .1)
 pass-row r rs t q (refuses x) n h = inr (n, h)
 
 -- a test with place 0 that decides its ground
-row-if : (r : Row) (rs : List Row) (t : Table) (q : Request) (b : Bool) (a : Answer)
-    → (b ≡ true → r .Holds t q 0) → (b ≡ false → (k : ℕ) → r .Holds t q k → ⊥)
-    → (b ≡ false → AnswersBy rs t q (says a)) → AnswersBy (r ∷ rs) t q (says (refusedIf b (r .number) a))
-row-if r rs t q true a holds fails rest = inl (0, holds refl, refl)
-row-if r rs t q false a holds fails rest = pass-row r rs t q (says a) (fails refl) (rest refl)
+row-if : (n : ℕ) (H : Table → Request → ℕ → Type 0) (rs : List Row) (t : Table) (q : Request) (b : Bool) (a : Answer)
+    → (b ≡ true → H t q 0) → (b ≡ false → (k : ℕ) → H t q k → ⊥)
+    → (b ≡ false → AnswersBy rs t q (says a)) → AnswersBy (row n H ∷ rs) t q (says (refusedIf b n a))
+row-if n H rs t q true a holds fails rest = inl (0, holds refl, refl)
+row-if n H rs t q false a holds fails rest = pass-row (row n H) rs t q (says a) (λ x h. fails refl (h .0) (h .1)) (rest refl)
 
 -- a test that finds the place
-row-at : (r : Row) (rs : List Row) (t : Table) (q : Request) (o : Option ℕ) (a : Answer)
-    → ((k : ℕ) → o ≡ some k → r .Holds t q k) → (o ≡ none → (k : ℕ) → r .Holds t q k → ⊥)
-    → (o ≡ none → AnswersBy rs t q (says a)) → AnswersBy (r ∷ rs) t q (says (refusedAt o (r .number) a))
-row-at r rs t q (some k) a holds fails rest = inl (k, holds k refl, refl)
-row-at r rs t q none a holds fails rest = pass-row r rs t q (says a) (fails refl) (rest refl)
+row-at : (n : ℕ) (H : Table → Request → ℕ → Type 0) (rs : List Row) (t : Table) (q : Request) (o : Option ℕ) (a : Answer)
+    → ((k : ℕ) → o ≡ some k → H t q k) → (o ≡ none → (k : ℕ) → H t q k → ⊥)
+    → (o ≡ none → AnswersBy rs t q (says a)) → AnswersBy (row n H ∷ rs) t q (says (refusedAt o n a))
+row-at n H rs t q (some k) a holds fails rest = inl (k, holds k refl, refl)
+row-at n H rs t q none a holds fails rest = pass-row (row n H) rs t q (says a) (λ x h. fails refl (h .0) (h .1)) (rest refl)
 
 -- ---- grounds 7 to 10
 
-module _ (t : Table) (q : Request) (sound : Each Sound (asked t q)) (none-waits : Each (λ h. Waits h → ⊥) (asked t q))
+module _ (t : Table) (q : Request) (sound : Each Sound (asked t q))
     (some : 1 ≤ q .need) (fits : q .need ≤ q .period) where
   abbrev F : ℕ
   F = frame (asked t q) (q .period)
@@ -64,11 +65,11 @@ module _ (t : Table) (q : Request) (sound : Each Sound (asked t q)) (none-waits 
       (says (askIn (t .clock) F (asked t q) (q .need) (q .period)))
   unfolding askIn
   from-seven =
-      row-if (row 7 Wide) _ t q (ltb 1000000 F) _ (λ e. (ltb-true 1000000 F e, refl)) (λ e k h. omega (arith, ltb-false 1000000 F e, h .0))
-      (λ e7. row-if (row 8 Overload) _ t q (ltb F all-shares) _ (λ e. (ltb-true F all-shares e, refl)) (λ e k h. omega (arith, ltb-false F all-shares e, h .0))
-      (λ e8. row-if (row 9 Behind) _ t q (ltb need due) _ (λ e. (ltb-true need due e, refl)) (λ e k h. omega (arith, ltb-false need due e, h .0))
-      (λ e9. let g = given t q sound none-waits some fits (ltb-false F all-shares e8) (ltb-false need due e9) in
-      row-if (row 10 Short) _ t q short _
+      row-if 7 Wide _ t q (ltb 1000000 F) _ (λ e. (ltb-true 1000000 F e, refl)) (λ e k h. omega (arith, ltb-false 1000000 F e, h .0))
+      (λ e7. row-if 8 Overload _ t q (ltb F all-shares) _ (λ e. (ltb-true F all-shares e, refl)) (λ e k h. omega (arith, ltb-false F all-shares e, h .0))
+      (λ e8. row-if 9 Behind _ t q (ltb need due) _ (λ e. (ltb-true need due e, refl)) (λ e k h. omega (arith, ltb-false need due e, h .0))
+      (λ e9. let g = given t q sound some fits (ltb-false F all-shares e8) (ltb-false need due e9) in
+      row-if 10 Short _ t q short _
       (λ e. let w = found-short (t .clock) (asked t q) sound e in ((w .0, w .1 .from-clock, w .1 .above), refl))
       (λ e k h. omega (arith, h .0 .2, alone-without-short-end F (t .clock) (asked t q) (q .need) (q .period) g e (h .0 .0) (h .0 .1)))
       (λ e10. (tt, start-least F (t .clock) (asked t q) (q .need) (q .period) g (alone-without-short-end F (t .clock) (asked t q) (q .need) (q .period) g e10))))))
@@ -91,30 +92,29 @@ module _ (t : Table) (q : Request) (sound : Each Sound (asked t q)) (none-waits 
 pub ask-answers : (t : Table) (q : Request) → Answers t q (says (askOf t q))
 unfolding askOf
 ask-answers t q =
-    row-if (row 1 Late) _ t q (ltb (2 ^ 48 - 65536) (t .clock)) _
+    row-if 1 Late _ t q (ltb (2 ^ 48 - 65536) (t .clock)) _
     (λ e. (ltb-true (2 ^ 48 - 65536) (t .clock) e, refl)) (λ e k h. omega (arith, ltb-false (2 ^ 48 - 65536) (t .clock) e, h .0))
-    (λ e1. row-if (row 2 Full) _ t q (isNone (lowestOf isNothing l)) _
+    (λ e1. row-if 2 Full _ t q (isNone (lowestOf isNothing l)) _
     (λ e. ((λ i b z. true-false (ap isNothing z) (lowest-none (λ i. isNothing (at l i)) n (none-is (lowestOf isNothing l) e) i b)), refl))
     (λ e k h. let w = some-of (lowestOf isNothing l) e in
     let v = lowest-is (λ i. isNothing (at l i)) n (w .1) in
     h .0 (w .0) (v .inside) (nothing-says (at l (w .0)) (v .here)))
-    (λ e2. row-at (row 3 Waiters) _ t q (lowestOf isWaiting l) _
-    (λ k e. lowest-of (λ i. Waits (at l i)) (λ i. isWaiting (at l i)) n k (λ i. waits-says (at l i)) (λ i. waits-not (at l i)) e)
-    (λ e k h. none-of (λ i. Waits (at l i)) (λ i. isWaiting (at l i)) n (λ i. waits-not (at l i)) e k (h .inside) (h .here))
-    (λ e3. row-at (row 4 Unsound) _ t q (lowestOf (λ h. not (sound h)) l) _
+    (λ e2. row-at 3 Waiters _ t q (lowestOf isWaiting l) _
+    (λ k e. lowest-of (λ i. Waits (at l i)) (λ i. isWaiting (at l i)) n k (λ i v. v) (λ i v e. true-false v e) e)
+    (λ e k h. none-of (λ i. Waits (at l i)) (λ i. isWaiting (at l i)) n (λ i v e. true-false v e) e k (h .inside) (h .here))
+    (λ e3. row-at 4 Unsound _ t q (lowestOf (λ h. not (sound h)) l) _
     (λ k e. lowest-of (λ i. Sound (at l i) → ⊥) (λ i. not (sound (at l i))) n k (λ i e. unsound-says (at l i) (not-true (sound (at l i)) e)) (λ i u e. u (sound-says (at l i) (not-false (sound (at l i)) e))) e)
     (λ e k h. h .here (sound-says (at l k) (not-false (sound (at l k)) (lowest-none (λ i. not (sound (at l i))) n e k (h .inside)))))
-    (λ e4. row-at (row 5 Shorter) _ t q (lowest (λ i. shrunk (entry q i) (at l i)) n) _
+    (λ e4. row-at 5 Shorter _ t q (lowest (λ i. shrunk (entry q i) (at l i)) n) _
     (λ k e. lowest-of (λ i. Shrunk (entry q i) (at l i)) (λ i. shrunk (entry q i) (at l i)) n k (λ i. shrunk-says (entry q i) (at l i)) (λ i. shrunk-not (entry q i) (at l i)) e)
     (λ e k h. none-of (λ i. Shrunk (entry q i) (at l i)) (λ i. shrunk (entry q i) (at l i)) n (λ i. shrunk-not (entry q i) (at l i)) e k (h .inside) (h .here))
-    (λ e5. row-if (row 6 Misfit) _ t q (not (both (leb 1 (q .need)) (leb (q .need) (q .period)))) _
+    (λ e5. row-if 6 Misfit _ t q (not (both (leb 1 (q .need)) (leb (q .need) (q .period)))) _
     (λ e. (fits-not (q .need) (q .period) (not-true (both (leb 1 (q .need)) (leb (q .need) (q .period))) e), refl))
     (λ e k h. h .0 (fits-says (q .need) (q .period) (not-false (both (leb 1 (q .need)) (leb (q .need) (q .period))) e)))
     (λ e6. let f = fits-says (q .need) (q .period) (not-false (both (leb 1 (q .need)) (leb (q .need) (q .period))) e6) in
     let longer : Longer l (entry q) = none-of (λ i. Shrunk (entry q i) (at l i)) (λ i. shrunk (entry q i) (at l i)) n (λ i. shrunk-not (entry q i) (at l i)) e5 in
     from-seven t q
     (sound-stretched l (entry q) longer (λ i b. sound-says (at l i) (not-false (sound (at l i)) (lowest-none (λ i. not (sound (at l i))) n e4 i b))))
-    (running-stretched l (entry q) longer (none-of (λ i. Waits (at l i)) (λ i. isWaiting (at l i)) n (λ i. waits-not (at l i)) e3))
     (f .0) (f .1)))))))
   where
     l : List Slot

@@ -1,54 +1,37 @@
 -- The demand rises only at ends, and the list of ends before a tick has them all.
-use mathlib.Core.Path.{_≡_, refl, sym, ap, _∙_}
+use mathlib.Core.Path.{_≡_, refl, sym, _∙_}
 use mathlib.Core.Logic.{_⊎_, inl, inr, ⊎-elim}
 use mathlib.Core.List.{List, [], _∷_}
-use Prim.Native.Nat.{ℕ, zero, suc, _+_, _*_, _-_, _/_, _%_, _≤_, _<_}
-use native.Mathlib.Nat.{not-suc-le-zero, div-eq-of-lt-le, div-add-mod, mod-lt, suc-mul, le-div-iff-mul-le, le-refl}
-use native.Mathlib.Decide.{ℕ-discrete, le-ind}
+use mathlib.Core.Option.{Option, none, some}
+use Prim.Native.Nat.{ℕ, zero, suc, _+_, _*_, _≤_, _<_}
+use native.Mathlib.Nat.{not-suc-le-zero, suc-mul, le-div-iff-mul-le, le-refl}
+use native.Mathlib.Decide.{le-ind}
 use native.Mathlib.Omega.{arith}
 use Rattle.periods.specs.Multiples.{All}
 use Rattle.periods.proofs.Lists.{all-appended, all-of-each}
 use Rattle.line.specs.declared.Held.{Held}
-use Rattle.line.specs.declared.Held.the-variants.{Nothing, Running, Waiting}
+use Rattle.line.specs.declared.Stream.{Stream}
 use Rattle.line.specs.declared.Slot.{Slot}
 use Rattle.line.specs.Slots.{at, Each, total}
 use Rattle.line.specs.Sound.{Sound}
-use Rattle.line.specs.Demand.{due, firstEnd, demand, demands}
-use Rattle.line.specs.Ends.{countBefore, every, endsBefore, endsIn, endsOf}
+use Rattle.line.specs.Streams.{asks, ofStream, byStream, endAt, flow, countBefore, every, endsBefore, endsAt, EndAt, Proper}
+use Rattle.line.specs.Demand.{demand, demands}
+use Rattle.line.specs.Ends.{endsOf}
+use Rattle.line.proofs.Streams.{sound-asks}
 use Rattle.theory.specs.Given.{IsEnd, AnyEnd}
-use Rattle.theory.proofs.Numbers.{split, due-before, due-after, due-mono}
-use Rattle.theory.proofs.Sums.{total-le, total-zero}
+use Rattle.theory.proofs.Sums.{total-le}
+use Rattle.theory.proofs.Flow.{flow-mono, flow-step}
+use Rattle.theory.proofs.Pump.{demands-now}
 
 -- ---- between two ends the demand stays
 
-by-dec : {A G : Type 0} → Dec A → (A → G) → ((A → ⊥) → G) → G
-by-dec (yes a) f g = f a
-by-dec (no n) f g = g n
-
--- a tick that fills no period adds none
-div-same : (n P : ℕ) → 1 ≤ P → (suc n % P ≡ 0 → ⊥) → suc n / P ≡ n / P
-div-same n P p h =
-    let q : ℕ = suc n / P in
-    let r : ℕ = suc n % P in
-    let e : P * q + r ≡ suc n = div-add-mod (suc n) P in
-    let b : r < P = mod-lt (suc n) p in
-    let c : 1 ≤ r = split 1 r (λ g. g) (λ g. absurd (h (omega arith))) in
-    sym (div-eq-of-lt-le P (omega arith) (omega arith))
-
-due-step : (e x C P t : ℕ) → 1 ≤ P → (due e x C P (suc t) ≡ due e x C P t) ⊎ ((k : ℕ) × (suc t ≡ e + k * P))
-due-step e x C P t p =
-    split e t
-    (λ h. let s : suc t - e ≡ suc (t - e) = omega arith in
-    by-dec (ℕ-discrete (suc (t - e) % P) 0) (λ z. inr (suc (t - e) / P, omega (arith, div-add-mod (suc (t - e)) P)))
-    (λ z. inl (due-after e x C P (suc t) (omega arith) ∙ ap (λ (n : ℕ). x + C * (n / P)) s ∙ ap (λ (n : ℕ). x + C * n) (div-same (t - e) P p z) ∙ sym (due-after e x C P t h))))
-    (λ h. split e (suc t)
-    (λ g. inr (0, omega arith))
-    (λ g. inl (due-before e x C P (suc t) g ∙ sym (due-before e x C P t h))))
-
 demand-step : (t0 : ℕ) (h : Held) (t : ℕ) → Sound h → (demand t0 h (suc t) ≡ demand t0 h t) ⊎ IsEnd t0 h (suc t)
-demand-step t0 Nothing t s = inl refl
-demand-step t0 (Running r) t s = due-step (firstEnd t0 r) (r .remaining) (r .need) (r .period) t (omega arith)
-demand-step t0 (Waiting w) t s = inl refl
+demand-step t0 h t s = go (asks h) (sound-asks h s)
+  where
+    go : (o : Option Stream) → ofStream (Unit {0}) Proper o
+        → (ofStream 0 (λ x. flow t0 x (suc t)) o ≡ ofStream 0 (λ x. flow t0 x t) o) ⊎ ofStream ⊥ (λ x. EndAt t0 x (suc t)) o
+    go none p = inl refl
+    go (some x) p = flow-step t0 x t p
 
 demands-step : (t0 : ℕ) (l : List Slot) (t : ℕ) → Each Sound l → (demands t0 l (suc t) ≡ demands t0 l t) ⊎ AnyEnd t0 l (suc t)
 unfolding total
@@ -58,15 +41,6 @@ demands-step t0 (x ∷ l) t s =
     (λ e. ⊎-elim (λ f. inl (omega arith)) (λ y. inr (suc (y .0), omega (arith, y .1), y .2)) (demands-step t0 l t (λ i b. s (suc i) (omega arith))))
     (λ e. inr (0, omega arith, e))
     (demand-step t0 (x .held) t (s 0 (omega arith)))
-
-demand-now : (t0 : ℕ) (h : Held) → Sound h → demand t0 h t0 ≡ 0
-demand-now t0 Nothing s = refl
-demand-now t0 (Running r) s = due-before (firstEnd t0 r) (r .remaining) (r .need) (r .period) t0 (omega arith)
-demand-now t0 (Waiting w) s = refl
-
--- R10: at the clock nothing is due
-pub demands-now : (t0 : ℕ) (l : List Slot) → Each Sound l → demands t0 l t0 ≡ 0
-demands-now t0 l s = total-zero (λ h. demand t0 h t0) l (λ i b. demand-now t0 (at l i) (s i b))
 
 -- what is due at t was due at the latest end up to t, or nothing is due yet
 abbrev pub Latest : ℕ → List Slot → ℕ → Type 0
@@ -83,19 +57,26 @@ latest t0 l s =
     (demands-step t0 l m s))
 
 demand-mono : (t0 : ℕ) (h : Held) (t u : ℕ) → Sound h → t ≤ u → demand t0 h t ≤ demand t0 h u
-demand-mono t0 Nothing t u s b = omega arith
-demand-mono t0 (Running r) t u s b = due-mono (firstEnd t0 r) (r .remaining) (r .need) (r .period) t u (omega arith) b
-demand-mono t0 (Waiting w) t u s b = omega arith
+demand-mono t0 h t u s b = go (asks h) (sound-asks h s)
+  where
+    go : (o : Option Stream) → ofStream (Unit {0}) Proper o → ofStream 0 (λ x. flow t0 x t) o ≤ ofStream 0 (λ x. flow t0 x u) o
+    go none p = omega arith
+    go (some x) p = flow-mono t0 x t u p b
 
 -- R10: demand never falls
 pub demands-mono : (t0 : ℕ) (l : List Slot) (t u : ℕ) → Each Sound l → t ≤ u → demands t0 l t ≤ demands t0 l u
 demands-mono t0 l t u s b = total-le (λ h. demand t0 h t) (λ h. demand t0 h u) l (λ i c. demand-mono t0 (at l i) t u (s i c) b)
 
--- every end comes after the clock
+-- R9: an end of a stream comes after the clock
+end-after : (k : ℕ) (s : Stream) (d : ℕ) → Proper s → EndAt k s d → k < d
+end-after k s d p e = omega (arith, e .1)
+
 end-late : (t0 : ℕ) (h : Held) (d : ℕ) → Sound h → IsEnd t0 h d → t0 < d
-end-late t0 Nothing d s e = absurd e
-end-late t0 (Running r) d s e = omega (arith, e .1)
-end-late t0 (Waiting w) d s e = absurd e
+end-late t0 h d s e = go (asks h) (sound-asks h s) e
+  where
+    go : (o : Option Stream) → ofStream (Unit {0}) Proper o → ofStream ⊥ (λ x. EndAt t0 x d) o → t0 < d
+    go none p e = absurd e
+    go (some x) p e = end-after t0 x d p e
 
 -- R9: every end comes after the clock
 pub any-late : (t0 : ℕ) (l : List Slot) (d : ℕ) → Each Sound l → AnyEnd t0 l d → t0 < d
@@ -131,28 +112,40 @@ all-every Q (suc n) e P (suc k) b a =
     let y : e + suc k * P ≡ e + P + k * P = omega arith in
     rw y (all-every Q n (e + P) P k (omega arith) (a .1))
 
-ends-in : (Q : ℕ → Type 0) (t0 last : ℕ) (h : Held) → Sound h → ((d : ℕ) → IsEnd t0 h d → d < last → Q d) → All Q (endsIn t0 last h)
+-- what holds of every end before last holds of the stream's list of them
+ends-listed : (Q : ℕ → Type 0) (k last : ℕ) (s : Stream) → Proper s → ((d : ℕ) → EndAt k s d → d < last → Q d) → All Q (endsAt k last s)
 unfolding endsBefore
-ends-in Q t0 last Nothing s f = tt
-ends-in Q t0 last (Running r) s f =
-    every-all Q (countBefore (firstEnd t0 r) (r .period) last) (firstEnd t0 r) (r .period)
-    (λ k b. f (firstEnd t0 r + k * r .period) (k, refl) (count-lt k (firstEnd t0 r) (r .period) last (omega arith) b))
-ends-in Q t0 last (Waiting w) s f = tt
+ends-listed Q k last s p f =
+    every-all Q (countBefore (endAt k s) (s .period) last) (endAt k s) (s .period)
+    (λ n b. f (endAt k s + n * s .period) (n, refl) (count-lt n (endAt k s) (s .period) last (omega arith) b))
 
-in-ends : (Q : ℕ → Type 0) (t0 last : ℕ) (h : Held) → Sound h → All Q (endsIn t0 last h) → (d : ℕ) → IsEnd t0 h d → d < last → Q d
+-- and the other way round
+listed-ends : (Q : ℕ → Type 0) (k last : ℕ) (s : Stream) (d : ℕ) → Proper s → All Q (endsAt k last s) → EndAt k s d → d < last → Q d
 unfolding endsBefore
-in-ends Q t0 last Nothing s a d e b = absurd e
-in-ends Q t0 last (Running r) s a d e b =
-    rw (e .1) (all-every Q (countBefore (firstEnd t0 r) (r .period) last) (firstEnd t0 r) (r .period) (e .0)
-    (lt-count (e .0) (firstEnd t0 r) (r .period) last (omega arith) (omega (arith, e .1))) a)
-in-ends Q t0 last (Waiting w) s a d e b = absurd e
+listed-ends Q k last s d p a e b =
+    rw (e .1) (all-every Q (countBefore (endAt k s) (s .period) last) (endAt k s) (s .period) (e .0)
+    (lt-count (e .0) (endAt k s) (s .period) last (omega arith) (omega (arith, e .1))) a)
+
+ends-in : (Q : ℕ → Type 0) (t0 last : ℕ) (h : Held) → Sound h → ((d : ℕ) → IsEnd t0 h d → d < last → Q d) → All Q (byStream [] (endsAt t0 last) h)
+ends-in Q t0 last h s f = go (asks h) (sound-asks h s) f
+  where
+    go : (o : Option Stream) → ofStream (Unit {0}) Proper o → ((d : ℕ) → ofStream ⊥ (λ x. EndAt t0 x d) o → d < last → Q d) → All Q (ofStream [] (endsAt t0 last) o)
+    go none p f = tt
+    go (some x) p f = ends-listed Q t0 last x p f
+
+in-ends : (Q : ℕ → Type 0) (t0 last : ℕ) (h : Held) → Sound h → All Q (byStream [] (endsAt t0 last) h) → (d : ℕ) → IsEnd t0 h d → d < last → Q d
+in-ends Q t0 last h s a d e b = go (asks h) (sound-asks h s) a e
+  where
+    go : (o : Option Stream) → ofStream (Unit {0}) Proper o → All Q (ofStream [] (endsAt t0 last) o) → ofStream ⊥ (λ x. EndAt t0 x d) o → Q d
+    go none p a e = absurd e
+    go (some x) p a e = listed-ends Q t0 last x d p a e b
 
 -- what holds of every end before last holds of the list's members
 pub ends-all : (Q : ℕ → Type 0) (t0 last : ℕ) (l : List Slot) → Each Sound l → ((d : ℕ) → AnyEnd t0 l d → d < last → Q d) → All Q (endsOf t0 last l)
 unfolding endsOf
 ends-all Q t0 last [] s f = tt
 ends-all Q t0 last (x ∷ l) s f =
-    all-appended Q (endsIn t0 last (x .held)) (endsOf t0 last l)
+    all-appended Q (byStream [] (endsAt t0 last) (x .held)) (endsOf t0 last l)
     (ends-in Q t0 last (x .held) (s 0 (omega arith)) (λ d e b. f d (0, omega arith, e) b))
     (ends-all Q t0 last l (λ i b. s (suc i) (omega arith)) (λ d e b. f d (suc (e .0), omega (arith, e .1), e .2) b))
 
@@ -161,6 +154,6 @@ pub all-ends : (Q : ℕ → Type 0) (t0 last : ℕ) (l : List Slot) → Each Sou
 unfolding endsOf
 all-ends Q t0 last [] s a d e b = absurd (not-suc-le-zero (e .1))
 all-ends Q t0 last (x ∷ l) s a d (zero, i, e) b =
-    in-ends Q t0 last (x .held) (s 0 (omega arith)) (all-of-each Q (endsIn t0 last (x .held)) (endsOf t0 last l) a .0) d e b
+    in-ends Q t0 last (x .held) (s 0 (omega arith)) (all-of-each Q (byStream [] (endsAt t0 last) (x .held)) (endsOf t0 last l) a .0) d e b
 all-ends Q t0 last (x ∷ l) s a d (suc k, i, e) b =
-    all-ends Q t0 last l (λ i b. s (suc i) (omega arith)) (all-of-each Q (endsIn t0 last (x .held)) (endsOf t0 last l) a .1) d (k, omega (arith, i), e) b
+    all-ends Q t0 last l (λ i b. s (suc i) (omega arith)) (all-of-each Q (byStream [] (endsAt t0 last) (x .held)) (endsOf t0 last l) a .1) d (k, omega (arith, i), e) b

@@ -22,26 +22,26 @@ use Rattle.line.specs.Stretch.{Shrunk, shrunk}
 use Rattle.line.specs.Shares.{periodsIn, frame, share, claim, full}
 use Rattle.table.specs.Ask.{says, isNone, refusedAt, refusedIf, askIn, askOf}
 use Rattle.line.specs.Ends.{start, endsOf, anyOf, shortAt}
-use Rattle.line.proofs.Search.{lowest-none}
-use Rattle.line.proofs.Sound.{sound-says}
+use Rattle.line.proofs.Search.{true-false, lowest-none}
+use Rattle.line.proofs.Sound.{sound-says, shrunk-not}
 use Rattle.theory.specs.Fine.{Longer}
 use Rattle.theory.specs.Given.{Given, Alone, Granted}
 use Rattle.theory.proofs.Start.{start-least}
 use Rattle.theory.proofs.Ten.{alone-without-short-end}
-use Rattle.theory.proofs.Stretched.{sound-stretched, running-stretched}
-use Rattle.theory.proofs.Tests.{none-of, waits-not, shrunk-not, some-of, fits-says, periods-divide, periods-pos}
+use Rattle.theory.proofs.Stretched.{sound-stretched}
+use Rattle.theory.proofs.Tests.{none-of, some-of, fits-says, periods-divide, periods-pos}
 
 -- the frame is a common multiple, and with sums 8 and 9 it gives what the theory of the start asks
-pub given : (t : Table) (q : Request) → Each Sound (asked t q) → Each (λ h. Waits h → ⊥) (asked t q) → 1 ≤ q .need → q .need ≤ q .period
+pub given : (t : Table) (q : Request) → Each Sound (asked t q) → 1 ≤ q .need → q .need ≤ q .period
     → let F = frame (asked t q) (q .period) in
     total (share F) (asked t q) + q .need * (F / q .period) ≤ F → total (claim F) (asked t q) ≤ total (full F) (asked t q)
     → Given F (asked t q) (q .need) (q .period)
-given t q s n c fits eight nine =
+given t q s c fits eight nine =
     let f = frame-is (q .period ∷ periodsIn (asked t q)) in
     record {
       sound = s;
       some-frame = frame-pos (q .period ∷ periodsIn (asked t q)) (omega arith, periods-pos (asked t q) s);
-      divides = periods-divide (frame (asked t q) (q .period)) (asked t q) n (f .common .1);
+      divides = periods-divide (frame (asked t q) (q .period)) (asked t q) (f .common .1);
       new-some = c;
       new-fits = fits;
       new-divides = f .common .0;
@@ -61,19 +61,19 @@ same-start : (r u : ℕ) → Start r ≡ Start u → r ≡ u
 same-start r u e = cc
 
 -- past test 9 the request is as the theory of the start wants it; past test 10 the start is the least smooth one
-granted-load : (t : Table) (q : Request) (r : ℕ) → Each Sound (asked t q) → Each (λ h. Waits h → ⊥) (asked t q) → 1 ≤ q .need → q .need ≤ q .period
+granted-load : (t : Table) (q : Request) (r : ℕ) → Each Sound (asked t q) → 1 ≤ q .need → q .need ≤ q .period
     → let F = frame (asked t q) (q .period) in
     askIn (t .clock) F (asked t q) (q .need) (q .period) ≡ Start r
     → Given F (asked t q) (q .need) (q .period) × Alone (t .clock) (asked t q) × Least (t .clock) (asked t q) (newDemand (q .need) (q .period)) r
 unfolding askIn
-granted-load t q r s n c fits e =
+granted-load t q r s c fits e =
     let F = frame (asked t q) (q .period) in
     let l = asked t q in
     let p7 = past-if (ltb 1000000 F) 7 _ r e in
     let p8 = past-if (ltb F (total (share F) l + q .need * (F / q .period))) 8 _ r (p7 .1) in
     let p9 = past-if (ltb (total (full F) l) (total (claim F) l)) 9 _ r (p8 .1) in
     let p10 = past-if (anyOf (shortAt (t .clock) l) (endsOf (t .clock) (lastEnd (t .clock) l) l)) 10 _ r (p9 .1) in
-    let g = given t q s n c fits (ltb-false F (total (share F) l + q .need * (F / q .period)) (p8 .0)) (ltb-false (total (full F) l) (total (claim F) l) (p9 .0)) in
+    let g = given t q s c fits (ltb-false F (total (share F) l + q .need * (F / q .period)) (p8 .0)) (ltb-false (total (full F) l) (total (claim F) l) (p9 .0)) in
     let a = alone-without-short-end F (t .clock) l (q .need) (q .period) g (p10 .0) in
     (g, a, rw (← same-start (start (t .clock) l (q .need) (q .period)) r (p10 .1)) (start-least F (t .clock) l (q .need) (q .period) g a))
 
@@ -95,11 +95,11 @@ granted t q r e =
     let p5 = past-at (lowest (λ i. shrunk (entry q i) (at l i)) n) 5 _ r (p4 .1) in
     let p6 = past-if (not (both (leb 1 (q .need)) (leb (q .need) (q .period)))) 6 _ r (p5 .1) in
     let k = some-of (lowestOf isNothing l) (p2 .0) in
-    let waits = none-of (λ i. Waits (at l i)) (λ i. isWaiting (at l i)) n (λ i. waits-not (at l i)) (p3 .0) in
+    let waits = none-of (λ i. Waits (at l i)) (λ i. isWaiting (at l i)) n (λ i v e. true-false v e) (p3 .0) in
     let sounds : Each Sound l = λ i b. sound-says (at l i) (not-false (sound (at l i)) (lowest-none (λ i. not (sound (at l i))) n (p4 .0) i b)) in
     let longer : Longer l (entry q) = none-of (λ i. Shrunk (entry q i) (at l i)) (λ i. shrunk (entry q i) (at l i)) n (λ i. shrunk-not (entry q i) (at l i)) (p5 .0) in
     let f = fits-says (q .need) (q .period) (not-false (both (leb 1 (q .need)) (leb (q .need) (q .period))) (p6 .0)) in
-    let w = granted-load t q r (sound-stretched l (entry q) longer sounds) (running-stretched l (entry q) longer waits) (f .0) (f .1) (p6 .1) in
+    let w = granted-load t q r (sound-stretched l (entry q) longer sounds) (f .0) (f .1) (p6 .1) in
     record {
       early = ltb-false (2 ^ 48 - 65536) (t .clock) (p1 .0);
       slot = k .0;

@@ -1,5 +1,6 @@
 -- Why the answers are right: first numbers, sums and single slots, then ask, then the step.
 pub mod Numbers
+pub mod Flow
 pub mod Sums
 pub mod Stretched
 pub mod Tail

@@ -6,7 +6,7 @@ use native.Mathlib.Decide.{decLe}
 use native.Mathlib.Omega.{arith}
 use borrow.Author.Tests.{lt-ltb, le-ltb}
 use Rattle.periods.proofs.Whole.{whole, div-mono, div-anti, share-of-time}
-use Rattle.line.specs.Demand.{due}
+use Rattle.line.specs.Streams.{due}
 
 by-le : {G : Type 0} (a b : ℕ) → Dec (a ≤ b) → (a ≤ b → G) → (b < a → G) → G
 by-le a b (yes h) f g = f h
@@ -33,16 +33,16 @@ due-mono e x C P t u p h =
     (λ g. omega (arith, due-after e x C P t g, due-after e x C P u (omega arith), mul-le-mul-left C (div-mono P (t - e) (u - e) p (omega arith))))
     (λ g. omega (arith, due-before e x C P t g))
 
--- a longer period asks for no more: of a line of age a at the clock k
-pub due-longer : (k a x C P Q t : ℕ) → 1 ≤ P → P ≤ Q → due (k + Q - a) x C Q t ≤ due (k + P - a) x C P t
-due-longer k a x C P Q t p h =
-    split (k + Q - a) t
-    (λ g. let e : k + P - a ≤ k + Q - a = omega arith in
-    let n : (t - (k + Q - a)) / Q ≤ (t - (k + P - a)) / P =
-    le-trans (div-anti P Q (t - (k + Q - a)) p h) (div-mono P (t - (k + Q - a)) (t - (k + P - a)) p (omega arith))
+-- a longer period asks for no more: of a line with the same age, whose end comes later by as much
+pub due-longer : (k e v x C P Q t : ℕ) → 1 ≤ P → P ≤ Q → v + P ≡ e + Q → due (k + v) x C Q t ≤ due (k + e) x C P t
+due-longer k e v x C P Q t p h z =
+    split (k + v) t
+    (λ g. let b : k + e ≤ k + v = omega arith in
+    let n : (t - (k + v)) / Q ≤ (t - (k + e)) / P =
+    le-trans (div-anti P Q (t - (k + v)) p h) (div-mono P (t - (k + v)) (t - (k + e)) p (omega arith))
     in
-    omega (arith, due-after (k + Q - a) x C Q t g, due-after (k + P - a) x C P t (le-trans e g), mul-le-mul-left C n))
-    (λ g. omega (arith, due-before (k + Q - a) x C Q t g))
+    omega (arith, due-after (k + v) x C Q t g, due-after (k + e) x C P t (le-trans b g), mul-le-mul-left C n))
+    (λ g. omega (arith, due-before (k + v) x C Q t g))
 
 -- an end with nothing owed is a whole need owed at the next end
 pub due-renew : (e C P t : ℕ) → 1 ≤ P → due (e + P) C C P t ≡ due e 0 C P t
@@ -75,13 +75,13 @@ due-share M k e x C P t d b z =
     (λ h. omega (arith, ap (λ (n : ℕ). M * n) (due-before e x C P t h)))
 
 -- from the first end on, demand is at most what is owed and the share of the time since the period began, less one need
-pub due-late : (M k a x C P t : ℕ) → P ∣ M → a ≤ P → k + P - a ≤ t → M * due (k + P - a) x C P t + M * C ≤ M * x + C * (M / P) * a + C * (M / P) * (t - k)
-due-late M k a x C P t d b h =
-    let e : t - (k + P - a) + P ≡ t - k + a = omega arith in
+pub due-late : (M k e x C P t : ℕ) → P ∣ M → k + e ≤ t → M * due (k + e) x C P t + M * C ≤ M * x + C * (M / P) * (P - e) + C * (M / P) * (t - k)
+due-late M k e x C P t d h =
+    let b : t - (k + e) + P ≤ t - k + (P - e) = omega arith in
     omega (
       arith,
-      ap (λ (n : ℕ). M * n) (due-after (k + P - a) x C P t h),
-      share-of-time P M C (t - (k + P - a)) d,
+      ap (λ (n : ℕ). M * n) (due-after (k + e) x C P t h),
+      share-of-time P M C (t - (k + e)) d,
       ap (λ (n : ℕ). n * C) (whole P M d),
-      ap (λ (n : ℕ). C * (M / P) * n) e,
+      mul-le-mul-left (C * (M / P)) b,
     )

@@ -1,32 +1,42 @@
 -- The sums of R28 and R29 do not depend on which common multiple is taken, R16.
 use mathlib.Core.Path.{_≡_, ap}
 use mathlib.Core.List.{List}
-use Prim.Native.Nat.{ℕ, _+_, _*_, _/_, _∣_, _≤_}
+use mathlib.Core.Option.{Option, none, some}
+use Prim.Native.Nat.{ℕ, _+_, _*_, _-_, _/_, _∣_, _≤_}
 use native.Mathlib.Nat.{le-of-mul-le-mul-left, mul-le-mul-left}
 use native.Mathlib.Omega.{arith}
 use Rattle.periods.proofs.Whole.{share-scale}
 use Rattle.line.specs.declared.Held.{Held}
-use Rattle.line.specs.declared.Held.the-variants.{Nothing, Running, Waiting}
+use Rattle.line.specs.declared.Stream.{Stream}
 use Rattle.line.specs.declared.Slot.{Slot}
 use Rattle.line.specs.Slots.{at, Each, total}
-use Rattle.line.specs.Shares.{share, claim, full}
-use Rattle.theory.specs.Fine.{Divides}
+use Rattle.line.specs.Streams.{asks, ofStream, shareOf, claimOf, fullOf, Measures}
+use Rattle.line.specs.Shares.{Divides, share, claim, full}
 use Rattle.theory.proofs.Sums.{total-eq, total-mul}
 
-share-both : (F G : ℕ) (h : Held) → Divides F h → Divides G h → G * share F h ≡ F * share G h
-share-both F G Nothing f g = omega arith
-share-both F G (Running r) f g = omega (arith, share-scale (r .period) F G (r .need) f g)
-share-both F G (Waiting w) f g = omega arith
+claim-scale : (F G c x y a : ℕ) → x * G ≡ y * F → G * (F * c + x * a) ≡ F * (G * c + y * a)
+claim-scale F G c x y a e = omega (arith, ap (λ (n : ℕ). n * a) e)
 
-owed-both : (F G : ℕ) (h : Held) → Divides F h → Divides G h → G * claim F h ≡ F * claim G h
-owed-both F G Nothing f g = omega arith
-owed-both F G (Running r) f g = omega (arith, ap (λ (n : ℕ). n * r .age) (share-scale (r .period) F G (r .need) f g))
-owed-both F G (Waiting w) f g = omega arith
+share-both : (F G : ℕ) (h : Held) → Divides F h → Divides G h → G * share F h ≡ F * share G h
+share-both F G h f g = go (asks h) f g
+  where
+    go : (o : Option Stream) → ofStream (Unit {0}) (Measures F) o → ofStream (Unit {0}) (Measures G) o → G * ofStream 0 (shareOf F) o ≡ F * ofStream 0 (shareOf G) o
+    go none f g = omega arith
+    go (some s) f g = omega (arith, share-scale (s .period) F G (s .need) f g)
+
+claim-both : (F G : ℕ) (h : Held) → Divides F h → Divides G h → G * claim F h ≡ F * claim G h
+claim-both F G h f g = go (asks h) f g
+  where
+    go : (o : Option Stream) → ofStream (Unit {0}) (Measures F) o → ofStream (Unit {0}) (Measures G) o → G * ofStream 0 (claimOf F) o ≡ F * ofStream 0 (claimOf G) o
+    go none f g = omega arith
+    go (some s) f g = claim-scale F G (s .remaining) _ _ (s .period - s .end) (share-scale (s .period) F G (s .need) f g)
 
 full-both : (F G : ℕ) (h : Held) → G * full F h ≡ F * full G h
-full-both F G Nothing = omega arith
-full-both F G (Running r) = omega arith
-full-both F G (Waiting w) = omega arith
+full-both F G h = go (asks h)
+  where
+    go : (o : Option Stream) → G * ofStream 0 (fullOf F) o ≡ F * ofStream 0 (fullOf G) o
+    go none = omega arith
+    go (some s) = omega arith
 
 module _ (F G : ℕ) (l : List Slot) (f : Each (Divides F) l) (g : Each (Divides G) l) (pos : 1 ≤ F) where
   -- R16, R28: the shares, taken times F, are at most 1: so they are times G
@@ -49,7 +59,7 @@ module _ (F G : ℕ) (l : List Slot) (f : Each (Divides F) l) (g : Each (Divides
       le-of-mul-le-mul-left {k = F}
       (omega (
         arith,
-        total-eq (λ h. G * claim F h) (λ h. F * claim G h) l (λ i c. owed-both F G (at l i) (f i c) (g i c)),
+        total-eq (λ h. G * claim F h) (λ h. F * claim G h) l (λ i c. claim-both F G (at l i) (f i c) (g i c)),
         total-eq (λ h. G * full F h) (λ h. F * full G h) l (λ i c. full-both F G (at l i)),
         total-mul G (claim F) l,
         total-mul F (claim G) l,

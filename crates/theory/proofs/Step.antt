@@ -1,46 +1,52 @@
 -- The computed step on a fine table: it is never refused before clock 2^48, and the table after it is fine again.
 use mathlib.Core.Path.{_≡_, refl, ap}
 use mathlib.Core.Bool.{true, false, not}
-use mathlib.Core.Option.{Option, none}
+use mathlib.Core.Option.{Option, none, some}
 use mathlib.Core.List.{List}
-use Prim.Native.Nat.{ℕ, _+_, _^_, _<_}
+use Prim.Native.Nat.{ℕ, _^_, _<_}
 use native.Mathlib.Numerals.{add-one}
 use native.Mathlib.Omega.{arith}
 use borrow.Author.Tests.{lt-ltb, le-ltb, lt-leb}
+use lib.Dec.{ltb}
 use lib.ListN.{length}
 use Rattle.line.specs.declared.Held.{Held}
-use Rattle.line.specs.declared.Held.the-variants.{Nothing, Running, Waiting}
+use Rattle.line.specs.declared.Stream.{Stream}
 use Rattle.line.specs.declared.Slot.{Slot}
 use Rattle.table.specs.declared.Table.{Table}
-use Rattle.line.specs.Slots.{at, Each, lowestOf}
+use Rattle.line.specs.Slots.{pick, at, Each, lowestOf}
 use Rattle.line.specs.Sound.{Sound, sound}
-use Rattle.table.specs.Step.{Earliest, choose, serve, advance, stepOf}
+use Rattle.line.specs.Streams.{asks, ofStream}
+use Rattle.table.specs.Step.{Earliest, choose, serve, ticked, advance, stepOf}
 use Rattle.line.specs.Tick.{short}
 use Rattle.line.proofs.Search.{true-false, none-found, lowest-none}
 use Rattle.line.proofs.Sound.{says-sound}
 use Rattle.table.proofs.Choice.{chosen-is, chosen-earliest}
-use Rattle.theory.specs.Fine.{Fine, Kept, Lag, ticked}
+use Rattle.theory.specs.Fine.{Fine, Closes, Kept, Lag}
 use Rattle.theory.proofs.Numbers.{split}
 use Rattle.theory.proofs.Pump.{never-short, fine-kept}
 use Rattle.theory.proofs.Lagging.{earliest-busy, lag-kept}
 
 -- R34: a period that is kept does not end short
 pub kept-short : (h : Held) → Kept h → short h ≡ false
-kept-short Nothing v = refl
-kept-short (Running r) v =
-    split (r .period) (r .age + 1)
-    (λ g. rw (le-ltb (r .age + 1) (r .period) g) (le-ltb 0 (r .remaining) (omega (arith, v g))))
-    (λ g. rw (lt-ltb (r .age + 1) (r .period) g))
-kept-short (Waiting w) v = refl
+kept-short h v = go (asks h) v
+  where
+    go : (o : Option Stream) → ofStream (Unit {0}) Closes o → ofStream false (λ s. pick (ltb 1 (s .end)) false (ltb 0 (s .remaining))) o ≡ false
+    go none v = refl
+    go (some s) v =
+        split (s .end) 1
+        (λ g. rw (le-ltb 1 (s .end) g) (le-ltb 0 (s .remaining) (omega (arith, v g))))
+        (λ g. rw (lt-ltb 1 (s .end) g))
 
 -- R34: and one that does not end short is kept
 pub short-kept : (h : Held) → short h ≡ false → Kept h
-short-kept Nothing e = tt
-short-kept (Running r) e = λ g.
-    split 1 (r .remaining)
-    (λ b. let z : true ≡ false = rw (le-ltb (r .age + 1) (r .period) g, lt-ltb 0 (r .remaining) b) at e in absurd (true-false refl z))
-    (λ b. omega arith)
-short-kept (Waiting w) e = tt
+short-kept h e = go (asks h) e
+  where
+    go : (o : Option Stream) → ofStream false (λ s. pick (ltb 1 (s .end)) false (ltb 0 (s .remaining))) o ≡ false → ofStream (Unit {0}) Closes o
+    go none e = tt
+    go (some s) e = λ g.
+        split 1 (s .remaining)
+        (λ b. let z : true ≡ false = rw (le-ltb 1 (s .end) g, lt-ltb 0 (s .remaining) b) at e in absurd (true-false refl z))
+        (λ b. omega arith)
 
 -- R34: where every period is kept the step finds none that ends short
 pub none-short : (l : List Slot) → Each Kept l → lowestOf short l ≡ none

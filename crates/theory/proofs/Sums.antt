@@ -48,8 +48,8 @@ unfolding total
 total-mulr x f [] = omega arith
 total-mulr x f (s ∷ l) = omega (arith, total-mulr x f l)
 
--- another line in slot j
-pub total-set : (f : Held → ℕ) (l : List Slot) (j : ℕ) (v : Held) → j < length l → total f (set l j (record { held = v })) + f (at l j) ≡ total f l + f v
+-- another slot for slot j
+pub total-set : (f : Held → ℕ) (l : List Slot) (j : ℕ) (v : Slot) → j < length l → total f (set l j v) + f (at l j) ≡ total f l + f (v .held)
 unfolding total
 total-set f [] j v h = absurd (not-suc-le-zero h)
 total-set f (s ∷ l) zero v h = omega arith
@@ -82,7 +82,7 @@ each-pass Q (s ∷ l) a zero h = a 0 (omega arith)
 each-pass Q (s ∷ l) a (suc i) h = each-pass Q l (λ k b. a (suc k) (omega arith)) i (omega arith)
 
 -- what holds of every slot and of v holds when v is put into one
-pub each-set : (Q : Held → Type 0) (l : List Slot) (j : ℕ) (v : Held) → Each Q l → Q v → Each Q (set l j (record { held = v }))
+pub each-set : (Q : Held → Type 0) (l : List Slot) (j : ℕ) (v : Slot) → Each Q l → Q (v .held) → Each Q (set l j v)
 each-set Q [] j v a q i h = absurd (not-suc-le-zero h)
 each-set Q (s ∷ l) zero v a q zero h = q
 each-set Q (s ∷ l) zero v a q (suc i) h = a (suc i) h

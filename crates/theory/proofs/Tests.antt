@@ -6,20 +6,21 @@ use mathlib.Core.Option.{Option, none, some}
 use Prim.Native.Nat.{ℕ, zero, suc, _∣_, _≤_, _<_}
 use native.Mathlib.Nat.{not-suc-le-zero}
 use native.Mathlib.Omega.{arith}
-use borrow.Author.Tests.{ltb-true, leb-true, leb-false, lt-ltb}
+use borrow.Author.Tests.{leb-true, leb-false}
 use lib.Dec.{leb}
 use Rattle.periods.specs.Multiples.{All}
 use Rattle.periods.proofs.Lists.{all-appended, all-of-each}
 use Rattle.line.specs.declared.Held.{Held}
 use Rattle.line.specs.declared.Held.the-variants.{Nothing, Running, Waiting}
+use Rattle.line.specs.declared.Stream.{Stream}
 use Rattle.line.specs.declared.Slot.{Slot}
-use Rattle.line.specs.Slots.{both, Each, isNothing, isWaiting, Waits, Lowest, lowest}
+use Rattle.line.specs.Slots.{both, Each, isNothing, Lowest, lowest}
 use Rattle.line.specs.Sound.{Sound}
-use Rattle.line.specs.Stretch.{Shrunk, shrunk}
-use Rattle.line.specs.Shares.{periodIn, periodsIn}
+use Rattle.line.specs.Streams.{asks, ofStream, byStream, Measures, Proper}
+use Rattle.line.specs.Shares.{periodsIn, Divides}
 use Rattle.table.specs.Ask.{isNone}
 use Rattle.line.proofs.Search.{true-false, lowest-is, lowest-none}
-use Rattle.theory.specs.Fine.{Divides}
+use Rattle.line.proofs.Streams.{sound-asks}
 
 -- R19: a search finds the lowest of which P holds, where its test says P
 pub lowest-of : (P : ℕ → Type 0) (test : ℕ → Bool) (n k : ℕ) → ((i : ℕ) → test i ≡ true → P i) → ((i : ℕ) → P i → test i ≡ false → ⊥)
@@ -42,30 +43,6 @@ pub nothing-says : (h : Held) → isNothing h ≡ true → h ≡ Nothing
 nothing-says Nothing e = refl
 nothing-says (Running r) e = absurd (true-false e refl)
 nothing-says (Waiting w) e = absurd (true-false e refl)
-
--- R23: the test says that a line waits
-pub waits-says : (h : Held) → isWaiting h ≡ true → Waits h
-waits-says Nothing e = true-false e refl
-waits-says (Running r) e = true-false e refl
-waits-says (Waiting w) e = tt
-
--- R23: and a line that waits passes it
-pub waits-not : (h : Held) → Waits h → isWaiting h ≡ false → ⊥
-waits-not Nothing v e = v
-waits-not (Running r) v e = v
-waits-not (Waiting w) v e = true-false refl e
-
--- R25: the test says that a period would be shortened
-pub shrunk-says : (p : ℕ) (h : Held) → shrunk p h ≡ true → Shrunk p h
-shrunk-says p Nothing e = true-false e refl
-shrunk-says p (Running r) e = ltb-true _ _ e
-shrunk-says p (Waiting w) e = true-false e refl
-
--- R25: and a period that would be passes it
-pub shrunk-not : (p : ℕ) (h : Held) → Shrunk p h → shrunk p h ≡ false → ⊥
-shrunk-not p Nothing v e = v
-shrunk-not p (Running r) v e = true-false (lt-ltb _ _ v) e
-shrunk-not p (Waiting w) v e = v
 
 -- what is not none is some slot
 pub some-of : (o : Option ℕ) → isNone o ≡ false → (k : ℕ) × (o ≡ some k)
@@ -95,26 +72,26 @@ fits-not C P e h = go (leb 1 C) refl e
 
 -- ---- the frame divides by every period
 
--- R8: a common multiple of the running lines' periods is one for every slot, where no line waits
-pub periods-divide : (F : ℕ) (l : List Slot) → Each (λ h. Waits h → ⊥) l → All (λ p. p ∣ F) (periodsIn l) → Each (Divides F) l
+-- R8: a common multiple of the periods is one for every slot
+pub periods-divide : (F : ℕ) (l : List Slot) → All (λ p. p ∣ F) (periodsIn l) → Each (Divides F) l
 unfolding periodsIn
-periods-divide F [] n a i b = absurd (not-suc-le-zero b)
-periods-divide F (s ∷ l) n a zero b = one (s .held) (n 0 b) (all-of-each (λ p. p ∣ F) (periodIn (s .held)) (periodsIn l) a .0)
+periods-divide F [] a i b = absurd (not-suc-le-zero b)
+periods-divide F (s ∷ l) a zero b = one (asks (s .held)) (all-of-each (λ p. p ∣ F) (byStream [] (λ x. x .period ∷ []) (s .held)) (periodsIn l) a .0)
   where
-    one : (h : Held) → (Waits h → ⊥) → All (λ p. p ∣ F) (periodIn h) → Divides F h
-    one Nothing n a = tt
-    one (Running r) n a = a .0
-    one (Waiting w) n a = absurd (n tt)
-periods-divide F (s ∷ l) n a (suc i) b =
-    periods-divide F l (λ j c. n (suc j) (omega arith)) (all-of-each (λ p. p ∣ F) (periodIn (s .held)) (periodsIn l) a .1) i (omega arith)
+    one : (o : Option Stream) → All (λ p. p ∣ F) (ofStream [] (λ x. x .period ∷ []) o) → ofStream (Unit {0}) (Measures F) o
+    one none a = tt
+    one (some x) a = a .0
+periods-divide F (s ∷ l) a (suc i) b =
+    periods-divide F l (all-of-each (λ p. p ∣ F) (byStream [] (λ x. x .period ∷ []) (s .held)) (periodsIn l) a .1) i (omega arith)
 
 -- R5: the periods of sound lines are at least 1
 pub periods-pos : (l : List Slot) → Each Sound l → All (λ p. 1 ≤ p) (periodsIn l)
 unfolding periodsIn
 periods-pos [] s = tt
-periods-pos (x ∷ l) s = all-appended (λ p. 1 ≤ p) (periodIn (x .held)) (periodsIn l) (one (x .held) (s 0 (omega arith))) (periods-pos l (λ i b. s (suc i) (omega arith)))
+periods-pos (x ∷ l) s =
+    all-appended (λ p. 1 ≤ p) (byStream [] (λ y. y .period ∷ []) (x .held)) (periodsIn l) (one (asks (x .held)) (sound-asks (x .held) (s 0 (omega arith))))
+    (periods-pos l (λ i b. s (suc i) (omega arith)))
   where
-    one : (h : Held) → Sound h → All (λ p. 1 ≤ p) (periodIn h)
-    one Nothing s = tt
-    one (Running r) s = (omega arith, tt)
-    one (Waiting w) s = tt
+    one : (o : Option Stream) → ofStream (Unit {0}) Proper o → All (λ p. 1 ≤ p) (ofStream [] (λ y. y .period ∷ []) o)
+    one none p = tt
+    one (some y) p = (omega arith, tt)

@@ -12,19 +12,23 @@ use Rattle.table.specs.declared.Answer.the-variants.{Start, Refused}
 use Rattle.line.specs.Slots.{Lowest}
 use Rattle.table.specs.Words.{refusal, Said, gives, refuses}
 use Rattle.line.specs.Demand.{newDemand}
-use Rattle.table.specs.Grounds.{asked, Row, grounds, FirstOf, NoneOf, Answers}
+use Rattle.table.specs.Grounds.{asked, Late, Full, Waiters, Unsound, Shorter, Misfit, Wide, Overload, Behind, Short, Row, row, grounds, FirstOf, NoneOf, Answers}
 use Rattle.table.specs.Ask.{says, askOf}
 use Rattle.theory.proofs.Numbers.{split}
 use Rattle.theory.proofs.Start.{least-unique}
 use Rattle.theory.proofs.Answers.{ask-answers}
 
--- a row gives one place only
-abbrev OnePlace : Row → Table → Request → Type 0
-OnePlace r t q = (j k : ℕ) → r .Holds t q j → r .Holds t q k → j ≡ k
+-- a row gives one refusal only
+abbrev One : Row → Table → Request → Type 0
+One r t q = (x y : Refusal) → r t q x → r t q y → x ≡ y
 
-abbrev OnePlaces : List Row → Table → Request → Type 0
-OnePlaces [] t q = Unit {0}
-OnePlaces (r ∷ rs) t q = OnePlace r t q × OnePlaces rs t q
+abbrev AllOne : List Row → Table → Request → Type 0
+AllOne [] t q = Unit {0}
+AllOne (r ∷ rs) t q = One r t q × AllOne rs t q
+
+-- a row whose ground has one place
+row-one : (n : ℕ) (H : Table → Request → ℕ → Type 0) (t : Table) (q : Request) → ((j k : ℕ) → H t q j → H t q k → j ≡ k) → One (row n H) t q
+row-one n H t q o x y p r = p .2 ∙ ap (refusal n) (o (p .0) (r .0) (p .1) (r .1)) ∙ sym (r .2)
 
 lowest-one : (P : ℕ → Type 0) (n j k : ℕ) → Lowest P n j → Lowest P n k → j ≡ k
 lowest-one P n j k p q =
@@ -33,20 +37,43 @@ lowest-one P n j k p q =
 zero-one : (P : Type 0) (j k : ℕ) → P × (j ≡ 0) → P × (k ≡ 0) → j ≡ k
 zero-one P j k p q = p .1 ∙ sym (q .1)
 
-one-places : (t : Table) (q : Request) → OnePlaces grounds t q
-one-places t q =
-    (zero-one _, (zero-one _, (lowest-one _ _, (lowest-one _ _, (lowest-one _ _, (zero-one _, (zero-one _, (zero-one _, (zero-one _, (zero-one _, tt))))))))))
+all-one : (t : Table) (q : Request) → AllOne grounds t q
+all-one t q = (
+  row-one 1 Late t q (zero-one _),
+  (
+    row-one 2 Full t q (zero-one _),
+    (
+      row-one 3 Waiters t q (lowest-one _ _),
+      (
+        row-one 4 Unsound t q (lowest-one _ _),
+        (
+          row-one 5 Shorter t q (lowest-one _ _),
+          (
+            row-one 6 Misfit t q (zero-one _),
+            (
+              row-one 7 Wide t q (zero-one _),
+              (
+                row-one 8 Overload t q (zero-one _),
+                (row-one 9 Behind t q (zero-one _), (row-one 10 Short t q (zero-one _), tt)),
+              ),
+            ),
+          ),
+        ),
+      ),
+    ),
+  ),
+)
 
-first-one : (rs : List Row) (t : Table) (q : Request) (x y : Refusal) → OnePlaces rs t q → FirstOf rs t q x → FirstOf rs t q y → x ≡ y
+first-one : (rs : List Row) (t : Table) (q : Request) (x y : Refusal) → AllOne rs t q → FirstOf rs t q x → FirstOf rs t q y → x ≡ y
 first-one [] t q x y o p r = absurd p
-first-one (s ∷ rs) t q x y o (inl p) (inl r) = p .2 ∙ ap (refusal (s .number)) (o .0 (p .0) (r .0) (p .1) (r .1)) ∙ sym (r .2)
-first-one (s ∷ rs) t q x y o (inl p) (inr r) = absurd (r .0 (p .0) (p .1))
-first-one (s ∷ rs) t q x y o (inr p) (inl r) = absurd (p .0 (r .0) (r .1))
+first-one (s ∷ rs) t q x y o (inl p) (inl r) = o .0 x y p r
+first-one (s ∷ rs) t q x y o (inl p) (inr r) = absurd (r .0 x p)
+first-one (s ∷ rs) t q x y o (inr p) (inl r) = absurd (p .0 y r)
 first-one (s ∷ rs) t q x y o (inr p) (inr r) = first-one rs t q x y (o .1) (p .1) (r .1)
 
 first-none : (rs : List Row) (t : Table) (q : Request) (x : Refusal) → FirstOf rs t q x → NoneOf rs t q → ⊥
 first-none [] t q x p n = p
-first-none (s ∷ rs) t q x (inl p) n = n .0 (p .0) (p .1)
+first-none (s ∷ rs) t q x (inl p) n = n .0 x p
 first-none (s ∷ rs) t q x (inr p) n = first-none rs t q x (p .1) (n .1)
 
 -- R71, R41: two answers that the relation allows are equal
@@ -54,7 +81,7 @@ pub answers-unique : (t : Table) (q : Request) (a b : Said ℕ) → Answers t q 
 answers-unique t q (gives r) (gives u) p s = ap gives (least-unique (t .clock) (asked t q) (newDemand (q .need) (q .period)) r u (p .1) (s .1))
 answers-unique t q (gives r) (refuses y) p s = absurd (first-none grounds t q y s (p .0))
 answers-unique t q (refuses x) (gives u) p s = absurd (first-none grounds t q x p (s .0))
-answers-unique t q (refuses x) (refuses y) p s = ap refuses (first-one grounds t q x y (one-places t q) p s)
+answers-unique t q (refuses x) (refuses y) p s = ap refuses (first-one grounds t q x y (all-one t q) p s)
 
 says-one : (a b : Answer) → says a ≡ says b → a ≡ b
 says-one (Start r) (Start u) e = cc

@@ -5,16 +5,16 @@ use mathlib.Core.List.{List}
 use mathlib.Core.Option.{some}
 use lib.ListN.{length}
 use Rattle.line.specs.declared.Held.{Held}
-use Rattle.line.specs.declared.Held.the-variants.{Nothing, Running, Waiting}
 use Rattle.line.specs.declared.Slot.{Slot}
 use Rattle.table.specs.declared.Table.{Table}
 use Rattle.table.specs.declared.Request.{Request}
 use Rattle.line.specs.Slots.{at, Each, total, isNothing, Waits, lowestOf}
 use Rattle.line.specs.Sound.{Sound}
-use Rattle.line.specs.Demand.{firstEnd, demands, newDemand, Least}
+use Rattle.line.specs.Streams.{byStream, EndAt}
+use Rattle.line.specs.Demand.{demands, newDemand, Least}
 use Rattle.table.specs.Grounds.{entry, asked}
-use Rattle.line.specs.Shares.{frame, share, claim, full}
-use Rattle.theory.specs.Fine.{Divides, Longer}
+use Rattle.line.specs.Shares.{frame, Divides, share, claim, full}
+use Rattle.theory.specs.Fine.{Longer}
 
 -- R24, R26, R28, R29: none of these grounds holds of the lines l at their T' and the new line (Cn, Tn), the sums taken times a common multiple F
 pub record Given (F : ℕ) (l : List Slot) (Cn Tn : ℕ) : Type 0 where
@@ -33,11 +33,9 @@ Alone t0 l = (t : ℕ) → t0 ≤ t → demands t0 l t ≤ t - t0
 
 -- d is an end of what a slot holds
 abbrev pub IsEnd : ℕ → Held → ℕ → Type 0
-IsEnd t0 Nothing d = ⊥
-IsEnd t0 (Running r) d = (k : ℕ) × (d ≡ firstEnd t0 r + k * r .period)
-IsEnd t0 (Waiting w) d = ⊥
+IsEnd t0 h d = byStream ⊥ (λ s. EndAt t0 s d) h
 
--- d is an end of some running line
+-- d is an end of some line
 abbrev pub AnyEnd : ℕ → List Slot → ℕ → Type 0
 AnyEnd t0 l d = (i : ℕ) × (i < length l) × IsEnd t0 (at l i) d
 

@@ -1,7 +1,7 @@
 -- The writer's loops over the slots: the used ones, the length of their records, the records.
 use mathlib.Core.Path.{_≡_, refl, sym, ap, ap₂, _∙_}
 use mathlib.Core.List.{List, [], _∷_, _++_, append-assoc, append-nil}
-use mathlib.Core.Bool.{true, false}
+use mathlib.Core.Bool.{Bool, true, false}
 use Prim.Native.Nat.{ℕ, zero, suc, _+_, _-_, _*_, _≤_, _<_}
 use native.Mathlib.Omega.{arith}
 use native.Mathlib.Nat.{le-of-suc-le-suc, add-comm}
@@ -9,38 +9,29 @@ use native.Mathlib.Numerals.{add-one}
 use lib.ListN.{length, take, drop, getD, length-append, length-drop}
 use lib.Seq.{drop-cons, getD-drop}
 use Rattle.line.specs.declared.Held.{Held}
-use Rattle.line.specs.declared.Held.the-variants.{Nothing, Running, Waiting}
 use Rattle.line.specs.declared.Slot.{Slot}
-use Rattle.line.specs.Slots.{empty, isNothing}
+use Rattle.line.specs.Slots.{pick, empty, isNothing}
+use Rattle.card.specs.declared.Mark.{Mark}
+use Rattle.card.specs.declared.SlotRecord.{SlotRecord}
+use Rattle.card.specs.declared.Recorded.{Recorded}
+use Rattle.card.specs.declared.Recorded.the-variants.{As, No}
+use Rattle.card.specs.Layout.{markBytes, isFree, lineLength, recordLength}
+use Rattle.card.specs.Marked.{numbersOf, recordBytes, recordFor, recordedBytes}
 use Rattle.card.specs.Card.{slotRecord, slotRecords, oneMore, usedFrom, used}
-use Rattle.line.proofs.Search.{true-false}
+use Rattle.card.proofs.Records.{bytes-length}
+use Rattle.card.proofs.Slots.{used-some}
 use Rattle.card.proofs.Length.{records-length}
 use Rattle.card.proofs.Parts.{put-at}
-
-used-nothing : (h : Held) (n : ℕ) → isNothing h ≡ true → usedFrom h n ≡ oneMore n
-used-nothing Nothing n e = refl
-used-nothing (Running r) n e = absurd (true-false e refl)
-used-nothing (Waiting w) n e = absurd (true-false e refl)
-
-used-something : (h : Held) (n : ℕ) → isNothing h ≡ false → usedFrom h n ≡ suc n
-used-something Nothing n e = absurd (true-false (sym e) refl)
-used-something (Running r) n e = refl
-used-something (Waiting w) n e = refl
 
 used-drop : (ss : List Slot) (k : ℕ) → k < length ss → isNothing (getD ss k empty .held) ≡ true → used (drop (suc k) ss) ≡ 0
     → used (drop k ss) ≡ 0
 used-drop ss k h e u =
-    ap used (drop-cons ss k empty h) ∙ used-nothing (getD ss k empty .held) (used (drop (suc k) ss)) e ∙ ap oneMore u
-
-used-front : (h : Held) (n : ℕ) → usedFrom h (suc n) ≡ suc (suc n)
-used-front Nothing n = refl
-used-front (Running r) n = refl
-used-front (Waiting w) n = refl
+    ap used (drop-cons ss k empty h) ∙ ap (λ (o : Bool). pick o (oneMore (used (drop (suc k) ss))) (suc (used (drop (suc k) ss)))) e ∙ ap oneMore u
 
 used-last : (ss : List Slot) (k : ℕ) → k < length ss → isNothing (getD ss k empty .held) ≡ false → used (drop (suc k) ss) ≡ 0 → used ss ≡ suc k
 used-last [] k h e u = absurd (omega arith)
-used-last (s ∷ ss) zero h e u = used-something (s .held) (used ss) e ∙ ap suc u
-used-last (s ∷ ss) (suc k) h e u = ap (usedFrom (s .held)) (used-last ss k (le-of-suc-le-suc h) e u) ∙ used-front (s .held) k
+used-last (s ∷ ss) zero h e u = ap (λ (o : Bool). pick o (oneMore (used ss)) (suc (used ss))) e ∙ ap suc u
+used-last (s ∷ ss) (suc k) h e u = ap (usedFrom (s .held)) (used-last ss k (le-of-suc-le-suc h) e u) ∙ used-some (isNothing (s .held)) (suc k) (λ a z. omega arith)
 
 -- n slots, and none used after them: what the last of the n says
 module _ (ss : List Slot) (n : ℕ) (p : 0 < n) (h : n ≤ length ss) (u : used (drop n ss) ≡ 0) where
@@ -55,26 +46,11 @@ module _ (ss : List Slot) (n : ℕ) (p : 0 < n) (h : n ≤ length ss) (u : used 
   pub used-at : isNothing (getD ss (n - 1) empty .held) ≡ false → n ≡ used ss
   used-at e = back ∙ sym (used-last ss (n - 1) (omega arith) e (ap (λ (k : ℕ). used (drop k ss)) (sym back) ∙ u))
 
--- the length of a record, whatever the entry
-pub record-same : (h : Held) (t u : ℕ) → length (slotRecord h t) ≡ length (slotRecord h u)
-record-same Nothing t u = refl
-record-same (Running r) t u = refl
-record-same (Waiting w) t u = refl
-
 -- the first record, and then the others
 pub records-first : (n : ℕ) (s : Slot) (ss : List Slot) (ts : List ℕ)
     → slotRecords (suc n) (s ∷ ss) ts ≡ slotRecord (s .held) (getD ts 0 0) ++ slotRecords n ss (drop 1 ts)
 records-first n s ss [] = refl
 records-first n s ss (t ∷ ts) = refl
-
--- the length of the records, whatever the entries
-pub records-same : (n : ℕ) (ss : List Slot) (ts us : List ℕ) → length (slotRecords n ss ts) ≡ length (slotRecords n ss us)
-records-same zero ss ts us = refl
-records-same (suc n) [] ts us = refl
-records-same (suc n) (s ∷ ss) ts us =
-    ap length (records-first n s ss ts) ∙ length-append (slotRecord (s .held) (getD ts 0 0)) (slotRecords n ss (drop 1 ts))
-    ∙ ap₂ _+_ (record-same (s .held) (getD ts 0 0) (getD us 0 0)) (records-same n ss (drop 1 ts) (drop 1 us))
-    ∙ sym (ap length (records-first n s ss us) ∙ length-append (slotRecord (s .held) (getD us 0 0)) (slotRecords n ss (drop 1 us)))
 
 -- one record more
 pub records-next : (ss : List Slot) (ts : List ℕ) (i : ℕ) → i < length ss
@@ -121,19 +97,16 @@ pub counted-start : (ss : List Slot) (ts : List ℕ) (n : ℕ) → n ≤ length 
 counted-start ss ts n a = record { few = omega arith; slots = a; count = refl }
 
 module _ {ss : List Slot} {ts : List ℕ} {n i len : ℕ} (m : Counted ss ts n i len) where
-  -- R53: no record has more than twelve bytes
-  pub counted-small : len ≤ 12 * i
+  -- R53: no record is longer than a line's
+  pub counted-small : len ≤ lineLength * i
   counted-small = omega (arith, records-length i ss ts, m .count)
 
   -- a record more
-  pub counted-on : i < n → (r u : ℕ) → r ≡ length (slotRecord (getD ss i empty .held) u) → Counted ss ts n (i + 1) (len + r)
-  counted-on h r u e = record {
+  pub counted-on : i < n → (r : ℕ) → r ≡ length (slotRecord (getD ss i empty .held) (getD ts i 0)) → Counted ss ts n (i + 1) (len + r)
+  counted-on h r e = record {
     few = omega arith;
     slots = m .slots;
-    count =
-        (let a = length-on ss ts i (omega (arith, m .slots)) in
-        let b = record-same (getD ss i empty .held) u (getD ts i 0) in
-        omega (arith, m .count));
+    count = (let a = length-on ss ts i (omega (arith, m .slots)) in omega (arith, m .count));
   }
 
   -- every record is counted
@@ -198,7 +171,29 @@ module _ {l₀ : List ℕ} {ss : List Slot} {ts : List ℕ} {n : ℕ} {l : List 
       let p : at ≡ length (slotRecords n ss ts) = m .place ∙ ap (λ (k : ℕ). length (slotRecords k ss ts)) j in
       (p, m .kept ∙ ap₂ (λ (k x : ℕ). slotRecords k ss ts ++ drop x l₀) j p)
 
--- a record that was written for what the slot holds
-pub put-held : (h k : Held) (t : ℕ) (l m : List ℕ) → h ≡ k → m ≡ slotRecord k t ++ drop (length (slotRecord k t)) l
-    → (length (slotRecord k t) ≡ length (slotRecord h t)) × (m ≡ slotRecord h t ++ drop (length (slotRecord h t)) l)
-put-held h k t l m e q = rw e (refl, q)
+-- a record that was written under its mark
+pub put-marked : (r : SlotRecord) (m : Mark) → r .mark ≡ m → (l o : List ℕ)
+    → o ≡ (markBytes m ++ pick (isFree m) [] (numbersOf r)) ++ drop (recordLength m) l → o ≡ recordBytes r ++ drop (recordLength (r .mark)) l
+put-marked r m e l o q =
+    q ∙ ap (λ (x : Mark). (markBytes x ++ pick (isFree x) [] (numbersOf r)) ++ drop (recordLength x) l) (sym e)
+
+-- the slot h has the record r
+module _ (h : Held) (t : ℕ) (r : SlotRecord) (e : recordFor h t ≡ As r) where
+  -- how long it is
+  pub recorded-length : recordLength (r .mark) ≡ length (slotRecord h t)
+  recorded-length = sym (ap (λ (x : Recorded). length (recordedBytes x)) e ∙ bytes-length r)
+
+  -- a record that was written for what the slot holds
+  pub put-recorded : (l m : List ℕ) → m ≡ recordBytes r ++ drop (recordLength (r .mark)) l
+      → m ≡ slotRecord h t ++ drop (length (slotRecord h t)) l
+  put-recorded l m q = q ∙ ap₂ (λ (x : List ℕ) (j : ℕ). x ++ drop j l) (sym (ap recordedBytes e)) recorded-length
+
+-- R23: a slot that has none
+module _ (h : Held) (t : ℕ) (e : recordFor h t ≡ No) where
+  -- it has no length
+  pub unrecorded-length : 0 ≡ length (slotRecord h t)
+  unrecorded-length = sym (ap (λ (x : Recorded). length (recordedBytes x)) e)
+
+  -- and no byte is written
+  pub put-unrecorded : (l : List ℕ) → l ≡ slotRecord h t ++ drop (length (slotRecord h t)) l
+  put-unrecorded l = ap (λ (x : Recorded). recordedBytes x ++ drop (length (recordedBytes x)) l) (sym e)

@@ -5,7 +5,7 @@ use mathlib.Core.Bool.{Bool}
 use Prim.Native.Nat.{ℕ, _+_, _*_, _/_, _%_, _≤_, _<_}
 use native.Mathlib.Omega.{arith}
 use native.Mathlib.Nat.{mul-add-mod-self-left, mod-eq-of-lt}
-use lib.ListN.{length, drop, replicate}
+use lib.ListN.{length, drop}
 use borrow.Author.Tests.{le-leb, lt-leb}
 use Rattle.table.specs.declared.Table.{Table}
 use Rattle.table.specs.declared.Request.{Request}
@@ -15,12 +15,12 @@ use Rattle.table.specs.declared.Which.the-variants.{None, At}
 use Rattle.line.specs.Slots.{pick, isWaiting, lowestOf}
 use Rattle.table.specs.Words.{slotOf, refusal, Said, gives, refuses}
 use Rattle.card.specs.Bytes.{le}
+use Rattle.card.specs.Layout.{clockLength, lastLength}
 use Rattle.card.specs.Card.{clockRecord, slotRecords, requestRecord, used, cardOf}
 use Rattle.card.specs.Answers.{lengthOf, filled, writeOf, bufferOf}
 use Rattle.card.proofs.Numbers.{two-of}
 use Rattle.card.proofs.Length.{length-card}
 use Rattle.writer.specs.Parts.{partsOf}
-use Rattle.writer.proofs.Slots.{records-same}
 
 -- the clock's eight bytes, by the numbers that the code makes of it
 pub by-twos : (v : ℕ) → v < 18446744073709551616
@@ -53,13 +53,13 @@ module _ (t : Table) (q : Request) where
 
   -- the records of n slots, where n are used
   module _ (n : ℕ) (e : n ≡ used (t .slots)) where
-    -- R53: CK and RQ have sixteen bytes
-    pub parts-length : 16 + length (slotRecords n (t .slots) (q .stretched)) ≡ length (cardOf t q)
-    parts-length = ap (λ (j : ℕ). 16 + length (slotRecords j (t .slots) (q .stretched))) e ∙ sym (length-card t q)
+    -- R53: CK and RQ, and the slots' records
+    pub parts-length : clockLength + lastLength + length (slotRecords n (t .slots) (q .stretched)) ≡ length (cardOf t q)
+    parts-length = ap (λ (j : ℕ). clockLength + lastLength + length (slotRecords j (t .slots) (q .stretched))) e ∙ sym (length-card t q)
 
-    -- R33: the length that the code works out, which looks at no entry of the request
-    pub card-length : (m : ℕ) → m ≡ length (slotRecords n (t .slots) (replicate 16 0)) → 16 + m ≡ length (cardOf t q)
-    card-length m f = ap (λ (x : ℕ). 16 + x) (f ∙ records-same n (t .slots) (replicate 16 0) (q .stretched)) ∙ parts-length
+    -- R33: the length that the code works out
+    pub card-length : (m : ℕ) → m ≡ length (slotRecords n (t .slots) (q .stretched)) → clockLength + lastLength + m ≡ length (cardOf t q)
+    card-length m f = ap (λ (x : ℕ). clockLength + lastLength + x) f ∙ parts-length
 
     -- R54: the parts are the card
     parts-card : partsOf t q n ≡ cardOf t q
@@ -70,7 +70,7 @@ module _ (t : Table) (q : Request) where
 
     -- R59: the buffer m, which was l, holds the parts, and the card's length is answered
     pub whole-writing : (l m : List ℕ) (len : ℕ) → len ≡ length (cardOf t q) → length (cardOf t q) ≤ length l
-        → m ≡ partsOf t q n ++ drop (16 + length (slotRecords n (t .slots) (q .stretched))) l
+        → m ≡ partsOf t q n ++ drop (clockLength + lastLength + length (slotRecords n (t .slots) (q .stretched))) l
         → (gives len ≡ lengthOf t q (length l)) × (m ≡ filled (cardOf t q) l (lengthOf t q (length l)))
     whole-writing l m len f h w =
         rw (long-enough (length l) h, f) (refl, w ∙ ap₂ (λ (x : List ℕ) (j : ℕ). x ++ drop j l) parts-card parts-length)

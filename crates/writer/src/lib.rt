@@ -1,15 +1,20 @@
 // The card writer: each record goes into the part of the buffer after the last one.
 ghost use mathlib.Core.Path.{_≡_};
 ghost use mathlib.Core.List.{_++_};
-ghost use Prim.Native.Nat.{_+_, _≤_, _<_};
-ghost use lib.ListN.{length, drop, replicate};
+ghost use Prim.Native.Nat.{_+_, _*_, _≤_, _<_};
+ghost use lib.ListN.{length, drop};
 ghost use Rattle.card.specs.Bytes.{le, markOf};
-ghost use Rattle.card.specs.Card.{clockRecord, lineRecord, requestRecord, slotRecord, slotRecords, used, cardOf};
+ghost use Rattle.card.specs.Layout.{clockLength, lineLength, lastLength, recordLength};
+ghost use Rattle.card.specs.Marked.{numbersOf, recordBytes};
+ghost use Rattle.card.specs.Card.{clockRecord, requestRecord, slotRecord, slotRecords, used, cardOf};
 ghost use Rattle.card.specs.Answers.{saidWritten, lengthOf, filled, writeOf, bufferOf};
 ghost use Rattle.writer.specs.Parts.{partsOf};
+use card::Mark;
+use card::Recorded;
+use card::SlotRecord;
 use card::WriteAnswer;
-use line::Held;
-use line::Run;
+use card::layout;
+use line::Kind;
 use line::Slot;
 use table::Refusal;
 use table::Request;
@@ -45,64 +50,79 @@ fn put_mark(out: &mut [u8], mark: &[u8; 2])
 
 // R53: CK and the clock.
 fn put_clock(out: &mut [u8], clock: u64)
-    requires { ⌜ 10 ≤ length (now out) ⌝ }
-    ensures { λ _. ⌜ now (out .exit) ≡ clockRecord clock ++ drop 10 (now (out .entry)) ⌝ }
+    requires { ⌜ clockLength ≤ length (now out) ⌝ }
+    ensures { λ _. ⌜ now (out .exit) ≡ clockRecord clock ++ drop clockLength (now (out .entry)) ⌝ }
 {
-    put_mark(out, b"CK");
+    put_mark(out, &layout::CK);
     let low = clock % 4294967296;
     let high = clock / 4294967296;
-    put_two(&mut out[2..], (low % 65536) as u16, (low / 65536) as u16);
-    put_two(&mut out[6..], (high % 65536) as u16, (high / 65536) as u16);
+    put_two(
+        &mut out[layout::CLOCK_AT..],
+        (low % 65536) as u16,
+        (low / 65536) as u16,
+    );
+    put_two(
+        &mut out[layout::CLOCK_AT + 4..],
+        (high % 65536) as u16,
+        (high / 65536) as u16,
+    );
 }
 
-// R53: TB and the line's five numbers, T' the third.
-fn put_running(out: &mut [u8], r: Run, stretched: u16)
-    requires { ⌜ 12 ≤ length (now out) ⌝ }
-    ensures { λ _. ⌜ now (out .exit) ≡ lineRecord r stretched ++ drop 12 (now (out .entry)) ⌝ }
+// R53: a mark and the five numbers of a line's record.
+fn put_line(out: &mut [u8], mark: &[u8; 2], r: SlotRecord)
+    requires { ⌜ lineLength ≤ length (now out) ⌝ }
+    ensures { λ _. ⌜ now (out .exit) ≡ (markOf (now (mark .entry)) ++ numbersOf r) ++ drop lineLength (now (out .entry)) ⌝ }
 {
-    put_mark(out, b"TB");
-    put_two(&mut out[2..], r.need, r.period);
-    put_two(&mut out[6..], stretched, r.age);
-    put16(&mut out[10..], r.remaining);
+    put_mark(out, mark);
+    put_two(&mut out[layout::NEED_AT..], r.need, r.period);
+    put_two(&mut out[layout::STRETCHED_AT..], r.stretched, r.fourth);
+    put16(&mut out[layout::FIFTH_AT..], r.fifth);
+}
+
+// R53: a slot's record, by its mark.
+fn put_record(out: &mut [u8], r: SlotRecord)
+    requires { ⌜ recordLength (r .mark) ≤ length (now out) ⌝ }
+    ensures { λ _. ⌜ now (out .exit) ≡ recordBytes r ++ drop (recordLength (r .mark)) (now (out .entry)) ⌝ }
+{
+    let m = r.mark;
+    match m {
+        Mark::TB => put_line(out, &layout::TB, r),
+        Mark::TF => put_mark(out, &layout::TF),
+    }
 }
 
 // R53: RQ and the new line's two numbers.
 fn put_request(out: &mut [u8], need: u16, period: u16)
-    requires { ⌜ 6 ≤ length (now out) ⌝ }
-    ensures { λ _. ⌜ now (out .exit) ≡ requestRecord need period ++ drop 6 (now (out .entry)) ⌝ }
+    requires { ⌜ lastLength ≤ length (now out) ⌝ }
+    ensures { λ _. ⌜ now (out .exit) ≡ requestRecord need period ++ drop lastLength (now (out .entry)) ⌝ }
 {
-    put_mark(out, b"RQ");
-    put_two(&mut out[2..], need, period);
+    put_mark(out, &layout::RQ);
+    put_two(&mut out[layout::NEED_AT..], need, period);
 }
 
-// R53: writes a slot's record and answers its length. A waiting line has none.
+// R53: writes a slot's record and answers its length, 0 where it has none.
 fn put_slot(out: &mut [u8], s: Slot, stretched: u16) -> usize
     requires { ⌜ length (slotRecord (s .held) stretched) ≤ length (now out) ⌝ }
     ensures { λ r. ⌜ (r ≡ length (slotRecord (s .held) stretched)) × (now (out .exit) ≡ slotRecord (s .held) stretched ++ drop (length (slotRecord (s .held) stretched)) (now (out .entry))) ⌝ }
 {
-    let h = s.held;
-    match h {
-        Held::Nothing => {
-            put_mark(out, b"TF");
-            2
+    let x = SlotRecord::of(s, stretched);
+    match x {
+        Recorded::As(r) => {
+            put_record(out, r);
+            r.length()
         }
-        Held::Running(r) => {
-            put_running(out, r, stretched);
-            12
-        }
-        Held::Waiting(_) => 0,
+        Recorded::No => 0,
     }
 }
 
-// R53: the length of a slot's record, which no entry of the request changes.
-fn slot_len(s: Slot) -> usize
-    ensures { λ r. ⌜ r ≡ length (slotRecord (s .held) 0) ⌝ }
+// R53: the length of a slot's record, 0 where it has none.
+fn slot_len(s: Slot, stretched: u16) -> usize
+    ensures { λ r. ⌜ r ≡ length (slotRecord (s .held) stretched) ⌝ }
 {
-    let h = s.held;
-    match h {
-        Held::Nothing => 2,
-        Held::Running(_) => 12,
-        Held::Waiting(_) => 0,
+    let x = SlotRecord::of(s, stretched);
+    match x {
+        Recorded::As(r) => r.length(),
+        Recorded::No => 0,
     }
 }
 
@@ -124,14 +144,16 @@ fn used_slots(slots: [Slot; 16]) -> usize
 }
 
 // The length of the records of the first `n` slots.
-fn records_len(slots: [Slot; 16], n: usize) -> usize
+fn records_len(slots: [Slot; 16], stretched: [u16; 16], n: usize) -> usize
     requires { ⌜ n ≤ 16 ⌝ }
-    ensures { λ r. ⌜ (r ≡ length (slotRecords n slots (replicate 16 0))) × (r ≤ 192) ⌝ }
+    ensures { λ r. ⌜ (r ≡ length (slotRecords n slots stretched)) × (r ≤ lineLength * 16) ⌝ }
 {
     let mut i: usize = 0;
     let mut len: usize = 0;
     while i < n {
-        len = len + slot_len(slots[i]);
+        let s = slots[i];
+        let t = stretched[i];
+        len = len + slot_len(s, t);
         i = i + 1;
     }
     len
@@ -155,13 +177,14 @@ fn put_records(out: &mut [u8], slots: [Slot; 16], stretched: [u16; 16], n: usize
 
 // R54: the clock, the records of the first `n` slots and the new line, one after the other.
 fn put_parts(out: &mut [u8], t: Table, q: Request, n: usize)
-    requires { ⌜ (n ≤ 16) × (16 + length (slotRecords n (t .slots) (q .stretched)) ≤ length (now out)) ⌝ }
-    ensures { λ _. ⌜ now (out .exit) ≡ partsOf t q n ++ drop (16 + length (slotRecords n (t .slots) (q .stretched))) (now (out .entry)) ⌝ }
+    requires { ⌜ (n ≤ 16) × (clockLength + lastLength + length (slotRecords n (t .slots) (q .stretched)) ≤ length (now out)) ⌝ }
+    ensures { λ _. ⌜ now (out .exit) ≡ partsOf t q n ++ drop (clockLength + lastLength + length (slotRecords n (t .slots) (q .stretched))) (now (out .entry)) ⌝ }
 {
     let slots = t.slots;
     let stretched = q.stretched;
     put_clock(out, t.clock);
-    let at = 10 + put_records(&mut out[10..], slots, stretched, n);
+    let at = layout::CLOCK_LENGTH
+        + put_records(&mut out[layout::CLOCK_LENGTH..], slots, stretched, n);
     put_request(&mut out[at..], q.need, q.period);
 }
 
@@ -171,8 +194,9 @@ fn write_card(t: Table, q: Request, out: &mut [u8]) -> WriteAnswer
     ensures { λ _. ⌜ now (out .exit) ≡ filled (cardOf t q) (now (out .entry)) (lengthOf t q (length (now (out .entry)))) ⌝ }
 {
     let slots = t.slots;
+    let stretched = q.stretched;
     let n = used_slots(slots);
-    let len = 16 + records_len(slots, n);
+    let len = layout::CLOCK_LENGTH + layout::LAST_LENGTH + records_len(slots, stretched, n);
     if out.len() < len {
         return WriteAnswer::Refused(Refusal::new(13, 0));
     }
@@ -184,7 +208,7 @@ fn write_card(t: Table, q: Request, out: &mut [u8]) -> WriteAnswer
 pub fn write(t: Table, q: Request, out: &mut [u8]) -> WriteAnswer
     ensures { λ r. ⌜ (saidWritten r ≡ writeOf t q (length (now (out .entry)))) × (now (out .exit) ≡ bufferOf t q (now (out .entry))) ⌝ }
 {
-    match t.lowest_waiting() {
+    match t.lowest(Kind::Unstarted) {
         Which::At(k) => WriteAnswer::Refused(Refusal::new(3, k as u64)),
         Which::None => write_card(t, q, out),
     }

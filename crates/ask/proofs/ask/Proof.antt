@@ -1,11 +1,11 @@
--- `ask` meets its contract: the decision is the computed answer, which the theory shows to be the right one.
+-- `ask` meets its contract: the answer is the computed one, which the theory shows to be the right one.
 use borrow.Author.Needs.{needs}
 use Rattle.ask.proofs.Right.{asked}
 use Rattle.ask.proofs.ask.Statement.{statement}
 use Rattle.ask.proofs.ask.Tie as tie
 
 returns : tie.Need-returns
-returns c = asked (c .before .args .t) (c .before .args .q) (c .decide .ensures .0)
+returns c = asked (c .before .args .t) (c .before .args .q) (c .answer .ensures .0)
 
 pub ask-spec : {M : Type 1} → statement M
 ask-spec =

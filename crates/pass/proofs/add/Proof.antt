@@ -9,7 +9,7 @@ use Rattle.pass.proofs.add.Statement.{statement}
 use Rattle.pass.proofs.add.Tie as tie
 
 abbrev Inv-loop : tie.InvT-loop
-Inv-loop terms count sum₀ i₀ sum i = Summing (λ k. getD terms k 0) 131070 count i sum
+Inv-loop terms count sum₀ i₀ sum i = Summing (λ x. x) (λ k. getD terms k 0) 131071 count i sum
 
 abbrev μ-loop : tie.MeasureT-loop
 μ-loop terms count sum₀ i₀ sum i = count - i
@@ -23,5 +23,5 @@ loop-again c = sum-on (c .before .before .loop .inv) (c .before .loop-test .take
 pub add-spec : {M : Type 1} → statement M
 add-spec =
     tie.close
-    (tie.spec Inv-loop μ-loop (λ c. sum-start _ _ _) (λ c. search needs) (λ c. search needs) add-sum (λ c. search needs) (λ c. search needs) loop-again
+    (tie.spec Inv-loop μ-loop (λ c. sum-start _ _ _ _) (λ c. search needs) (λ c. search needs) add-sum (λ c. search needs) (λ c. search needs) loop-again
     (λ c. sum-end (c .before .loop .inv) (c .loop-test .left)))

@@ -1,20 +1,26 @@
 -- `line`: the record for each outcome of the test.
 use borrow.Author.Needs.{needs}
-use mathlib.Core.Path.{sym}
+use mathlib.Core.Path.{sym, ap, _∙_}
 use native.Mathlib.Omega.{arith}
+use Rattle.card.specs.declared.Record.the-variants.{Slot}
 use Rattle.card.proofs.Records.{line-cut, line-of}
 use Rattle.reader.proofs.line.Statement.{statement}
 use Rattle.reader.proofs.line.Tie as tie
 
 returns : tie.Need-returns
-returns c = sym (line-cut (c .before .before .args .s .now) (omega arith))
+returns c = let a = c .before .before .args in sym (line-cut (a .mark) (a .s .now) (omega arith))
 
 returns-2 : tie.Need-returns-2
 returns-2 c =
-    line-of (c .before .before .before .before .before .before .before .args .s .now) (omega arith) _ _ _ _ _ (c .before .before .before .before .get16 .ensures) (c .before .before .before .get162 .ensures)
-    (c .before .before .get163 .ensures) (c .before .get164 .ensures) (c .get165 .ensures)
+    let e = c .before .get165 in
+    let b = c .before .before in
+    let a = b .before .before .before .before .before .before .args in
+    ap Slot (c .new .ensures)
+    ∙ line-of (a .mark) (a .s .now) (omega arith) _ _ _ _ _ (b .before .before .before .get16 .ensures) (b .before .before .get162 .ensures)
+    (b .before .get163 .ensures) (b .get164 .ensures) (e .ensures)
 
 pub line-spec : {M : Type 1} → statement M
 line-spec =
     tie.close
-    (tie.spec returns (λ c κs. search needs) (λ c κs. search needs) (λ c κs. search needs) (λ c κs. search needs) (λ c κs. search needs) returns-2)
+    (tie.spec returns (λ c κs. search needs) (λ c κs. search needs) (λ c κs. search needs) (λ c κs. search needs) (λ c κs. search needs)
+    (λ c κs. search needs) returns-2)

@@ -5,7 +5,7 @@ use native.Mathlib.Omega.{arith}
 use borrow.Author.Tests.{not-true, not-false}
 use Rattle.card.specs.Answers.{handed}
 use Rattle.card.proofs.Refusals.{no-clock, cut-clock}
-use Rattle.card.proofs.Steps.{reads-clock}
+use Rattle.reader.proofs.Loop.{read-clock}
 use Rattle.reader.proofs.read.Statement.{statement}
 use Rattle.reader.proofs.read.Tie as tie
 
@@ -22,8 +22,7 @@ returns-2 c =
 returns-3 : tie.Need-returns-3
 returns-3 c =
     let l = c .before .before .before .before .before .before .args .card .now in
-    c .records .ensures
-    ∙ ap handed (sym (reads-clock 16 l (omega arith) (sym (c .before .before .opens .ensures) ∙ not-false _ (c .before .if2 .left))))
+    c .records .ensures ∙ ap handed (read-clock l (omega arith) (sym (c .before .before .opens .ensures) ∙ not-false _ (c .before .if2 .left)))
 
 pub read-spec : {M : Type 1} → statement M
 read-spec =

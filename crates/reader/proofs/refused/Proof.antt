@@ -1,10 +1,10 @@
--- `refused`: its three parts are the callees'.
+-- `refused`: its parts are the callees'.
 use borrow.Author.Needs.{needs}
 use Rattle.reader.proofs.refused.Statement.{statement}
 use Rattle.reader.proofs.refused.Tie as tie
 
 returns : tie.Need-returns
-returns c = rw (c .before .before .empty .ensures, c .before .request-of .ensures, c .new .ensures)
+returns c = rw (c .before .before .new .ensures, c .before .empty .ensures, c .new2 .ensures)
 
 pub refused-spec : {M : Type 1} → statement M
 refused-spec =

@@ -1,6 +1,7 @@
 -- `slot_record`: one law for each of the marks.
 use borrow.Author.Needs.{needs}
-use mathlib.Core.Path.{sym, _∙_}
+use mathlib.Core.Path.{sym, ap, _∙_}
+use Rattle.card.specs.declared.Record.the-variants.{Slot}
 use Rattle.card.proofs.Records.{slot-line, slot-free, slot-old, slot-unknown}
 use Rattle.reader.proofs.slot_record.Statement.{statement}
 use Rattle.reader.proofs.slot_record.Tie as tie
@@ -10,8 +11,10 @@ returns c = c .line .ensures ∙ sym (slot-line _ (sym (c .before .before .opens
 
 returns-2 : tie.Need-returns-2
 returns-2 c =
-    let b = c .before .before .before in
-    sym (slot-free _ (sym (b .before .opens .ensures) ∙ b .if1 .left) (sym (c .before .opens2 .ensures) ∙ c .if2 .taken))
+    let f = c .before in
+    let b = f .before .before .before in
+    ap Slot (c .free .ensures)
+    ∙ sym (slot-free _ (sym (b .before .opens .ensures) ∙ b .if1 .left) (sym (f .before .opens2 .ensures) ∙ f .if2 .taken))
 
 returns-3 : tie.Need-returns-3
 returns-3 c =
@@ -27,4 +30,6 @@ returns-4 c =
 
 pub slot-record-spec : {M : Type 1} → statement M
 slot-record-spec =
-    tie.close (tie.spec (λ c. search needs) (λ c. search needs) returns (λ c. search needs) returns-2 (λ c. search needs) returns-3 returns-4)
+    tie.close
+    (tie.spec (λ c κs. search needs) (λ c κs. search needs) returns (λ c κs. search needs) (λ c κs. search needs) returns-2 (λ c κs. search needs)
+    returns-3 returns-4)

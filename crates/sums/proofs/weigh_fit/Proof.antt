@@ -7,5 +7,5 @@ use Rattle.sums.proofs.weigh_fit.Tie as tie
 pub weigh-fit-spec : {M : Type 1} → statement M
 weigh-fit-spec =
     tie.close
-    (tie.spec (λ c κs. search) (λ c. search weigh-7) (λ c κs. search) (λ c. search needs) (λ c. search needs) (λ c. search weigh-8) (λ c. search weigh-9)
+    (tie.spec (λ c κs. search needs) (λ c. search weigh-7) (λ c κs. search) (λ c. search needs) (λ c. search needs) (λ c. search weigh-8) (λ c. search weigh-9)
     (λ c. search weigh-0))

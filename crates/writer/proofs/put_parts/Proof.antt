@@ -5,6 +5,7 @@ use mathlib.Core.List.{_++_}
 use Prim.Native.Nat.{ℕ, _+_, _-_}
 use native.Mathlib.Omega.{arith}
 use lib.ListN.{length, drop, length-drop}
+use Rattle.card.specs.Layout.{clockLength, lastLength}
 use Rattle.card.specs.Card.{clockRecord, slotRecords, requestRecord}
 use Rattle.card.proofs.Parts.{part-all, put-at}
 use Rattle.writer.specs.Parts.{partsOf}
@@ -15,22 +16,22 @@ put-records-requires : tie.Need-put-records-requires
 put-records-requires c κs =
     let b = c .before .before .before in
     let l = b .put-clock .last .0 in
-    (b .before .before .before .before .before .pre .0, omega (arith, ap length (part-all l 10), length-drop 10 l))
+    (b .before .before .before .before .before .pre .0, omega (arith, ap length (part-all l clockLength), length-drop clockLength l))
 
 sub-put-request : tie.Need-sub-put-request
 sub-put-request c =
     let p = c .before .before .put-records in
     let l = c .before .before .before .before .before .before .put-clock .last .0 in
-    let m = same-len-mid 10 (length l - 10) l (p .last .0) (p .kept .0) in
+    let m = same-len-mid clockLength (length l - clockLength) l (p .last .0) (p .kept .0) in
     omega (arith, m, p .ensures .0)
 
 put-request-requires : tie.Need-put-request-requires
 put-request-requires c κs =
     let p = c .before .before .before .put-records in
     let l = c .before .before .before .before .before .before .before .put-clock .last .0 in
-    let m = same-len-mid 10 (length l - 10) l (p .last .0) (p .kept .0) in
-    let o = putMid 10 (length l - 10) l (p .last .0) in
-    omega (arith, m, p .ensures .0, ap length (part-all o (10 + p .result)), length-drop (10 + p .result) o)
+    let m = same-len-mid clockLength (length l - clockLength) l (p .last .0) (p .kept .0) in
+    let o = putMid clockLength (length l - clockLength) l (p .last .0) in
+    omega (arith, m, p .ensures .0, ap length (part-all o (clockLength + p .result)), length-drop (clockLength + p .result) o)
 
 returns : tie.Need-returns
 returns c =
@@ -42,10 +43,10 @@ returns c =
     let ck = clockRecord (a .t .clock) in
     let rs = slotRecords (a .n) (a .t .slots) (a .q .stretched) in
     let rq = requestRecord (a .q .need) (a .q .period) in
-    let i = put-at o (b .put-clock .last .0) ck rs (p .last .0) 10 (length rs) (b .put-clock .ensures) refl refl (p .ensures .1)
-    ∙ ap (λ (j : ℕ). (ck ++ rs) ++ drop (10 + j) o) (sym (p .ensures .0)) in
-    let k : 10 + p .result + 6 ≡ 16 + length rs = omega (arith, p .ensures .0) in
-    put-at o _ (ck ++ rs) rq (d .last .0) (10 + p .result) 6 i (omega (arith, p .ensures .0)) refl (d .ensures)
+    let i = put-at o (b .put-clock .last .0) ck rs (p .last .0) clockLength (length rs) (b .put-clock .ensures) refl refl (p .ensures .1)
+    ∙ ap (λ (j : ℕ). (ck ++ rs) ++ drop (clockLength + j) o) (sym (p .ensures .0)) in
+    let k : clockLength + p .result + lastLength ≡ clockLength + lastLength + length rs = omega (arith, p .ensures .0) in
+    put-at o _ (ck ++ rs) rq (d .last .0) (clockLength + p .result) lastLength i (omega (arith, p .ensures .0)) refl (d .ensures)
     ∙ ap (λ (j : ℕ). partsOf (a .t) (a .q) (a .n) ++ drop j o) k
 
 pub put-parts-spec : {M : Type 1} → statement M

@@ -1,31 +1,37 @@
--- `put_slot`: one record writer for each thing that a slot may hold.
+-- `put_slot`: the record of what the slot holds, or no byte.
 use borrow.Author.Needs.{needs}
-use mathlib.Core.Path.{ap}
+use mathlib.Core.Path.{sym, _∙_}
 use native.Mathlib.Omega.{arith}
-use lib.ListN.{length}
-use Rattle.line.specs.declared.Held.{Held}
-use Rattle.line.specs.declared.Held.the-variants.{Nothing, Running}
-use Rattle.card.specs.Card.{slotRecord}
-use Rattle.writer.proofs.Slots.{put-held}
+use Rattle.writer.proofs.Slots.{recorded-length, put-recorded, unrecorded-length, put-unrecorded}
 use Rattle.writer.proofs.put_slot.Statement.{statement}
 use Rattle.writer.proofs.put_slot.Tie as tie
 
-put-mark-requires : tie.Need-put-mark-requires
-put-mark-requires c κs = omega (arith, ap (λ (h : Held). length (slotRecord h (c .before .before .before .before .before .args .stretched))) (c .before .before .enum-told .given .1))
-
-put-running-requires : tie.Need-put-running-requires
-put-running-requires c κs = omega (arith, ap (λ (h : Held). length (slotRecord h (c .before .before .before .before .before .args .stretched))) (c .before .before .h .given .1))
+put-record-requires : tie.Need-put-record-requires
+put-record-requires c κs =
+    let o = c .before .before .before .before in
+    let a = o .before .before .args in
+    let x = c .before .before .x .given in
+    omega (arith, recorded-length (a .s .held) (a .stretched) (x .0 .0) (sym (o .of .ensures) ∙ x .1))
 
 returns : tie.Need-returns
-returns c = put-held _ Nothing _ _ _ (c .before .before .before .before .before .enum-told .given .1) (c .before .before .put-mark .ensures)
+returns c =
+    let o = c .before .before .before .before .before .before .before .before in
+    let a = o .before .before .args in
+    let x = c .before .before .before .before .before .before .x .given in
+    let e = sym (o .of .ensures) ∙ x .1 in (
+      c .length .ensures .0 ∙ recorded-length (a .s .held) (a .stretched) (x .0 .0) e,
+      put-recorded (a .s .held) (a .stretched) (x .0 .0) e (a .out .now) _ (c .before .before .before .put-record .ensures),
+    )
 
 returns-2 : tie.Need-returns-2
 returns-2 c =
-    let r = c .before .before .before .before .before .h in
-    put-held _ (Running (r .given .0 .0)) _ _ _ (r .given .1) (c .before .before .put-running .ensures)
+    let o = c .before .before in
+    let a = o .before .before .args in
+    let e = sym (o .of .ensures) ∙ c .enum-told .given .1 in
+    (unrecorded-length (a .s .held) (a .stretched) e, put-unrecorded (a .s .held) (a .stretched) e (a .out .now))
 
 pub put-slot-spec : {M : Type 1} → statement M
 put-slot-spec =
     tie.close
-    (tie.spec (λ c. search needs) put-mark-requires (λ c. search needs) put-running-requires (λ c. search needs) (λ c. search needs) returns
-    (λ c. search needs) returns-2 (λ c. search needs))
+    (tie.spec (λ c κs. search needs) (λ c. search needs) put-record-requires (λ c κs. search needs) (λ c. search needs) (λ c. search needs) returns
+    returns-2)

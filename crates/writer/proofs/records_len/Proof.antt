@@ -3,7 +3,7 @@ use borrow.Author.Needs.{needs}
 use mathlib.Core.Path.{_≡_}
 use Prim.Native.Nat.{_-_, _≤_}
 use native.Mathlib.Omega.{arith}
-use lib.ListN.{length, getD, replicate}
+use lib.ListN.{length, getD}
 use Rattle.line.specs.Slots.{empty}
 use Rattle.card.proofs.Length.{record-length}
 use Rattle.writer.proofs.Slots.{Counted, counted-start, counted-small, counted-on, counted-end}
@@ -11,10 +11,10 @@ use Rattle.writer.proofs.records_len.Statement.{statement}
 use Rattle.writer.proofs.records_len.Tie as tie
 
 abbrev Inv-loop : tie.InvT-loop
-Inv-loop n slots i₀ len₀ i len = (n ≤ 16) × Counted slots (replicate 16 0) n i len
+Inv-loop n slots stretched i₀ len₀ i len = (n ≤ 16) × Counted slots stretched n i len
 
 abbrev μ-loop : tie.MeasureT-loop
-μ-loop n slots i₀ len₀ i len = n - i
+μ-loop n slots stretched i₀ len₀ i len = n - i
 
 loop-holds : tie.Need-loop-holds Inv-loop μ-loop
 loop-holds c =
@@ -24,12 +24,13 @@ loop-holds c =
 add-len : tie.Need-add-len Inv-loop μ-loop
 add-len c =
     let l = c .before .before .before in
-    omega (arith, counted-small (l .loop .inv .1), record-length (getD (l .before .args .t1) (l .loop .i) empty .held) 0)
+    let a = l .before .args in
+    omega (arith, counted-small (l .loop .inv .1), record-length (getD (a .t1) (l .loop .i) empty .held) (getD (a .t2) (l .loop .i) 0), c .slot-len .ensures)
 
 loop-again : tie.Need-loop-again Inv-loop μ-loop
 loop-again c =
     let q = c .before .before .before .loop in
-    (q .inv .0, counted-on (q .inv .1) (omega arith) _ 0 (c .slot-len .ensures))
+    (q .inv .0, counted-on (q .inv .1) (omega arith) _ (c .slot-len .ensures))
 
 returns : tie.Need-returns Inv-loop μ-loop
 returns c =
@@ -39,5 +40,5 @@ returns c =
 pub records-len-spec : {M : Type 1} → statement M
 records-len-spec =
     tie.close
-    (tie.spec Inv-loop μ-loop loop-holds (λ c. omega arith) (λ c. omega arith) (λ c κs. tt) add-len (λ c. omega arith) (λ c. omega arith) loop-again
-    returns)
+    (tie.spec Inv-loop μ-loop loop-holds (λ c. omega arith) (λ c. omega arith) (λ c. omega arith) (λ c. omega arith) (λ c κs. tt) add-len
+    (λ c. omega arith) (λ c. omega arith) loop-again returns)

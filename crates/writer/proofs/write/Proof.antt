@@ -7,14 +7,14 @@ use Rattle.writer.proofs.write.Tie as tie
 
 returns : tie.Need-returns
 returns c =
-    let w = c .before .before .before .before .lowest-waiting in
+    let w = c .before .before .before .before .lowest in
     let a = c .before .before .before .before .before .before .args in
     waiting-writing (a .t) (a .q) (w .result) (w .ensures) _ (c .before .before .k .given .1) (c .new .result) (c .new .ensures) (a .out .now)
 
 returns-2 : tie.Need-returns-2
 returns-2 c =
     let b = c .before .before .before .before in
-    let w = b .before .before .lowest-waiting in
+    let w = b .before .before .lowest in
     let a = b .before .before .before .before .args in
     other-writing (a .t) (a .q) (w .result) (w .ensures) (b .enum-told .given .1) (a .out .now) _ (saidWritten (c .before .before .write-card .result)) (c .before .before .write-card .ensures)
 

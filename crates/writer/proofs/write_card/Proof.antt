@@ -8,7 +8,7 @@ use Rattle.writer.proofs.write_card.Tie as tie
 returns : tie.Need-returns
 returns c =
     let b = c .before .before in
-    let a = b .before .before .before .before .args in
+    let a = b .before .before .before .before .before .args in
     let u = b .before .used-slots in
     let r = b .records-len in
     short-writing (a .t) (a .q) (a .out .now) (c .new .result) (c .new .ensures)
@@ -17,7 +17,7 @@ returns c =
 put-parts-requires : tie.Need-put-parts-requires
 put-parts-requires c κs =
     let b = c .before .before in
-    let a = b .before .before .before .before .args in
+    let a = b .before .before .before .before .before .args in
     let u = b .before .used-slots in
     let r = b .records-len in
     (u .ensures .1, omega (arith, parts-length (a .t) (a .q) (u .result) (u .ensures .0), card-length (a .t) (a .q) (u .result) (u .ensures .0) (r .result) (r .ensures .0)))
@@ -25,7 +25,7 @@ put-parts-requires c κs =
 returns-2 : tie.Need-returns-2
 returns-2 c =
     let b = c .before .before .before .before .before in
-    let a = b .before .before .before .before .args in
+    let a = b .before .before .before .before .before .args in
     let u = b .before .used-slots in
     let r = b .records-len in
     let k = card-length (a .t) (a .q) (u .result) (u .ensures .0) (r .result) (r .ensures .0) in
@@ -34,5 +34,5 @@ returns-2 c =
 pub write-card-spec : {M : Type 1} → statement M
 write-card-spec =
     tie.close
-    (tie.spec (λ c κs. search needs) (λ c κs. search needs) (λ c. search needs) (λ c κs. search needs) returns put-parts-requires (λ c. search needs)
+    (tie.spec (λ c κs. search needs) (λ c. search needs) (λ c κs. search needs) (λ c. search needs) (λ c κs. search needs) returns put-parts-requires (λ c. search needs)
     returns-2)

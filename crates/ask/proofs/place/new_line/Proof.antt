@@ -6,11 +6,11 @@ use Rattle.ask.proofs.place.new_line.Statement.{statement}
 use Rattle.ask.proofs.place.new_line.Tie as tie
 
 returns : tie.Need-returns
-returns c = simp (lt-ltb _ _ (c .if1 .taken))
+returns c = c .waiting .ensures ∙ simp (lt-ltb _ _ (c .before .if1 .taken))
 
 returns-2 : tie.Need-returns-2
-returns-2 c = c .fresh .ensures ∙ simp (le-ltb _ _ (c .before .if1 .left))
+returns-2 c = c .begun .ensures ∙ simp (le-ltb _ _ (c .before .if1 .left))
 
 pub new-line-spec : {M : Type 1} → statement M
 new-line-spec =
-    tie.close (tie.spec returns (λ c. search needs) returns-2)
+    tie.close (tie.spec (λ c. search needs) returns (λ c. search needs) returns-2)

@@ -13,7 +13,7 @@ returns : tie.Need-returns
 returns c =
     let t = c .before .before .before .before .before .before .args .t in
     let g = c .before .before .before .before .a .given in
-    c .granted .ensures ∙ ap (λ (k : ℕ). grantedAs k (g .0 .0)) (c .before .slot-number .ensures ∙ ap slotNumber (c .before .before .lowest-empty .ensures))
+    c .granted .ensures ∙ ap (λ (k : ℕ). grantedAs k (g .0 .0)) (c .before .slot-number .ensures ∙ ap slotNumber (c .before .before .lowest .ensures))
     ∙ ap (λ (a : Answer). askedAs t (says a)) (sym (g .1))
 
 returns-2 : tie.Need-returns-2

@@ -6,6 +6,7 @@ use mathlib.Core.List.{List}
 use native.Mathlib.Omega.{arith}
 use lib.ListN.{length, length-drop}
 use Rattle.line.specs.declared.Slot.{Slot}
+use Rattle.line.specs.Slots.{holding}
 use Rattle.card.proofs.Parts.{part-all}
 use Rattle.image.specs.Loading.{heldIn}
 use Rattle.image.proofs.slots.slot_at.Statement.{statement}
@@ -19,7 +20,7 @@ slot-in-requires c κs =
 returns : tie.Need-returns
 returns c =
     let a = c .before .before .before .args in
-    c .slot-in .ensures ∙ ap {B = Slot} (λ (x : List ℕ). record { held = heldIn x }) (part-all (a .image .now) (a .at))
+    c .slot-in .ensures ∙ ap {B = Slot} (λ (x : List ℕ). holding (heldIn x)) (part-all (a .image .now) (a .at))
 
 pub slot-at-spec : {M : Type 1} → statement M
 slot-at-spec =

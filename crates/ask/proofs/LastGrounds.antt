@@ -1,0 +1,176 @@
+-- What is decided of the lines gathered is the answer past the first five grounds.
+use Prim.Native.Nat.{ℕ, suc, _+_, _-_, _*_, _/_, _^_, _≤_, _<_}
+use mathlib.Core.Path.{_≡_, refl, ap, sym, _∙_}
+use mathlib.Core.Bool.{Bool, true, false, not}
+use mathlib.Core.List.{List, [], _∷_, map}
+use native.Mathlib.Omega.{arith}
+use lib.Dec.{ltb, leb}
+use lib.ListN.{length, take, length-map}
+use borrow.Author.Tests.{ltb-false}
+use Rattle.periods.specs.Multiples.{All}
+use Rattle.periods.proofs.Lists.{all-appended}
+use Rattle.line.specs.declared.Held.{Held}
+use Rattle.line.specs.declared.Held.the-variants.{Nothing, Running, Waiting}
+use Rattle.line.specs.declared.Slot.{Slot}
+use Rattle.line.specs.declared.Stream.{Stream}
+use Rattle.line.specs.Slots.{pick, both, at, total, mapAt}
+use Rattle.line.specs.Streams.{stream, byStream}
+use Rattle.line.specs.Demand.{lastEnd}
+use Rattle.line.specs.Shares.{frame, share, claim, full}
+use Rattle.line.specs.Ends.{endsOf, anyOf, start, shortAt}
+use Rattle.line.specs.Stretch.{stretch, stretched}
+use Rattle.line.proofs.Search.{true-false}
+use Rattle.line.proofs.Sound.{sound-says}
+use Rattle.table.specs.declared.Table.{Table}
+use Rattle.table.specs.declared.Request.{Request}
+use Rattle.table.specs.declared.Answer.{Answer}
+use Rattle.table.specs.declared.Answer.the-variants.{Start}
+use Rattle.table.specs.Grounds.{entry, asked}
+use Rattle.table.specs.Ask.{refusedIf, askIn}
+use Rattle.sums.specs.Lines.{Fit}
+use Rattle.sums.specs.Weighed.{fitting, weighedFit, weighed}
+use Rattle.sums.proofs.Along.{along-length}
+use Rattle.sums.proofs.Weighing.{says-fitting, none-weighs}
+use Rattle.pass.specs.declared.Pass.{Pass}
+use Rattle.pass.specs.Pass.{passIn, passOf}
+use Rattle.pass.proofs.Passing.{pass-fit}
+use Rattle.decide.specs.declared.Decision.{Decision}
+use Rattle.decide.specs.declared.Decision.the-variants as decision
+use Rattle.decide.specs.Lines.{Line, byPeriod, byGap, gatheredAt, lineFor, linesIn}
+use Rattle.decide.specs.Decided.{refusedBy, decided, decidedIn, Near}
+use Rattle.decide.proofs.Matching.{frame-lines, share-lines, claim-lines, full-lines, any-lines, start-lines}
+use Rattle.ask.specs.declared.gather.Gathered.{Gathered}
+use Rattle.ask.specs.Gathered.{linesOf, Room, Gathers, Allowed, AllAllowed, pastFive, answerOf, Within}
+use Rattle.ask.proofs.Packing.{fronts-decided}
+
+-- ---- each line is fit
+
+-- by its period and by its gap
+abbrev Fits : Line → Type 0
+Fits x = Fit (byPeriod x) × Fit (byGap x)
+
+slot-fits : (p : ℕ) (h : Held) → Allowed p h → p ≤ 65535 → All Fits (byStream [] (λ x. lineFor x ∷ []) (stretch p h))
+slot-fits p Nothing a w = tt
+slot-fits p (Running r) a w =
+    let v = sound-says (Running r) (a .1) in
+    let k = ltb-false p (r .period) (a .2) in
+    let f : Fit (stream (p - r .age) (r .remaining) (r .need) p) = record { some = omega arith; ends = omega arith; less = omega arith; rest = v .2; wide = omega arith } in
+    ((f, f), tt)
+slot-fits p (Waiting x) a w = absurd (true-false refl (a .0))
+
+asked-fits : (l : List Slot) (p : ℕ → ℕ) → ((i : ℕ) → i < length l → Allowed (p i) (at l i)) → ((i : ℕ) → p i ≤ 65535) → All Fits (linesIn (stretched l p))
+unfolding mapAt linesIn
+asked-fits [] p f w = tt
+asked-fits (s ∷ l) p f w =
+    all-appended Fits (byStream [] (λ x. lineFor x ∷ []) (stretch (p 0) (s .held))) (linesIn (stretched l (λ k. p (suc k))))
+    (slot-fits (p 0) (s .held) (f 0 (omega arith)) (w 0))
+    (asked-fits l (λ k. p (suc k)) (λ i h. f (suc i) (omega arith)) (λ i. w (suc i)))
+
+fit-by : (l : List Line) → All Fits l → All Fit (map byPeriod l) × All Fit (map byGap l)
+fit-by [] a = (tt, tt)
+fit-by (x ∷ l) a = let r = fit-by l (a .1) in ((a .0 .0, r .0), (a .0 .1, r .1))
+
+-- ---- the ladder
+
+-- the refusal with the number of the first ground, or what comes after
+ladder : (a b c d : Bool) (rest : Answer)
+    → refusedIf a 6 (refusedIf b 7 (refusedIf c 8 (refusedIf d 9 rest)))
+    ≡ refusedIf (ltb 0 (pick a 6 (pick b 7 (pick c 8 (pick d 9 0))))) (pick a 6 (pick b 7 (pick c 8 (pick d 9 0)))) rest
+ladder true b c d rest = refl
+ladder false true c d rest = refl
+ladder false false true d rest = refl
+ladder false false false true rest = refl
+ladder false false false false rest = refl
+
+answer-refused : (b : Bool) (n : ℕ) (d : Decision) → answerOf (refusedBy b n d) ≡ refusedIf b n (answerOf d)
+answer-refused true n d = refl
+answer-refused false n d = refl
+
+answer-within : (clock : ℕ) (d : Decision) → Near clock d → Within clock (answerOf d)
+answer-within clock (decision.Start r) h = h
+answer-within clock (decision.Refused n) h = tt
+
+-- what is decided of the slices of the arrays, as an answer: it is what is decided of the lines gathered, and as near
+pub fronts-answer : (g : Gathered) (clock Cn Tn : ℕ) {d : Decision} {r : Answer} → Room g → clock ≤ 2 ^ 48 - 65536
+    → (d ≡ decidedIn clock (take (g .count) (g .end)) (take (g .count) (g .remaining)) (take (g .count) (g .need)) (take (g .count) (g .period)) (take (g .count) (g .gap)) Cn Tn) × Near clock d
+    → r ≡ answerOf d → (r ≡ answerOf (decided clock (linesOf g) Cn Tn)) × Within clock r
+fronts-answer g clock Cn Tn {d} room h e a = (a ∙ ap answerOf (e .0 ∙ fronts-decided g room clock Cn Tn h), rw a (answer-within clock d (e .1)))
+
+module _ (t : Table) (q : Request) (fp : fitting (map byPeriod (linesIn (asked t q))) ≡ true) (fg : fitting (map byGap (linesIn (asked t q))) ≡ true) where
+  abbrev l : List Slot
+  l = asked t q
+
+  abbrev F : ℕ
+  F = frame l (q .period)
+
+  abbrev misfit : Bool
+  misfit = not (both (leb 1 (q .need)) (leb (q .need) (q .period)))
+
+  abbrev over : Bool
+  over = ltb F (total (share F) l + q .need * (F / q .period))
+
+  abbrev behind : Bool
+  behind = ltb (total (full F) l) (total (claim F) l)
+
+  abbrev short : Bool
+  short = anyOf (shortAt (t .clock) l) (endsOf (t .clock) (lastEnd (t .clock) l) l)
+
+  abbrev rest : Answer
+  rest = refusedIf short 10 (Start (start (t .clock) l (q .need) (q .period)))
+
+  -- what the sums say, and what the pass says
+  abbrev first : ℕ
+  first = weighed (map byPeriod (linesIn l)) (q .need) (q .period)
+
+  abbrev pass : Pass
+  pass = passOf (map byGap (linesIn l)) (q .need) (q .period)
+
+  first-is : first ≡ pick misfit 6 (pick (ltb 1000000 F) 7 (pick over 8 (pick behind 9 0)))
+  unfolding weighed weighedFit
+  first-is = rw (fp, frame-lines l (q .period), share-lines l F, claim-lines l F, full-lines l F)
+
+  -- the first of the grounds 6 to 9 is the one that the sums find
+  past-is : pastFive t q ≡ refusedIf (ltb 0 first) first rest
+  unfolding pastFive askIn
+  past-is = rw first-is (ladder misfit (ltb 1000000 F) over behind rest)
+
+  -- past the sums the pass over the ends decides
+  module _ (h : first ≤ 0) where
+    need-some : 1 ≤ q .need
+    need-some = none-weighs (map byPeriod (linesIn l)) (q .need) (q .period) (omega arith) .0
+
+    pass-is : pass ≡ passIn (map byGap (linesIn l)) (q .need) (q .period)
+    pass-is = pass-fit (map byGap (linesIn l)) (q .need) (q .period) fg need-some
+
+    short-is : pass .short ≡ short
+    short-is = ap (λ (y : Pass). y .short) pass-is ∙ any-lines l (t .clock) (q .need) (q .period)
+
+    rest-is : (b : Bool) → pass .short ≡ b → refusedIf b 10 (Start (t .clock + pass .start)) ≡ rest
+    rest-is true e = rw (sym short-is ∙ e)
+    rest-is false e =
+        let k : passIn (map byGap (linesIn l)) (q .need) (q .period) .short ≡ false = ap (λ (y : Pass). y .short) (sym pass-is) ∙ e in
+        let z : t .clock + pass .start ≡ start (t .clock) l (q .need) (q .period) =
+        ap (λ (y : Pass). t .clock + y .start) pass-is ∙ start-lines l (t .clock) (q .need) (q .period) need-some k in
+        rw (sym short-is ∙ e) (ap Start z)
+
+  decided-is : answerOf (decided (t .clock) (linesIn l) (q .need) (q .period)) ≡ refusedIf (ltb 0 first) first (refusedIf (pass .short) 10 (Start (t .clock + pass .start)))
+  unfolding decided
+  decided-is =
+      answer-refused (ltb 0 first) first (refusedBy (pass .short) 10 (decision.Start (t .clock + pass .start)))
+      ∙ ap (refusedIf (ltb 0 first) first) (answer-refused (pass .short) 10 (decision.Start (t .clock + pass .start)))
+
+  lines-decide : answerOf (decided (t .clock) (linesIn l) (q .need) (q .period)) ≡ pastFive t q
+  lines-decide = decided-is ∙ go (ltb 0 first) refl ∙ sym past-is
+    where
+      go : (b : Bool) → ltb 0 first ≡ b → refusedIf (ltb 0 first) first (refusedIf (pass .short) 10 (Start (t .clock + pass .start))) ≡ refusedIf (ltb 0 first) first rest
+      go true e = rw e
+      go false e = rw e (rest-is (ltb-false 0 first e) (pass .short) refl)
+
+-- R26 to R30, R14: what is decided of the lines gathered is the answer past the first five grounds
+pub gathered-decide : (t : Table) (q : Request) (g : Gathered) {r : Answer} → Gathers t q g → AllAllowed t q → r ≡ answerOf (decided (t .clock) (linesOf g) (q .need) (q .period)) → r ≡ pastFive t q
+gathered-decide t q g v a e =
+    let l = linesIn (asked t q) in
+    let f = fit-by l (asked-fits (t .slots) (entry q) a (v .wide)) in
+    let n : length l ≤ 16 = rw (sym (v .same), along-length (gatheredAt (g .end) (g .remaining) (g .need) (g .period) (g .gap)) 0 (g .count)) (v .few) in
+    let fits : (by : Line → Stream) → All Fit (map by l) → fitting (map by l) ≡ true = λ by k. says-fitting (map by l) (rw (length-map l by) n) k in
+    e ∙ ap (λ (x : List Line). answerOf (decided (t .clock) x (q .need) (q .period))) (v .same) ∙ lines-decide t q (fits byPeriod (f .0)) (fits byGap (f .1))

@@ -1,0 +1,84 @@
+-- Marked records, R53: what stands on a card between its bytes and its table. A record keeps its mark and its numbers as they stand.
+use Prim.Native.Nat.{ℕ, _<_}
+use mathlib.Core.Path.{_≡_}
+use mathlib.Core.List.{List, [], _++_}
+use Rattle.line.specs.declared.Held.{Held}
+use Rattle.line.specs.declared.Held.the-variants.{Nothing, Running, Waiting}
+use Rattle.line.specs.declared.Slot.{Slot}
+use Rattle.line.specs.Slots.{pick, runOf, holding}
+use Rattle.card.specs.declared.Mark.{Mark}
+use Rattle.card.specs.declared.SlotRecord.{SlotRecord}
+use Rattle.card.specs.declared.Recorded.{Recorded}
+use Rattle.card.specs.declared.Recorded.the-variants.{As, No}
+use Rattle.card.specs.Bytes.{le}
+use Rattle.card.specs.Layout.{markBytes, isFree}
+
+-- R53: a slot's record by its mark and its five numbers
+abbrev pub recordWith : Mark → (C T T' fourth fifth : ℕ) → SlotRecord
+recordWith m C T t x y = record { mark = m; need = C; period = T; stretched = t; fourth = x; fifth = y }
+
+-- R53: TF
+abbrev pub free : SlotRecord
+free = recordWith Mark.TF 0 0 0 0 0
+
+-- ---- records and bytes
+
+-- R53: the five numbers of a line
+abbrev pub numbersOf : SlotRecord → List ℕ
+numbersOf r = le 2 (r .need) ++ (le 2 (r .period) ++ (le 2 (r .stretched) ++ (le 2 (r .fourth) ++ le 2 (r .fifth))))
+
+-- R53: the mark, and behind it the numbers of a line
+abbrev pub recordBytes : SlotRecord → List ℕ
+recordBytes r = markBytes (r .mark) ++ pick (isFree (r .mark)) [] (numbersOf r)
+
+-- R53: the numbers of a line fit two bytes each
+abbrev pub NumbersFit : SlotRecord → Type 0
+NumbersFit r = (r .need < 65536) × (r .period < 65536) × (r .stretched < 65536) × (r .fourth < 65536) × (r .fifth < 65536)
+
+-- R53: a slot's record as a card has it: numbers that fit, or none
+abbrev pub Fitting : SlotRecord → Type 0
+Fitting r = pick (isFree (r .mark)) (r ≡ free) (NumbersFit r)
+
+-- ---- records and slots
+
+-- R53: what a slot holds by its record: under TB age comes before remaining
+abbrev pub heldUnder : Mark → SlotRecord → Held
+heldUnder Mark.TB r = Running (runOf (r .need) (r .period) (r .fourth) (r .fifth))
+heldUnder Mark.TF r = Nothing
+
+-- R53: the slot that a record stands for
+abbrev pub slotFor : SlotRecord → Slot
+slotFor r = holding (heldUnder (r .mark) r)
+
+-- R53: its entry of the request
+abbrev pub entryFor : SlotRecord → ℕ
+entryFor r = r .stretched
+
+-- R53: the record of what a slot holds, with its entry: TB or TF. A waiting line has none, no card carries one.
+abbrev pub recordFor : Held → (T' : ℕ) → Recorded
+recordFor Nothing t = As free
+recordFor (Running r) t = As (recordWith Mark.TB (r .need) (r .period) t (r .age) (r .remaining))
+recordFor (Waiting w) t = No
+
+-- R53: the bytes of a slot's record
+abbrev pub recordedBytes : Recorded → List ℕ
+recordedBytes (As r) = recordBytes r
+recordedBytes No = []
+
+-- R53: there is a record, and it fits
+abbrev pub CarriedAs : Recorded → Type 0
+CarriedAs (As r) = Fitting r
+CarriedAs No = ⊥
+
+-- ---- whole cards
+
+-- what a card's records say: the clock, a record for each slot, the new line
+pub record Records : Type 0 where
+  pub clock : ℕ
+  pub slots : List SlotRecord
+  pub need : ℕ
+  pub period : ℕ
+
+-- these together
+abbrev pub saying : (clock : ℕ) → List SlotRecord → (Cn Tn : ℕ) → Records
+saying k rs c n = record { clock = k; slots = rs; need = c; period = n }
