@@ -1,5 +1,5 @@
 -- What is decided of the lines gathered is the answer past the first five grounds.
-use Prim.Native.Nat.{ℕ, suc, _+_, _-_, _*_, _/_, _^_, _≤_, _<_}
+use Prim.Native.Nat.{ℕ, suc, _+_, _-_, _*_, _/_, _≤_, _<_}
 use mathlib.Core.Path.{_≡_, refl, ap, sym, _∙_}
 use mathlib.Core.Bool.{Bool, true, false, not}
 use mathlib.Core.List.{List, [], _∷_, map}
@@ -36,11 +36,11 @@ use Rattle.pass.specs.Pass.{passIn, passOf}
 use Rattle.pass.proofs.Passing.{pass-fit}
 use Rattle.decide.specs.declared.Decision.{Decision}
 use Rattle.decide.specs.declared.Decision.the-variants as decision
-use Rattle.decide.specs.Lines.{Line, byPeriod, byGap, gatheredAt, lineFor, linesIn}
+use Rattle.decide.specs.Lines.{Line, byPeriod, byGap, gatheredAt, lineOf, linesIn}
 use Rattle.decide.specs.Decided.{refusedBy, decided, decidedIn, Near}
 use Rattle.decide.proofs.Matching.{frame-lines, share-lines, claim-lines, full-lines, any-lines, start-lines}
 use Rattle.ask.specs.declared.gather.Gathered.{Gathered}
-use Rattle.ask.specs.Gathered.{linesOf, Room, Gathers, Allowed, AllAllowed, pastFive, answerOf, Within}
+use Rattle.ask.specs.Gathered.{gatheredLines, Room, Gathers, Allowed, AllAllowed, pastFive, answerFrom, Within}
 use Rattle.ask.proofs.Packing.{fronts-decided}
 
 -- ---- each line is fit
@@ -49,7 +49,7 @@ use Rattle.ask.proofs.Packing.{fronts-decided}
 abbrev Fits : Line → Type 0
 Fits x = Fit (byPeriod x) × Fit (byGap x)
 
-slot-fits : (p : ℕ) (h : Held) → Allowed p h → p ≤ 65535 → All Fits (byStream [] (λ x. lineFor x ∷ []) (stretch p h))
+slot-fits : (p : ℕ) (h : Held) → Allowed p h → p ≤ 65535 → All Fits (byStream [] (λ x. lineOf x ∷ []) (stretch p h))
 slot-fits p Nothing a w = tt
 slot-fits p (Running r) a w =
     let v = sound-says (Running r) (a .1) in
@@ -62,7 +62,7 @@ asked-fits : (l : List Slot) (p : ℕ → ℕ) → ((i : ℕ) → i < length l �
 unfolding mapAt linesIn
 asked-fits [] p f w = tt
 asked-fits (s ∷ l) p f w =
-    all-appended Fits (byStream [] (λ x. lineFor x ∷ []) (stretch (p 0) (s .held))) (linesIn (stretched l (λ k. p (suc k))))
+    all-appended Fits (byStream [] (λ x. lineOf x ∷ []) (stretch (p 0) (s .held))) (linesIn (stretched l (λ k. p (suc k))))
     (slot-fits (p 0) (s .held) (f 0 (omega arith)) (w 0))
     (asked-fits l (λ k. p (suc k)) (λ i h. f (suc i) (omega arith)) (λ i. w (suc i)))
 
@@ -82,19 +82,19 @@ ladder false false true d rest = refl
 ladder false false false true rest = refl
 ladder false false false false rest = refl
 
-answer-refused : (b : Bool) (n : ℕ) (d : Decision) → answerOf (refusedBy b n d) ≡ refusedIf b n (answerOf d)
-answer-refused true n d = refl
-answer-refused false n d = refl
+answer-refused : (clock : ℕ) (b : Bool) (n : ℕ) (d : Decision) → answerFrom clock (refusedBy b n d) ≡ refusedIf b n (answerFrom clock d)
+answer-refused clock true n d = refl
+answer-refused clock false n d = refl
 
-answer-within : (clock : ℕ) (d : Decision) → Near clock d → Within clock (answerOf d)
-answer-within clock (decision.Start r) h = h
+answer-within : (clock : ℕ) (d : Decision) → Near d → Within clock (answerFrom clock d)
+answer-within clock (decision.Start r) h = (omega arith, omega arith)
 answer-within clock (decision.Refused n) h = tt
 
 -- what is decided of the slices of the arrays, as an answer: it is what is decided of the lines gathered, and as near
-pub fronts-answer : (g : Gathered) (clock Cn Tn : ℕ) {d : Decision} {r : Answer} → Room g → clock ≤ 2 ^ 48 - 65536
-    → (d ≡ decidedIn clock (take (g .count) (g .end)) (take (g .count) (g .remaining)) (take (g .count) (g .need)) (take (g .count) (g .period)) (take (g .count) (g .gap)) Cn Tn) × Near clock d
-    → r ≡ answerOf d → (r ≡ answerOf (decided clock (linesOf g) Cn Tn)) × Within clock r
-fronts-answer g clock Cn Tn {d} room h e a = (a ∙ ap answerOf (e .0 ∙ fronts-decided g room clock Cn Tn h), rw a (answer-within clock d (e .1)))
+pub fronts-answer : (g : Gathered) (clock Cn Tn : ℕ) {d : Decision} {r : Answer} → Room g
+    → (d ≡ decidedIn (take (g .count) (g .end)) (take (g .count) (g .remaining)) (take (g .count) (g .need)) (take (g .count) (g .period)) (take (g .count) (g .gap)) Cn Tn) × Near d
+    → r ≡ answerFrom clock d → (r ≡ answerFrom clock (decided (gatheredLines g) Cn Tn)) × Within clock r
+fronts-answer g clock Cn Tn {d} room e a = (a ∙ ap (answerFrom clock) (e .0 ∙ fronts-decided g room Cn Tn), rw a (answer-within clock d (e .1)))
 
 module _ (t : Table) (q : Request) (fp : fitting (map byPeriod (linesIn (asked t q))) ≡ true) (fg : fitting (map byGap (linesIn (asked t q))) ≡ true) where
   abbrev l : List Slot
@@ -153,13 +153,13 @@ module _ (t : Table) (q : Request) (fp : fitting (map byPeriod (linesIn (asked t
         ap (λ (y : Pass). t .clock + y .start) pass-is ∙ start-lines l (t .clock) (q .need) (q .period) need-some k in
         rw (sym short-is ∙ e) (ap Start z)
 
-  decided-is : answerOf (decided (t .clock) (linesIn l) (q .need) (q .period)) ≡ refusedIf (ltb 0 first) first (refusedIf (pass .short) 10 (Start (t .clock + pass .start)))
+  decided-is : answerFrom (t .clock) (decided (linesIn l) (q .need) (q .period)) ≡ refusedIf (ltb 0 first) first (refusedIf (pass .short) 10 (Start (t .clock + pass .start)))
   unfolding decided
   decided-is =
-      answer-refused (ltb 0 first) first (refusedBy (pass .short) 10 (decision.Start (t .clock + pass .start)))
-      ∙ ap (refusedIf (ltb 0 first) first) (answer-refused (pass .short) 10 (decision.Start (t .clock + pass .start)))
+      answer-refused (t .clock) (ltb 0 first) first (refusedBy (pass .short) 10 (decision.Start (pass .start)))
+      ∙ ap (refusedIf (ltb 0 first) first) (answer-refused (t .clock) (pass .short) 10 (decision.Start (pass .start)))
 
-  lines-decide : answerOf (decided (t .clock) (linesIn l) (q .need) (q .period)) ≡ pastFive t q
+  lines-decide : answerFrom (t .clock) (decided (linesIn l) (q .need) (q .period)) ≡ pastFive t q
   lines-decide = decided-is ∙ go (ltb 0 first) refl ∙ sym past-is
     where
       go : (b : Bool) → ltb 0 first ≡ b → refusedIf (ltb 0 first) first (refusedIf (pass .short) 10 (Start (t .clock + pass .start))) ≡ refusedIf (ltb 0 first) first rest
@@ -167,10 +167,10 @@ module _ (t : Table) (q : Request) (fp : fitting (map byPeriod (linesIn (asked t
       go false e = rw e (rest-is (ltb-false 0 first e) (pass .short) refl)
 
 -- R26 to R30, R14: what is decided of the lines gathered is the answer past the first five grounds
-pub gathered-decide : (t : Table) (q : Request) (g : Gathered) {r : Answer} → Gathers t q g → AllAllowed t q → r ≡ answerOf (decided (t .clock) (linesOf g) (q .need) (q .period)) → r ≡ pastFive t q
+pub gathered-decide : (t : Table) (q : Request) (g : Gathered) {r : Answer} → Gathers t q g → AllAllowed t q → r ≡ answerFrom (t .clock) (decided (gatheredLines g) (q .need) (q .period)) → r ≡ pastFive t q
 gathered-decide t q g v a e =
     let l = linesIn (asked t q) in
     let f = fit-by l (asked-fits (t .slots) (entry q) a (v .wide)) in
     let n : length l ≤ 16 = rw (sym (v .same), along-length (gatheredAt (g .end) (g .remaining) (g .need) (g .period) (g .gap)) 0 (g .count)) (v .few) in
     let fits : (by : Line → Stream) → All Fit (map by l) → fitting (map by l) ≡ true = λ by k. says-fitting (map by l) (rw (length-map l by) n) k in
-    e ∙ ap (λ (x : List Line). answerOf (decided (t .clock) x (q .need) (q .period))) (v .same) ∙ lines-decide t q (fits byPeriod (f .0)) (fits byGap (f .1))
+    e ∙ ap (λ (x : List Line). answerFrom (t .clock) (decided x (q .need) (q .period))) (v .same) ∙ lines-decide t q (fits byPeriod (f .0)) (fits byGap (f .1))

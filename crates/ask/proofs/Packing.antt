@@ -1,5 +1,5 @@
 -- From the slots to the arrays: what is gathered are the lines of the slots, each at its T'.
-use Prim.Native.Nat.{ℕ, zero, suc, _+_, _-_, _^_, _≤_, _<_}
+use Prim.Native.Nat.{ℕ, zero, suc, _+_, _≤_, _<_}
 use mathlib.Core.Path.{_≡_, refl, ap, sym, _∙_}
 use mathlib.Core.Bool.{Bool, true, false, not}
 use mathlib.Core.List.{List, [], _∷_, _++_, append-assoc, append-nil}
@@ -8,7 +8,7 @@ use native.Mathlib.Numerals.{add-one}
 use native.Mathlib.Omega.{arith}
 use lib.ListN.{length, getD, set, drop, take, length-set}
 use lib.Seq.{getD-set-same, getD-set-other, getD-take, length-take-le}
-use borrow.Author.Tests.{le-ltb, eq-eqb, not-true, not-false}
+use borrow.Author.Tests.{eq-eqb, not-true, not-false}
 use Rattle.line.specs.declared.Held.{Held}
 use Rattle.line.specs.declared.Held.the-variants.{Nothing, Running, Waiting}
 use Rattle.line.specs.declared.Slot.{Slot}
@@ -19,10 +19,10 @@ use Rattle.line.specs.Stretch.{stretch, stretchSlot, stretched}
 use Rattle.line.proofs.Read.{seen}
 use Rattle.sums.specs.Lines.{along}
 use Rattle.sums.proofs.Along.{along-more, along-same}
-use Rattle.decide.specs.Lines.{Line, gatheredAt, gathered, allAlike, lineFor, linesIn}
+use Rattle.decide.specs.Lines.{Line, gatheredAt, gathered, allAlike, lineOf, linesIn}
 use Rattle.decide.specs.Decided.{decided, decidedIn}
 use Rattle.ask.specs.declared.gather.Gathered.{Gathered}
-use Rattle.ask.specs.Gathered.{linesOf, Room}
+use Rattle.ask.specs.Gathered.{gatheredLines, Room}
 
 -- ---- one line more in the arrays
 
@@ -59,7 +59,7 @@ module _ (g : Gathered) (y : Stream) where
         getD-set-other (g .gap) (g .count) k (y .period) 0 (λ e. omega arith),
       )
 
-  line-new : Sixteen g → g .count < 16 → after (g .count) ≡ lineFor y
+  line-new : Sixteen g → g .count < 16 → after (g .count) ≡ lineOf y
   line-new r h =
       rw (
         getD-set-same (g .end) (g .count) (y .end) 0 (omega (arith, r .0)),
@@ -69,25 +69,26 @@ module _ (g : Gathered) (y : Stream) where
         getD-set-same (g .gap) (g .count) (y .period) 0 (omega (arith, r .4)),
       )
 
-  lines-push : Sixteen g → g .count < 16 → linesOf (pushed g y) ≡ linesOf g ++ (lineFor y ∷ [])
+  lines-push : Sixteen g → g .count < 16 → gatheredLines (pushed g y) ≡ gatheredLines g ++ (lineOf y ∷ [])
   lines-push r h =
       let z : 0 + g .count ≡ g .count = omega arith in
       ap (along after 0) (add-one (g .count))
       ∙ along-more after 0 (g .count)
       ∙ ap (λ (k : ℕ). along after 0 (g .count) ++ (after k ∷ [])) z
       ∙ ap (λ (x : Line). along after 0 (g .count) ++ (x ∷ [])) (line-new r h)
-      ∙ ap (λ (l : List Line). l ++ (lineFor y ∷ [])) (along-same after before 0 (g .count) (λ k a b. line-keeps k (omega arith)))
+      ∙ ap (λ (l : List Line). l ++ (lineOf y ∷ [])) (along-same after before 0 (g .count) (λ k a b. line-keeps k (omega arith)))
 
 -- ---- slot by slot
 
--- what is taken from a slot, by the tests that the code makes
-taken : (h : Held) → byStream [] (λ x. lineFor x ∷ []) h ≡ pick (isNothing h) [] (lineFor (byStream (noStream) (λ s. s) h) ∷ [])
-taken Nothing = refl
-taken (Running r) = refl
-taken (Waiting w) = refl
+-- what is taken from a slot at the period T, by the tests that the code makes
+taken : (T : ℕ) (h : Held)
+    → byStream [] (λ x. lineOf x ∷ []) (stretch T h) ≡ pick (isNothing h) [] (lineOf (byStream (noStream) (λ s. s) (stretch T h)) ∷ [])
+taken T Nothing = refl
+taken T (Running r) = refl
+taken T (Waiting w) = refl
 
 asked-step : (l : List Slot) (p : ℕ → ℕ) (i : ℕ) → i < length l
-    → linesIn (drop i (stretched l p)) ≡ byStream [] (λ x. lineFor x ∷ []) (stretch (p i) (at l i)) ++ linesIn (drop (suc i) (stretched l p))
+    → linesIn (drop i (stretched l p)) ≡ byStream [] (λ x. lineOf x ∷ []) (stretch (p i) (at l i)) ++ linesIn (drop (suc i) (stretched l p))
 unfolding mapAt linesIn
 asked-step [] p i h = absurd (omega arith)
 asked-step (s ∷ l) p zero h = refl
@@ -106,7 +107,7 @@ pub record Gathering (l : List Slot) (p : ℕ → ℕ) (i : ℕ) (g : Gathered) 
   pub upto : i ≤ 16
   pub few : g .count ≤ i
   pub room : Sixteen g
-  pub left : linesOf g ++ linesIn (drop i (stretched l p)) ≡ linesIn (stretched l p)
+  pub left : gatheredLines g ++ linesIn (drop i (stretched l p)) ≡ linesIn (stretched l p)
   pub wide : (k : ℕ) → p k ≤ 65535
 
 -- no slot is passed
@@ -115,12 +116,12 @@ unfolding along
 gather-start l p g e z r w = record { long = e; upto = omega arith; few = omega arith; room = r; left = rw z; wide = w }
 
 module _ {l : List Slot} {p : ℕ → ℕ} {i : ℕ} {g : Gathered} (v : Gathering l p i g) where
-  -- slot i at its T' is x, and the lines of h are those before and the line that x holds
-  gather-on : (h : Gathered) (d : Slot) {x : Slot} → i < 16 → x ≡ stretchSlot (p i) (getD l i d)
-      → h .count ≤ g .count + 1 → Sixteen h → linesOf h ≡ linesOf g ++ byStream [] (λ y. lineFor y ∷ []) (x .held) → Gathering l p (i + 1) h
-  gather-on h d {x} m r n o e =
+  -- the lines of h are those before and the line that slot i holds at its T'
+  gather-on : (h : Gathered) (d : Slot) → i < 16 → h .count ≤ g .count + 1 → Sixteen h
+      → gatheredLines h ≡ gatheredLines g ++ byStream [] (λ y. lineOf y ∷ []) (stretch (p i) (getD l i d .held)) → Gathering l p (i + 1) h
+  gather-on h d m n o e =
       let a : i < length l = omega (arith, v .long) in
-      let z : stretch (p i) (at l i) ≡ x .held = seen (stretch (p i)) l i d (ap (λ (s : Slot). s .held) r) refl a in
+      let z : stretch (p i) (at l i) ≡ stretch (p i) (getD l i d .held) = seen (stretch (p i)) l i d refl refl a in
       record {
         long = v .long;
         upto = omega arith;
@@ -128,27 +129,29 @@ module _ {l : List Slot} {p : ℕ → ℕ} {i : ℕ} {g : Gathered} (v : Gatheri
         room = o;
         left =
             rw (add-one i)
-            (ap (λ (k : List Line). k ++ linesIn (drop (suc i) (stretched l p))) (e ∙ ap (λ (k : Held). linesOf g ++ byStream [] (λ y. lineFor y ∷ []) k) (sym z))
-            ∙ append-assoc (linesOf g) (byStream [] (λ y. lineFor y ∷ []) (stretch (p i) (at l i))) (linesIn (drop (suc i) (stretched l p)))
-            ∙ ap (λ (k : List Line). linesOf g ++ k) (sym (asked-step l p i a))
+            (ap (λ (k : List Line). k ++ linesIn (drop (suc i) (stretched l p))) (e ∙ ap (λ (k : Held). gatheredLines g ++ byStream [] (λ y. lineOf y ∷ []) k) (sym z))
+            ∙ append-assoc (gatheredLines g) (byStream [] (λ y. lineOf y ∷ []) (stretch (p i) (at l i))) (linesIn (drop (suc i) (stretched l p)))
+            ∙ ap (λ (k : List Line). gatheredLines g ++ k) (sym (asked-step l p i a))
             ∙ v .left
             );
         wide = v .wide;
       }
 
-  module _ (d : Slot) {x : Slot} {b : Bool} (h : i < 16) (e : x ≡ stretchSlot (p i) (getD l i d)) (t : b ≡ isNothing (x .held)) where
+  module _ (d : Slot) {b : Bool} (h : i < 16) (t : b ≡ isNothing (getD l i d .held)) where
     -- slot i holds no line
     pub gather-skip : not b ≡ false → Gathering l p (i + 1) g
     gather-skip n =
-        gather-on g d h e (omega arith) (v .room)
-        (sym (append-nil (linesOf g)) ∙ ap (λ (k : List Line). linesOf g ++ k) (sym (taken (x .held) ∙ rw (sym t ∙ not-false b n))))
+        gather-on g d h (omega arith) (v .room)
+        (sym (append-nil (gatheredLines g)) ∙ ap (λ (k : List Line). gatheredLines g ++ k) (sym (taken (p i) (getD l i d .held) ∙ rw (sym t ∙ not-false b n))))
 
-    -- slot i holds a line
-    pub gather-push : {y : Stream} → not b ≡ true → y ≡ byStream (noStream) (λ s. s) (x .held) → Gathering l p (i + 1) (pushed g y)
-    gather-push {y} n f =
-        gather-on (pushed g y) d h e (omega arith) (simp length-set (v .room))
+    -- slot i holds a line, which at its T' is x and asks for y
+    pub gather-push : {x : Slot} {y : Stream} → not b ≡ true → x ≡ stretchSlot (p i) (getD l i d) → y ≡ byStream (noStream) (λ s. s) (x .held)
+        → Gathering l p (i + 1) (pushed g y)
+    gather-push {x} {y} n e f =
+        gather-on (pushed g y) d h (omega arith) (simp length-set (v .room))
         (lines-push g y (v .room) (omega (arith, v .few))
-        ∙ ap (λ (k : List Line). linesOf g ++ k) (sym (taken (x .held) ∙ rw (sym t ∙ not-true b n, f)))
+        ∙ ap (λ (k : List Line). gatheredLines g ++ k)
+        (sym (taken (p i) (getD l i d .held) ∙ rw (sym t ∙ not-true b n, f ∙ ap (λ (s : Slot). byStream (noStream) (λ u. u) (s .held)) e)))
         )
 
   -- the arrays have room for what is gathered
@@ -159,10 +162,10 @@ module _ {l : List Slot} {p : ℕ → ℕ} {i : ℕ} {g : Gathered} (v : Gatheri
       (in-sixteen _ (r .0), in-sixteen _ (r .1), in-sixteen _ (r .2), in-sixteen _ (r .3), in-sixteen _ (r .4))
 
   -- R6: all slots are passed
-  pub gather-end : 16 ≤ i → linesOf g ≡ linesIn (stretched l p)
+  pub gather-end : 16 ≤ i → gatheredLines g ≡ linesIn (stretched l p)
   gather-end h =
-      sym (append-nil (linesOf g))
-      ∙ ap (λ (x : List Line). linesOf g ++ x) (sym (asked-end l p i (omega (arith, v .long))))
+      sym (append-nil (gatheredLines g))
+      ∙ ap (λ (x : List Line). gatheredLines g ++ x) (sym (asked-end l p i (omega (arith, v .long))))
       ∙ v .left
 
 -- ---- the arrays as slices
@@ -184,7 +187,7 @@ module _ (g : Gathered) (room : Room g) where
         eq-eqb (length (front (g .gap))) (length (front (g .end))) (front-long (g .gap) (room .4) ∙ sym e),
       )
 
-  fronts-lines : gathered (front (g .end)) (front (g .remaining)) (front (g .need)) (front (g .period)) (front (g .gap)) ≡ linesOf g
+  fronts-lines : gathered (front (g .end)) (front (g .remaining)) (front (g .need)) (front (g .period)) (front (g .gap)) ≡ gatheredLines g
   fronts-lines =
       ap (along (gatheredAt (front (g .end)) (front (g .remaining)) (front (g .need)) (front (g .period)) (front (g .gap))) 0) (front-long (g .end) (room .0))
       ∙ along-same _ (gatheredAt (g .end) (g .remaining) (g .need) (g .period) (g .gap)) 0 (g .count)
@@ -199,7 +202,7 @@ module _ (g : Gathered) (room : Room g) where
       ))
 
   -- what is decided of the first `count` numbers of each array is what is decided of the lines gathered
-  pub fronts-decided : (clock Cn Tn : ℕ) → clock ≤ 2 ^ 48 - 65536
-      → decidedIn clock (front (g .end)) (front (g .remaining)) (front (g .need)) (front (g .period)) (front (g .gap)) Cn Tn ≡ decided clock (linesOf g) Cn Tn
+  pub fronts-decided : (Cn Tn : ℕ)
+      → decidedIn (front (g .end)) (front (g .remaining)) (front (g .need)) (front (g .period)) (front (g .gap)) Cn Tn ≡ decided (gatheredLines g) Cn Tn
   unfolding decidedIn
-  fronts-decided clock Cn Tn h = rw (le-ltb (2 ^ 48 - 65536) clock h, fronts-alike, fronts-lines)
+  fronts-decided Cn Tn = rw (fronts-alike, fronts-lines)

@@ -24,8 +24,8 @@ use Rattle.decide.specs.Lines.{Line, gatheredAt, linesIn}
 use Rattle.ask.specs.declared.gather.Gathered.{Gathered}
 
 -- the lines gathered: the first `count` of the arrays
-abbrev pub linesOf : Gathered → List Line
-linesOf g = along (gatheredAt (g .end) (g .remaining) (g .need) (g .period) (g .gap)) 0 (g .count)
+abbrev pub gatheredLines : Gathered → List Line
+gatheredLines g = along (gatheredAt (g .end) (g .remaining) (g .need) (g .period) (g .gap)) 0 (g .count)
 
 -- the arrays have room for them
 abbrev pub Room : Gathered → Type 0
@@ -36,7 +36,7 @@ Room g =
 pub record Gathers (t : Table) (q : Request) (g : Gathered) : Type 0 where
   pub few : g .count ≤ 16
   pub room : Room g
-  pub same : linesOf g ≡ linesIn (asked t q)
+  pub same : gatheredLines g ≡ linesIn (asked t q)
   pub wide : (k : ℕ) → entry q k ≤ 65535
 
 -- R23 to R25: what is known of a slot, with p for its T', since none of these grounds held
@@ -53,10 +53,10 @@ pastFive t q =
     refusedIf (not (both (leb 1 (q .need)) (leb (q .need) (q .period)))) 6
     (askIn (t .clock) (frame (asked t q) (q .period)) (asked t q) (q .need) (q .period))
 
--- R17, R41: what was decided, as an answer: these grounds have place 0
-abbrev pub answerOf : Decision → Answer
-answerOf (decision.Start r) = Start r
-answerOf (decision.Refused n) = Refused (refusal n 0)
+-- R17, R41: what was decided, as an answer: a start is counted from the clock on, and these grounds have place 0
+abbrev pub answerFrom : (clock : ℕ) → Decision → Answer
+answerFrom clock (decision.Start d) = Start (clock + d)
+answerFrom clock (decision.Refused n) = Refused (refusal n 0)
 
 -- a start is at the clock or at most 65,535 ticks after it
 abbrev pub Within : ℕ → Answer → Type 0

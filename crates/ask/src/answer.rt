@@ -10,7 +10,7 @@ ghost use Rattle.table.specs.Words.{slotOf, refusal};
 ghost use Rattle.table.specs.Grounds.{entry};
 ghost use Rattle.table.specs.Ask.{askOf};
 ghost use Rattle.decide.specs.Decided.{decided};
-ghost use Rattle.ask.specs.Gathered.{linesOf, Room, answerOf, Within};
+ghost use Rattle.ask.specs.Gathered.{gatheredLines, Room, answerFrom, Within};
 use crate::gather::Gathered;
 
 // R7, R21: the last clock that may ask, 2^48 − 65,536
@@ -49,12 +49,13 @@ fn fits_period(need: u16, period: u16) -> bool
     need <= period
 }
 
-// R17, R41: what was decided, as an answer: these grounds have place 0
-fn answered(d: decide::Decision) -> table::Answer
-    ensures { λ r. ⌜ r ≡ answerOf d ⌝ }
+// R17, R41: what was decided, as an answer: a start is counted from the clock on, and these grounds have place 0
+fn answered(clock: u64, d: decide::Decision) -> table::Answer
+    requires { ⌜ clock ≤ 2 ^ 48 - 65536 ⌝ }
+    ensures { λ r. ⌜ r ≡ answerFrom clock d ⌝ }
 {
     match d {
-        decide::Decision::Start(r) => table::Answer::Start(r),
+        decide::Decision::Start(after) => table::Answer::Start(clock + after as u64),
         decide::Decision::Refused(n) => refused(n, 0),
     }
 }
@@ -62,7 +63,7 @@ fn answered(d: decide::Decision) -> table::Answer
 // R26 to R30, R14: what is decided of the lines gathered
 fn by_lines(clock: u64, g: Gathered, need: u16, period: u16) -> table::Answer
     requires { ⌜ Room g × (clock ≤ 2 ^ 48 - 65536) ⌝ }
-    ensures { λ r. ⌜ (r ≡ answerOf (decided clock (linesOf g) need period)) × Within clock r ⌝ }
+    ensures { λ r. ⌜ (r ≡ answerFrom clock (decided (gatheredLines g) need period)) × Within clock r ⌝ }
 {
     let n = g.count;
     let ends = g.end;
@@ -71,7 +72,6 @@ fn by_lines(clock: u64, g: Gathered, need: u16, period: u16) -> table::Answer
     let periods = g.period;
     let gaps = g.gap;
     let d = decide::decide(
-        clock,
         &ends[..n],
         &left[..n],
         &needs[..n],
@@ -80,7 +80,7 @@ fn by_lines(clock: u64, g: Gathered, need: u16, period: u16) -> table::Answer
         need,
         period,
     );
-    answered(d)
+    answered(clock, d)
 }
 
 // R18, R41: the first ground that holds, or the start. R21 to R26 are tested here, before the lines are gathered.

@@ -30,9 +30,9 @@ pub(crate) fn gather(t: table::Table, q: table::Request) -> Gathered
     while i < 16 {
         let s = t.slots[i];
         let p = q.stretched[i];
-        let x = s.stretched(p);
-        if !x.is_empty() {
-            let y = x.stream();
+        if !s.is_empty() {
+            let x = s.stretched(p);
+            let y = x.asks();
             let at = g.count;
             g.end[at] = y.end as u32;
             g.remaining[at] = y.remaining as u32;

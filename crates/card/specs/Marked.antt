@@ -5,7 +5,7 @@ use mathlib.Core.List.{List, [], _++_}
 use Rattle.line.specs.declared.Held.{Held}
 use Rattle.line.specs.declared.Held.the-variants.{Nothing, Running, Waiting}
 use Rattle.line.specs.declared.Slot.{Slot}
-use Rattle.line.specs.Slots.{pick, runOf, holding}
+use Rattle.line.specs.Slots.{pick, runWith, holding}
 use Rattle.card.specs.declared.Mark.{Mark}
 use Rattle.card.specs.declared.SlotRecord.{SlotRecord}
 use Rattle.card.specs.declared.Recorded.{Recorded}
@@ -43,7 +43,7 @@ Fitting r = pick (isFree (r .mark)) (r ≡ free) (NumbersFit r)
 
 -- R53: what a slot holds by its record: under TB age comes before remaining
 abbrev pub heldUnder : Mark → SlotRecord → Held
-heldUnder Mark.TB r = Running (runOf (r .need) (r .period) (r .fourth) (r .fifth))
+heldUnder Mark.TB r = Running (runWith (r .need) (r .period) (r .fourth) (r .fifth))
 heldUnder Mark.TF r = Nothing
 
 -- R53: the slot that a record stands for

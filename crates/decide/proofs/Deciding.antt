@@ -1,12 +1,12 @@
 -- Which case of `decidedIn` holds, by the tests that the code makes.
-use Prim.Native.Nat.{ℕ, _+_, _-_, _^_, _≤_, _<_}
+use Prim.Native.Nat.{ℕ, _≤_, _<_}
 use mathlib.Core.Path.{_≡_, refl, ap, sym, _∙_}
 use mathlib.Core.Bool.{Bool, true, false}
 use mathlib.Core.List.{List, map}
 use native.Mathlib.Omega.{arith}
 use lib.Dec.{ltb, eqb}
 use lib.ListN.{length}
-use borrow.Author.Tests.{lt-ltb, le-ltb, eq-eqb, ne-eqb}
+use borrow.Author.Tests.{lt-ltb, eq-eqb, ne-eqb}
 use Rattle.line.specs.declared.Stream.{Stream}
 use Rattle.line.specs.Slots.{pick, both}
 use Rattle.sums.specs.Lines.{linesOf, alike}
@@ -41,66 +41,59 @@ no-number : (a : Bool) (s n : ℕ) → n ≡ pick a s 4 → n ≤ 0 → (a ≡ t
 no-number true s n e h = (refl, omega arith)
 no-number false s n e h = absurd (omega arith)
 
-module _ (clock : ℕ) (e c n p g : List ℕ) (Cn Tn : ℕ) where
-  -- R21: the clock is too late
-  pub decide-late : 2 ^ 48 - 65536 < clock → Refused 1 ≡ decidedIn clock e c n p g Cn Tn
+module _ (e c n p g : List ℕ) (Cn Tn : ℕ) where
+  -- there are more gaps than lines, or fewer
+  pub decide-apart : (length g ≡ length e → ⊥) → Refused 4 ≡ decidedIn e c n p g Cn Tn
   unfolding decidedIn
-  decide-late h = rw (lt-ltb (2 ^ 48 - 65536) clock h)
+  decide-apart m = rw (ne-eqb (length g) (length e) m, both-not (alike e c n p))
 
-  module _ (h : clock ≤ 2 ^ 48 - 65536) where
-    -- there are more gaps than lines, or fewer
-    pub decide-apart : (length g ≡ length e → ⊥) → Refused 4 ≡ decidedIn clock e c n p g Cn Tn
-    unfolding decidedIn
-    decide-apart m = rw (le-ltb (2 ^ 48 - 65536) clock h, ne-eqb (length g) (length e) m, both-not (alike e c n p))
+  module _ (same : length g ≡ length e) {s : ℕ} (es : s ≡ weighedIn e c n p Cn Tn) where
+    abbrev sums : ℕ
+    sums = weighed (map byPeriod (gathered e c n p g)) Cn Tn
 
-    module _ (same : length g ≡ length e) {s : ℕ} (es : s ≡ weighedIn e c n p Cn Tn) where
-      abbrev sums : ℕ
-      sums = weighed (map byPeriod (gathered e c n p g)) Cn Tn
+    weighed-is : s ≡ pick (alike e c n p) sums 4
+    weighed-is =
+        es ∙ ap (λ (l : List Stream). pick (alike e c n p) (weighed l Cn Tn) 4) (sym (along-map (gatheredAt e c n p g) byPeriod 0 (length e)))
 
-      weighed-is : s ≡ pick (alike e c n p) sums 4
-      weighed-is =
-          es ∙ ap (λ (l : List Stream). pick (alike e c n p) (weighed l Cn Tn) 4) (sym (along-map (gatheredAt e c n p g) byPeriod 0 (length e)))
+    -- R24, R26 to R29: the sums refuse
+    pub decide-weighed : 0 < s → Refused s ≡ decidedIn e c n p g Cn Tn
+    unfolding decidedIn decided
+    decide-weighed k =
+        rw (eq-eqb (length g) (length e) same) (some-number (alike e c n p) sums s _ weighed-is k)
 
-      -- R24, R26 to R29: the sums refuse
-      pub decide-weighed : 0 < s → Refused s ≡ decidedIn clock e c n p g Cn Tn
-      unfolding decidedIn decided
-      decide-weighed k =
-          rw (le-ltb (2 ^ 48 - 65536) clock h, eq-eqb (length g) (length e) same) (some-number (alike e c n p) sums s _ weighed-is k)
+    module _ (k : s ≤ 0) where
+      alike-all : allAlike e c n p g ≡ true
+      alike-all = both-true (no-number (alike e c n p) sums s weighed-is k .0) (eq-eqb (length g) (length e) same)
 
-      module _ (k : s ≤ 0) where
-        alike-all : allAlike e c n p g ≡ true
-        alike-all = both-true (no-number (alike e c n p) sums s weighed-is k .0) (eq-eqb (length g) (length e) same)
+      sums-none : sums ≡ 0
+      sums-none = no-number (alike e c n p) sums s weighed-is k .1
 
-        sums-none : sums ≡ 0
-        sums-none = no-number (alike e c n p) sums s weighed-is k .1
+      alike-gaps : alike e c n g ≡ true
+      alike-gaps =
+          last-other (eqb (length c) (length e)) (eqb (length n) (length e)) (eqb (length p) (length e)) (eqb (length g) (length e))
+          (no-number (alike e c n p) sums s weighed-is k .0) (eq-eqb (length g) (length e) same)
 
-        alike-gaps : alike e c n g ≡ true
-        alike-gaps =
-            last-other (eqb (length c) (length e)) (eqb (length n) (length e)) (eqb (length p) (length e)) (eqb (length g) (length e))
-            (no-number (alike e c n p) sums s weighed-is k .0) (eq-eqb (length g) (length e) same)
+      module _ {x : Pass} (ex : x ≡ passedIn e c n g Cn Tn) where
+        passed-is : x ≡ passOf (map byGap (gathered e c n p g)) Cn Tn
+        passed-is =
+            ex
+            ∙ ap (λ (b : Bool). pick b (passOf (linesOf e c n g) Cn Tn) notPassed) alike-gaps
+            ∙ ap (λ (l : List Stream). passOf l Cn Tn) (sym (along-map (gatheredAt e c n p g) byGap 0 (length e)))
 
-        module _ {x : Pass} (ex : x ≡ passedIn e c n g Cn Tn) where
-          passed-is : x ≡ passOf (map byGap (gathered e c n p g)) Cn Tn
-          passed-is =
-              ex
-              ∙ ap (λ (b : Bool). pick b (passOf (linesOf e c n g) Cn Tn) notPassed) alike-gaps
-              ∙ ap (λ (l : List Stream). passOf l Cn Tn) (sym (along-map (gatheredAt e c n p g) byGap 0 (length e)))
+        past-sums : refusedBy (x .short) 10 (Start (x .start)) ≡ decidedIn e c n p g Cn Tn
+        unfolding decidedIn decided
+        past-sums = rw (alike-all, sums-none, ← passed-is)
 
-          past-sums : refusedBy (x .short) 10 (Start (clock + x .start)) ≡ decidedIn clock e c n p g Cn Tn
-          unfolding decidedIn decided
-          past-sums = rw (le-ltb (2 ^ 48 - 65536) clock h, alike-all, sums-none, ← passed-is)
+        -- R30: an end is short without the new line
+        pub decide-short : x .short ≡ true → Refused 10 ≡ decidedIn e c n p g Cn Tn
+        decide-short b = rw b at past-sums
 
-          -- R30: an end is short without the new line
-          pub decide-short : x .short ≡ true → Refused 10 ≡ decidedIn clock e c n p g Cn Tn
-          decide-short b = rw b at past-sums
+        -- R14, R18: no ground holds, and the start is given
+        pub decide-starts : x .short ≡ false → Start (x .start) ≡ decidedIn e c n p g Cn Tn
+        decide-starts b = rw b at past-sums
 
-          -- R14, R18: no ground holds, and the start is given
-          pub decide-starts : x .short ≡ false → Start (clock + x .start) ≡ decidedIn clock e c n p g Cn Tn
-          decide-starts b = rw b at past-sums
-
-          -- R14, R3: and it is not farther than 65,535 ticks
-          pub start-within : clock + x .start ≤ clock + 65535
-          start-within =
-              let f = none-weighs (map byPeriod (gathered e c n p g)) Cn Tn sums-none in
-              let l : x .start ≤ 65535 = rw passed-is (start-near (map byGap (gathered e c n p g)) Cn Tn (omega arith)) in
-              omega arith
+        -- R14, R3: and it is not farther than 65,535 ticks
+        pub start-within : x .start ≤ 65535
+        start-within =
+            let f = none-weighs (map byPeriod (gathered e c n p g)) Cn Tn sums-none in
+            rw passed-is (start-near (map byGap (gathered e c n p g)) Cn Tn (omega arith))

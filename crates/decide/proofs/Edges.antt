@@ -1,5 +1,5 @@
--- The decision at given numbers, by computation: the order of its grounds, the period and the gap of a line, slices that differ in length, and the last clock.
-use Prim.Native.Nat.{ℕ, _-_, _^_}
+-- The decision at given numbers, by computation: the order of its grounds, the period and the gap of a line, and slices that differ in length.
+use Prim.Native.Nat.{ℕ}
 use mathlib.Core.Path.{_≡_, refl}
 use mathlib.Core.List.{List, [], _∷_, map}
 use Rattle.periods.specs.Multiples.{euclid, gcdOf, lcmOf, frameFrom}
@@ -7,13 +7,13 @@ use Rattle.line.specs.Streams.{due, every, endsBefore}
 use Rattle.line.specs.Ends.{bound}
 use Rattle.sums.specs.Lines.{along, sumOf, allOf}
 use Rattle.sums.specs.Weighed.{fitting, weighedFit, weighed}
-use Rattle.pass.specs.Pass.{lastOf, endsBy, passOver, passOf}
+use Rattle.pass.specs.Pass.{greatestEnd, endsBy, passOver, passOf}
 use Rattle.decide.specs.declared.Decision.{Decision}
 use Rattle.decide.specs.declared.Decision.the-variants.{Start, Refused}
 use Rattle.decide.specs.Lines.{Line, lineWith}
 use Rattle.decide.specs.Decided.{decided, decidedIn}
 
--- lines with a new line at the clock 100, and what is to be decided
+-- lines with a new line, and what is to be decided
 pub record Edge : Type 0 where
   pub lines : List Line
   pub need : ℕ
@@ -33,38 +33,32 @@ decideEdges =
     ∷ edge (lineWith 4 3 4 8 8 ∷ []) 5 8 (Refused 8)
     ∷ edge (lineWith 1 3 4 8 8 ∷ lineWith 8 0 1 8 8 ∷ []) 1 8 (Refused 9)
     ∷ edge (lineWith 3 4 4 20 20 ∷ lineWith 20 0 10 20 20 ∷ []) 1 4 (Refused 10)
-    ∷ edge (lineWith 3 3 4 20 20 ∷ lineWith 20 0 10 20 20 ∷ []) 1 4 (Start 100)
-    ∷ edge (lineWith 3 3 4 16 16 ∷ lineWith 20 0 10 20 20 ∷ []) 1 4 (Start 100)
-    ∷ edge (lineWith 3 3 4 16 4 ∷ lineWith 20 0 10 20 20 ∷ []) 1 4 (Start 116)
+    ∷ edge (lineWith 3 3 4 20 20 ∷ lineWith 20 0 10 20 20 ∷ []) 1 4 (Start 0)
+    ∷ edge (lineWith 3 3 4 16 16 ∷ lineWith 20 0 10 20 20 ∷ []) 1 4 (Start 0)
+    ∷ edge (lineWith 3 3 4 16 4 ∷ lineWith 20 0 10 20 20 ∷ []) 1 4 (Start 16)
     ∷ edge (lineWith 3 3 4 4 16 ∷ lineWith 20 0 10 20 20 ∷ []) 1 4 (Refused 8)
-    ∷ edge (lineWith 8 4 4 8 65536 ∷ []) 1 8 (Start 100)
+    ∷ edge (lineWith 8 4 4 8 65536 ∷ []) 1 8 (Start 0)
     ∷ edge (lineWith 8 4 4 8 65537 ∷ []) 1 8 (Refused 10)
-    ∷ edge (lineWith 3 0 4 8 4 ∷ []) 1 8 (Start 100)
+    ∷ edge (lineWith 3 0 4 8 4 ∷ []) 1 8 (Start 0)
     ∷ edge (lineWith 3 0 4 8 3 ∷ []) 1 8 (Refused 10)
-    ∷ edge (lineWith 8 4 4 8 8 ∷ []) 1 8 (Start 100)
+    ∷ edge (lineWith 8 4 4 8 8 ∷ []) 1 8 (Start 0)
     ∷ edge (lineWith 8 4 4 8 7 ∷ []) 1 8 (Refused 10)
-    ∷ edge (lineWith 0 0 0 8 1 ∷ []) 1 8 (Start 100)
+    ∷ edge (lineWith 0 0 0 8 1 ∷ []) 1 8 (Start 0)
     ∷ edge (lineWith 0 0 0 8 0 ∷ []) 1 8 (Refused 10)
     ∷ []
 
 -- R18, R24, R26 to R30, R14: each ground in its order, and what looks at the period and what at the gap
-pub decide-edges : map (λ (e : Edge). decided 100 (e .lines) (e .need) (e .period)) decideEdges ≡ map (λ (e : Edge). e .says) decideEdges
-unfolding euclid gcdOf lcmOf frameFrom due every endsBefore bound sumOf allOf fitting weighedFit weighed lastOf endsBy passOver passOf decided decideEdges
+pub decide-edges : map (λ (e : Edge). decided (e .lines) (e .need) (e .period)) decideEdges ≡ map (λ (e : Edge). e .says) decideEdges
+unfolding euclid gcdOf lcmOf frameFrom due every endsBefore bound sumOf allOf fitting weighedFit weighed greatestEnd endsBy passOver passOf decided decideEdges
 decide-edges = refl
 
 -- slices of one line: all alike, and each of the last four a number short or long
-pub slices-edges : decidedIn 100 (8 ∷ []) (4 ∷ []) (4 ∷ []) (8 ∷ []) (8 ∷ []) 1 8
-    ∷ decidedIn 100 (8 ∷ []) [] (4 ∷ []) (8 ∷ []) (8 ∷ []) 1 8
-    ∷ decidedIn 100 (8 ∷ []) (4 ∷ []) (4 ∷ 4 ∷ []) (8 ∷ []) (8 ∷ []) 1 8
-    ∷ decidedIn 100 (8 ∷ []) (4 ∷ []) (4 ∷ []) (8 ∷ 8 ∷ []) (8 ∷ []) 1 8
-    ∷ decidedIn 100 (8 ∷ []) (4 ∷ []) (4 ∷ []) (8 ∷ []) [] 1 8
+pub slices-edges : decidedIn (8 ∷ []) (4 ∷ []) (4 ∷ []) (8 ∷ []) (8 ∷ []) 1 8
+    ∷ decidedIn (8 ∷ []) [] (4 ∷ []) (8 ∷ []) (8 ∷ []) 1 8
+    ∷ decidedIn (8 ∷ []) (4 ∷ []) (4 ∷ 4 ∷ []) (8 ∷ []) (8 ∷ []) 1 8
+    ∷ decidedIn (8 ∷ []) (4 ∷ []) (4 ∷ []) (8 ∷ 8 ∷ []) (8 ∷ []) 1 8
+    ∷ decidedIn (8 ∷ []) (4 ∷ []) (4 ∷ []) (8 ∷ []) [] 1 8
     ∷ []
-    ≡ Start 100 ∷ Refused 4 ∷ Refused 4 ∷ Refused 4 ∷ Refused 4 ∷ []
-unfolding euclid gcdOf lcmOf frameFrom due every endsBefore bound along sumOf allOf fitting weighedFit weighed lastOf endsBy passOver passOf decided decidedIn
+    ≡ Start 0 ∷ Refused 4 ∷ Refused 4 ∷ Refused 4 ∷ Refused 4 ∷ []
+unfolding euclid gcdOf lcmOf frameFrom due every endsBefore bound along sumOf allOf fitting weighedFit weighed greatestEnd endsBy passOver passOf decided decidedIn
 slices-edges = refl
-
--- R7, R21: the last clock that may ask, and the next; a clock too late comes before slices that differ
-pub clock-edges : decidedIn (2 ^ 48 - 65536) [] [] [] [] [] 1 8 ∷ decidedIn (2 ^ 48 - 65535) [] [] [] [] [] 1 8 ∷ decidedIn (2 ^ 48 - 65535) [] [] [] [] (8 ∷ []) 1 8 ∷ []
-    ≡ Start 281474976645120 ∷ Refused 1 ∷ Refused 1 ∷ []
-unfolding euclid gcdOf lcmOf frameFrom due every endsBefore bound along sumOf allOf fitting weighedFit weighed lastOf endsBy passOver passOf decided decidedIn
-clock-edges = refl

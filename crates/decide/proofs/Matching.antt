@@ -17,7 +17,7 @@ use Rattle.line.specs.Shares.{frame, share, claim, full}
 use Rattle.line.specs.Ends.{endsOf, slack, bound, greatest, anyOf, start, shortAt}
 use Rattle.sums.specs.Lines.{sumOf}
 use Rattle.sums.specs.Weighed.{periodsOf}
-use Rattle.pass.specs.Pass.{dueBy, demandOf, lastOf, endsBy, shortBy, boundBy, passIn}
+use Rattle.pass.specs.Pass.{dueBy, demandOf, lastBy, endsBy, shortBy, boundBy, passIn}
 use Rattle.pass.proofs.Passing.{pass-any, pass-greatest}
 use Rattle.decide.specs.Lines.{byPeriod, byGap, linesIn, absolute}
 use Rattle.decide.proofs.Ticks.{total-lines, flow-shift, periods-lines, last-lines, ends-lines, any-shift, bound-shift, greatest-shift}
@@ -54,7 +54,7 @@ module _ (l : List Slot) where
   all d = demandOf spaced d
 
   abbrev last : ℕ
-  last = lastOf spaced
+  last = lastBy spaced
 
   abbrev ends : List ℕ
   ends = endsBy last spaced

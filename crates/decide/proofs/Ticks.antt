@@ -18,16 +18,16 @@ use Rattle.line.specs.Shares.{periodsIn}
 use Rattle.line.specs.Ends.{endsOf, bound, greatest, anyOf}
 use Rattle.sums.specs.Lines.{sumOf}
 use Rattle.sums.specs.Weighed.{periodsOf}
-use Rattle.pass.specs.Pass.{dueBy, lastOf, endsBy}
-use Rattle.decide.specs.Lines.{Line, byPeriod, byGap, lineFor, linesIn, absolute}
+use Rattle.pass.specs.Pass.{dueBy, greatestEnd, lastBy, endsBy}
+use Rattle.decide.specs.Lines.{Line, byPeriod, byGap, lineOf, linesIn, absolute}
 
 -- the lines of a slot that asks for o, and those behind it
 abbrev with : Option Stream → List Line → List Line
-with o rest = ofStream [] (λ x. lineFor x ∷ []) o ++ rest
+with o rest = ofStream [] (λ x. lineOf x ∷ []) o ++ rest
 
 -- ---- sums over the slots are sums over the lines
 
-module _ (F f : Stream → ℕ) (by : Line → Stream) (e : (s : Stream) → F s ≡ f (by (lineFor s))) where
+module _ (F f : Stream → ℕ) (by : Line → Stream) (e : (s : Stream) → F s ≡ f (by (lineOf s))) where
   total-one : (o : Option Stream) (rest : List Line) → ofStream 0 F o + sumOf f (map by rest) ≡ sumOf f (map by (with o rest))
   unfolding sumOf
   total-one none rest = omega arith
@@ -53,7 +53,7 @@ due-shift t0 e c C P d =
     rw (ltb-shift t0 d e, z)
 
 -- R10: a stream's demand, counted from the clock
-pub flow-shift : (t0 d : ℕ) (s : Stream) → flow t0 s (t0 + d) ≡ dueBy d (byGap (lineFor s))
+pub flow-shift : (t0 d : ℕ) (s : Stream) → flow t0 s (t0 + d) ≡ dueBy d (byGap (lineOf s))
 flow-shift t0 d s = due-shift t0 (s .end) (s .remaining) (s .need) (s .period) d
 
 -- ---- periods, the last end, the ends
@@ -69,14 +69,14 @@ periods-lines [] = refl
 periods-lines (s ∷ l) =
     ap (λ (x : List ℕ). byStream [] (λ y. y .period ∷ []) (s .held) ++ x) (periods-lines l) ∙ period-one (asks (s .held)) (linesIn l)
 
-last-one : (t0 : ℕ) (o : Option Stream) (rest : List Line) → max (ofStream t0 (endAt t0) o) (t0 + lastOf (map byGap rest)) ≡ t0 + lastOf (map byGap (with o rest))
-unfolding lastOf
+last-one : (t0 : ℕ) (o : Option Stream) (rest : List Line) → max (ofStream t0 (endAt t0) o) (t0 + lastBy (map byGap rest)) ≡ t0 + lastBy (map byGap (with o rest))
+unfolding greatestEnd
 last-one t0 none rest = omega arith
 last-one t0 (some s) rest = omega arith
 
 -- R15: the last end, counted from the clock
-pub last-lines : (t0 : ℕ) (l : List Slot) → lastEnd t0 l ≡ t0 + lastOf (map byGap (linesIn l))
-unfolding lastEnd linesIn lastOf
+pub last-lines : (t0 : ℕ) (l : List Slot) → lastEnd t0 l ≡ t0 + lastBy (map byGap (linesIn l))
+unfolding lastEnd linesIn greatestEnd
 last-lines t0 [] = omega arith
 last-lines t0 (s ∷ l) = ap (max (byStream t0 (endAt t0) (s .held))) (last-lines t0 l) ∙ last-one t0 (asks (s .held)) (linesIn l)
 

@@ -1,5 +1,5 @@
 -- What is decided of the lines gathered, R26 to R30 and R14, and how far a start may be.
-use Prim.Native.Nat.{ℕ, _+_, _-_, _^_, _≤_}
+use Prim.Native.Nat.{ℕ, _≤_}
 use mathlib.Core.Bool.{Bool, true, false}
 use mathlib.Core.List.{List, map}
 use lib.Dec.{ltb}
@@ -16,17 +16,16 @@ refusedBy true n d = Refused n
 refusedBy false n d = d
 
 -- R18, R24, R26 to R30, R14: what the sums and the pass say of the lines
-unfoldable pub decided : (clock : ℕ) → List Line → (Cn Tn : ℕ) → Decision
-decided clock l Cn Tn =
+unfoldable pub decided : List Line → (Cn Tn : ℕ) → Decision
+decided l Cn Tn =
     refusedBy (ltb 0 (weighed (map byPeriod l) Cn Tn)) (weighed (map byPeriod l) Cn Tn)
-    (refusedBy (passOf (map byGap l) Cn Tn .short) 10 (Start (clock + passOf (map byGap l) Cn Tn .start)))
+    (refusedBy (passOf (map byGap l) Cn Tn .short) 10 (Start (passOf (map byGap l) Cn Tn .start)))
 
--- R21, R24: the same of slices: 1 where the clock is too late, 4 where they differ in length
-unfoldable pub decidedIn : (clock : ℕ) → (e c n p g : List ℕ) → (Cn Tn : ℕ) → Decision
-decidedIn clock e c n p g Cn Tn =
-    refusedBy (ltb (2 ^ 48 - 65536) clock) 1 (pick (allAlike e c n p g) (decided clock (gathered e c n p g) Cn Tn) (Refused 4))
+-- R24: the same of slices: 4 where they differ in length
+unfoldable pub decidedIn : (e c n p g : List ℕ) → (Cn Tn : ℕ) → Decision
+decidedIn e c n p g Cn Tn = pick (allAlike e c n p g) (decided (gathered e c n p g) Cn Tn) (Refused 4)
 
--- a start is at the clock or at most 65,535 ticks after it
-abbrev pub Near : ℕ → Decision → Type 0
-Near clock (Start r) = (clock ≤ r) × (r ≤ clock + 65535)
-Near clock (Refused n) = Unit {0}
+-- R3, R14: a start is at most 65,535 ticks after the clock, before the last end
+abbrev pub Near : Decision → Type 0
+Near (Start d) = d ≤ 65535
+Near (Refused n) = Unit {0}

@@ -47,13 +47,13 @@ allAlike e c n p g = both (alike e c n p) (eqb (length g) (length e))
 -- ---- of slots
 
 -- R9: what a slot asks for, as it is gathered: its ends come a period apart
-abbrev pub lineFor : Stream → Line
-lineFor s = lineWith (s .end) (s .remaining) (s .need) (s .period) (s .period)
+abbrev pub lineOf : Stream → Line
+lineOf s = lineWith (s .end) (s .remaining) (s .need) (s .period) (s .period)
 
 -- R6: the lines, lowest slot first; nothing is taken from a slot that holds none
 unfoldable pub linesIn : List Slot → List Line
 linesIn [] = []
-linesIn (s ∷ l) = byStream [] (λ x. lineFor x ∷ []) (s .held) ++ linesIn l
+linesIn (s ∷ l) = byStream [] (λ x. lineOf x ∷ []) (s .held) ++ linesIn l
 
 -- ticks counted from the clock, as absolute ticks
 unfoldable pub absolute : (clock : ℕ) → List ℕ → List ℕ

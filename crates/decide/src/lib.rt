@@ -2,20 +2,16 @@
 ghost use mathlib.Core.Path.{_≡_};
 ghost use Rattle.decide.specs.Decided.{decidedIn, Near};
 
-// R7, R21: the last clock that may ask, 2^48 − 65,536
-const LATEST: u64 = 281_474_976_645_120;
-
-// R14, R17: the start, or the number of the ground.
+// R14, R17: the start, counted from the clock, or the number of the ground.
 pub enum Decision {
-    Start(u64),
+    Start(u32),
     Refused(u16),
 }
 
 // R18: the first ground that holds, or the start. Line k has the k-th number of each slice: its first end, counted from the clock, what remains
-// of its need, its need, its T', and the gap from one of its ends to the next. A clock past the last is refused with 1 (R21), slices that differ
-// in length and lines that are not fit with 4 (R24).
+// of its need, its need, its T', and the gap from one of its ends to the next. Slices that differ in length and lines that are not fit are refused
+// with 4 (R24).
 pub fn decide<'a>(
-    clock: u64,
     ends: &'a [u32],
     remaining: &'a [u32],
     needs: &'a [u32],
@@ -24,11 +20,8 @@ pub fn decide<'a>(
     need: u16,
     period: u16,
 ) -> Decision
-    ensures { λ r. ⌜ (r ≡ decidedIn clock (now (ends .entry)) (now (remaining .entry)) (now (needs .entry)) (now (periods .entry)) (now (gaps .entry)) need period) × Near clock r ⌝ }
+    ensures { λ r. ⌜ (r ≡ decidedIn (now (ends .entry)) (now (remaining .entry)) (now (needs .entry)) (now (periods .entry)) (now (gaps .entry)) need period) × Near r ⌝ }
 {
-    if clock > LATEST {
-        return Decision::Refused(1);
-    }
     if gaps.len() != ends.len() {
         return Decision::Refused(4);
     }
@@ -40,5 +33,5 @@ pub fn decide<'a>(
     if p.short {
         return Decision::Refused(10);
     }
-    Decision::Start(clock + p.start as u64)
+    Decision::Start(p.start)
 }

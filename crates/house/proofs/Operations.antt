@@ -19,7 +19,7 @@ use Rattle.board.specs.Board.{ReadyWord}
 use Rattle.image.specs.Answers.{storedIn}
 use Rattle.house.specs.declared.Result.{Result}
 use Rattle.house.specs.Results.{grantedAs, refusedAs, slotNumber}
-use Rattle.house.specs.Tables.{changed, askedAs, admittedIn, ranAs, stepped, steppedIn, ReadyFor}
+use Rattle.house.specs.Tables.{changed, askedAs, admittedIn, ranAs, steppedAs, steppedIn, ReadyFor}
 
 -- R89: the value is the ready word
 pub ready-granted : (t : Table) {r : Result} {w : ℕ} → r ≡ grantedAs 0 w → ReadyWord (t .slots) w → ReadyFor (gives t) r
@@ -54,7 +54,7 @@ module _ (t : Table) {s : Stepped} (e : s ≡ stepOf t) where
 
   -- R88: the slot that ran is answered, and the new table was stored
   pub step-ran : {w : Which} {k : ℕ} {r : Result} (l o : List ℕ) → s .outcome ≡ Outcome.Ran w → k ≡ slotNumber (slotOf w) → r ≡ grantedAs 0 k
-      → o ≡ storedIn (s .table) l → (r ≡ stepped t) × (o ≡ steppedIn t l)
+      → o ≡ storedIn (s .table) l → (r ≡ steppedAs t) × (o ≡ steppedIn t l)
   step-ran l o h n g p = (
     g ∙ ap (grantedAs 0) n ∙ ap (λ (x : Outcome). ranAs (saysRan x)) (sym h ∙ outcome-is),
     p ∙ ap (λ (x : Stepped). storedIn (x .table) l) e
@@ -63,7 +63,7 @@ module _ (t : Table) {s : Stepped} (e : s ≡ stepOf t) where
 
   -- R17, R88: a refused step stores nothing
   pub step-refused : {x : Refusal} {r : Result} (l : List ℕ) → s .outcome ≡ Outcome.Refused x → r ≡ refusedAs x
-      → (r ≡ stepped t) × (l ≡ steppedIn t l)
+      → (r ≡ steppedAs t) × (l ≡ steppedIn t l)
   step-refused l h g = (
     g ∙ ap (λ (x : Outcome). ranAs (saysRan x)) (sym h ∙ outcome-is),
     ap (λ (x : Outcome). changed (saysRan x) (storedIn (stepOf t .table) l) l) (sym h ∙ outcome-is),

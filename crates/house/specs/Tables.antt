@@ -49,8 +49,8 @@ ranAs (gives o) = grantedAs 0 (slotNumber o)
 ranAs (refuses x) = refusedAs x
 
 -- R88: a step of a table
-abbrev pub stepped : Table → Result
-stepped t = ranAs (saysRan (stepOf t .outcome))
+abbrev pub steppedAs : Table → Result
+steppedAs t = ranAs (saysRan (stepOf t .outcome))
 
 -- R88: the image of the stepped table
 abbrev pub steppedIn : Table → List ℕ → List ℕ
@@ -58,7 +58,7 @@ steppedIn t l = changed (saysRan (stepOf t .outcome)) (storedIn (stepOf t .table
 
 -- R88: the image's refusal, or the step's answer
 abbrev pub stepFor : Said Table → Result
-stepFor (gives t) = stepped t
+stepFor (gives t) = steppedAs t
 stepFor (refuses x) = refusedAs x
 
 -- R88: the lent image after a step

@@ -6,7 +6,7 @@ ghost use Rattle.table.specs.Ask.{says, askOf};
 ghost use Rattle.image.specs.Loading.{loadOf};
 ghost use Rattle.image.specs.Answers.{storeOf, storedIn};
 ghost use Rattle.house.specs.Results.{resultOf};
-ghost use Rattle.house.specs.Tables.{requestOf, askedAs, askFor, admittedIn, stepped, steppedIn, stepFor, afterAdmit, afterStep, ReadyFor};
+ghost use Rattle.house.specs.Tables.{requestOf, askedAs, askFor, admittedIn, steppedAs, steppedIn, stepFor, afterAdmit, afterStep, ReadyFor};
 use crate::Result;
 use image::LoadAnswer;
 use line::Kind;
@@ -49,7 +49,7 @@ fn admit_into(t: Table, q: Request, out: &mut [u8]) -> Result
 
 // R88: steps into the lent image, which a refusal leaves as it is.
 fn step_into(t: Table, out: &mut [u8]) -> Result
-    ensures { λ r. ⌜ (r ≡ stepped t) × (now (out .exit) ≡ steppedIn t (now (out .entry))) ⌝ }
+    ensures { λ r. ⌜ (r ≡ steppedAs t) × (now (out .exit) ≡ steppedIn t (now (out .entry))) ⌝ }
 {
     let s = driver::driven(t);
     let o = s.outcome;

@@ -9,7 +9,7 @@ use Rattle.line.specs.declared.Run.{Run}
 use Rattle.line.specs.declared.Wait.{Wait}
 use Rattle.line.specs.declared.Held.{Held}
 use Rattle.line.specs.declared.Held.the-variants.{Nothing, Running, Waiting}
-use Rattle.line.specs.Slots.{runOf, waitOf, holding, empty}
+use Rattle.line.specs.Slots.{runWith, waitWith, holding, empty}
 use Rattle.card.specs.Bytes.{le, value}
 use Rattle.card.proofs.Numbers.{two-of}
 use Rattle.image.specs.Image.{slotBytes}
@@ -55,13 +55,13 @@ module _ (l : List ℕ) (h : FourNarrow l) {v : ℕ} (e : v ≡ value 8 l 1) whe
 
   -- R81: a slot of kind 1 holds the running line of the four numbers
   pub running-in : byte l 0 ≡ 1 → {n p a r : ℕ} → n ≡ v % 65536 → p ≡ v / 65536 % 65536 → a ≡ v / 4294967296 % 65536 → r ≡ v / 281474976710656 % 65536
-      → holding (Running (runOf n p a r)) ≡ holding (heldIn l)
+      → holding (Running (runWith n p a r)) ≡ holding (heldIn l)
   unfolding heldIn
   running-in k en ep ea er = rw (k, en ∙ first, ep ∙ second, ea ∙ third, er ∙ fourth)
 
   -- R81: a slot of kind 2 holds the waiting line of the first three
   pub waiting-in : byte l 0 ≡ 2 → {n p w : ℕ} → n ≡ v % 65536 → p ≡ v / 65536 % 65536 → w ≡ v / 4294967296 % 65536
-      → holding (Waiting (waitOf n p w)) ≡ holding (heldIn l)
+      → holding (Waiting (waitWith n p w)) ≡ holding (heldIn l)
   unfolding heldIn
   waiting-in k en ep ew = rw (k, en ∙ first, ep ∙ second, ew ∙ third)
 

@@ -5,7 +5,7 @@ use Prim.Native.Nat.{ℕ}
 use Rattle.table.specs.declared.Table.{Table}
 use Rattle.table.specs.Words.{Said, gives, refuses}
 use Rattle.card.specs.Bytes.{Bytes}
-use Rattle.image.specs.Image.{imageOf, Wide}
+use Rattle.image.specs.Image.{imageOf, TableWidths}
 use Rattle.image.specs.Loading.{loadWith}
 use Rattle.image.specs.Answers.{handedOut, saidLoaded}
 use Rattle.image.proofs.ReadsBack.{loads-back}
@@ -19,7 +19,7 @@ said-loaded (refuses x) = refl
 module _ (n : ℕ) where
   -- R82: bytes load as a table where they are its image, and nowhere else
   pub loads-exactly : (l : List ℕ) → Bytes l → (t : Table)
-      → (loadWith n l ≡ gives t → Wide n t × (l ≡ imageOf t)) × (Wide n t × (l ≡ imageOf t) → loadWith n l ≡ gives t)
+      → (loadWith n l ≡ gives t → TableWidths n t × (l ≡ imageOf t)) × (TableWidths n t × (l ≡ imageOf t) → loadWith n l ≡ gives t)
   loads-exactly l b t = (
     λ e. let v = stores-back n l b t e in (v .1, sym (v .0)),
     λ w. ap (loadWith n) (w .1) ∙ loads-back n t (w .0),

@@ -14,7 +14,7 @@ use Rattle.table.specs.declared.Table.{Table}
 use Rattle.table.specs.Words.{tableWith, Said, gives}
 use Rattle.card.specs.Bytes.{value}
 use Rattle.card.proofs.Numbers.{value-le}
-use Rattle.image.specs.Image.{size, nine, byFields, slotBytes, slotsBytes, imageOf, Narrow, AllNarrow, Wide}
+use Rattle.image.specs.Image.{size, nine, byFields, slotBytes, slotsBytes, imageOf, Narrow, AllNarrow, TableWidths}
 use Rattle.image.specs.Loading.{blankFrom, slotWrong, slotsWrong, lengthWrong, wrongIn, heldIn, slotsIn, tableIn, unlessWrong, loadWith}
 
 -- what holds of any kind up to 2 and any four numbers holds of what a slot holds
@@ -67,14 +67,14 @@ loads-slots (s ∷ ss) at f =
     (rw (e .0, e .2) (i .0), rw (e .1, e .2, i .1))
 
 -- R83: nothing is wrong with an image
-pub image-right : (n : ℕ) (t : Table) → Wide n t → wrongIn n (imageOf t) ≡ none
+pub image-right : (n : ℕ) (t : Table) → TableWidths n t → wrongIn n (imageOf t) ≡ none
 unfolding wrongIn lengthWrong imageOf
 image-right n t w =
     let e : slotsWrong n 9 (slotsBytes (t .slots)) ≡ none = rw (w .slots) at (loads-slots (t .slots) 9 (w .lines) .0) in
     rw (e, eq-eqb (length (imageOf t)) (size n) (length-image n t (w .slots)))
 
 -- R82: an image loads as its table
-pub loads-back : (n : ℕ) (t : Table) → Wide n t → loadWith n (imageOf t) ≡ gives t
+pub loads-back : (n : ℕ) (t : Table) → TableWidths n t → loadWith n (imageOf t) ≡ gives t
 unfolding loadWith imageOf
 loads-back n t w =
     let c : value 8 (imageOf t) 1 ≡ t .clock = value-le 8 (t .clock) [] (w .clock) in
@@ -83,7 +83,7 @@ loads-back n t w =
     ∙ ap₂ (λ (k : ℕ) (ss : List Slot). gives (tableWith k ss)) c e
 
 -- R82: no two tables have the same image
-pub one-image : (n : ℕ) (t u : Table) → Wide n t → Wide n u → imageOf t ≡ imageOf u → t ≡ u
+pub one-image : (n : ℕ) (t u : Table) → TableWidths n t → TableWidths n u → imageOf t ≡ imageOf u → t ≡ u
 one-image n t u v w e =
     let h : _≡_ {A = Said Table} (gives t) (gives u) = sym (loads-back n t v) ∙ ap (loadWith n) e ∙ loads-back n u w in
     cc

@@ -14,7 +14,7 @@ use Rattle.table.specs.declared.Table.{Table}
 use Rattle.table.specs.Words.{refusal, gives, refuses}
 use Rattle.card.specs.Bytes.{Bytes, le}
 use Rattle.card.specs.Answers.{filled}
-use Rattle.image.specs.Image.{version, nine, slotsBytes, imageOf, Wide}
+use Rattle.image.specs.Image.{version, nine, slotsBytes, imageOf, TableWidths}
 use Rattle.image.specs.Loading.{loadOf}
 use Rattle.image.specs.Answers.{storeOf, storedIn}
 use Rattle.image.proofs.ReadsBack.{of-fields, length-image, loads-back}
@@ -84,7 +84,7 @@ module _ (t : Table) (l : List ℕ) where
   stored-length e h = ap length (stored-is h) ∙ omega (arith, length-append (imageOf t) (drop 153 l), length-image 16 t e, length-drop 153 l)
 
   -- R82, R84: what was stored loads
-  pub stored-loads : Wide 16 t → 153 ≤ length l → loadOf (take 153 (storedIn t l)) ≡ gives t
+  pub stored-loads : TableWidths 16 t → 153 ≤ length l → loadOf (take 153 (storedIn t l)) ≡ gives t
   stored-loads w h =
       ap (λ (x : List ℕ). loadOf (take 153 x)) (stored-is h)
       ∙ ap loadOf (take-at (imageOf t) (drop 153 l) 153 (length-image 16 t (w .slots)))

@@ -16,7 +16,7 @@ use Rattle.table.specs.declared.Table.{Table}
 use Rattle.table.specs.Words.{gives}
 use Rattle.card.specs.Bytes.{Bytes, le, value}
 use Rattle.card.proofs.Numbers.{bytes-drop, le-value, value-lt}
-use Rattle.image.specs.Image.{version, size, nine, slotBytes, slotsBytes, imageOf, Narrow, AllNarrow, Wide}
+use Rattle.image.specs.Image.{version, size, nine, slotBytes, slotsBytes, imageOf, Narrow, AllNarrow, TableWidths}
 use Rattle.image.specs.Loading.{byte, blankFrom, isWrong, slotWrong, onBy, slotsWrong, versionWrong, lengthWrong, wrongIn, runIn, waitIn, heldIn, slotsIn, tableIn, unlessWrong, loadWith}
 
 -- where a first and a second find none, neither finds one
@@ -127,7 +127,7 @@ front-is l b h v =
     drop-cons l 0 0 (omega arith) ∙ ap₂ (λ (k : ℕ) (x : List ℕ). k ∷ x) v (le-value 8 l 1 b (omega arith))
 
 -- R82: the table that stands in right bytes has these bytes as its image
-table-stands : (n : ℕ) (l : List ℕ) → Bytes l → wrongIn n l ≡ none → (imageOf (tableIn n l) ≡ l) × Wide n (tableIn n l)
+table-stands : (n : ℕ) (l : List ℕ) → Bytes l → wrongIn n l ≡ none → (imageOf (tableIn n l) ≡ l) × TableWidths n (tableIn n l)
 unfolding imageOf
 table-stands n l b w =
     let v = nothing-wrong n l w in
@@ -137,5 +137,5 @@ table-stands n l b w =
     )
 
 -- R82: an image that loads is stored byte for byte, and its table has the code's widths
-pub stores-back : (n : ℕ) (l : List ℕ) → Bytes l → (t : Table) → loadWith n l ≡ gives t → (imageOf t ≡ l) × Wide n t
+pub stores-back : (n : ℕ) (l : List ℕ) → Bytes l → (t : Table) → loadWith n l ≡ gives t → (imageOf t ≡ l) × TableWidths n t
 stores-back n l b t e = let v = loads-says n l t e in rw (v .1) at (table-stands n l b (v .0))

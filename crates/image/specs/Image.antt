@@ -50,7 +50,7 @@ AllNarrow [] = Unit {0}
 AllNarrow (s ∷ ss) = Narrow (s .held) × AllNarrow ss
 
 -- R2, R3: a table of n slots whose numbers have the code's widths, as every table in code has
-pub record Wide (n : ℕ) (t : Table) : Type 0 where
+pub record TableWidths (n : ℕ) (t : Table) : Type 0 where
   pub slots : length (t .slots) ≡ n
   pub clock : t .clock < 18446744073709551616
   pub lines : AllNarrow (t .slots)

@@ -10,7 +10,7 @@ use Rattle.line.specs.declared.Wait.{Wait}
 use Rattle.line.specs.declared.Held.{Held}
 use Rattle.line.specs.declared.Held.the-variants.{Nothing, Running, Waiting}
 use Rattle.line.specs.declared.Slot.{Slot}
-use Rattle.line.specs.Slots.{pick, both, runOf, waitOf, holding, orElse, lowest}
+use Rattle.line.specs.Slots.{pick, both, runWith, waitWith, holding, orElse, lowest}
 use Rattle.table.specs.declared.Table.{Table}
 use Rattle.table.specs.Words.{tableWith, refusal, Said, gives, refuses}
 use Rattle.card.specs.Bytes.{value}
@@ -60,11 +60,11 @@ FourNarrow l = (value 2 l 1 < 65536) × (value 2 l 3 < 65536) × (value 2 l 5 < 
 
 -- R81: the running line in front
 abbrev pub runIn : List ℕ → Run
-runIn l = runOf (value 2 l 1) (value 2 l 3) (value 2 l 5) (value 2 l 7)
+runIn l = runWith (value 2 l 1) (value 2 l 3) (value 2 l 5) (value 2 l 7)
 
 -- R81: the waiting line in front
 abbrev pub waitIn : List ℕ → Wait
-waitIn l = waitOf (value 2 l 1) (value 2 l 3) (value 2 l 5)
+waitIn l = waitWith (value 2 l 1) (value 2 l 3) (value 2 l 5)
 
 -- R81: what the slot in front holds
 unfoldable pub heldIn : List ℕ → Held

@@ -6,7 +6,7 @@ use mathlib.Core.Option.{none, some}
 use native.Mathlib.Omega.{arith}
 use Rattle.line.specs.declared.Held.{Held}
 use Rattle.line.specs.declared.Held.the-variants.{Nothing, Running, Waiting}
-use Rattle.line.specs.Slots.{runOf, waitOf, ifRuns, Is}
+use Rattle.line.specs.Slots.{runWith, waitWith, ifRuns, RunsAs}
 use Rattle.line.specs.Streams.{stream, asks, byStream, due, every, endsBefore, endsAt, onward}
 use Rattle.line.specs.Shares.{share, claim, full}
 use Rattle.line.specs.Demand.{demand, endOf}
@@ -18,10 +18,10 @@ due-edges = refl
 
 -- need 3, period 8; three ticks old with two remaining, or two ticks to wait
 abbrev runs : Held
-runs = Running (runOf 3 8 3 2)
+runs = Running (runWith 3 8 3 2)
 
 abbrev waits : Held
-waits = Waiting (waitOf 3 8 2)
+waits = Waiting (waitWith 3 8 2)
 
 -- R9, R11: the four numbers that each asks for
 pub asks-edges : map asks (Nothing ∷ runs ∷ waits ∷ []) ≡ none ∷ some (stream 5 2 3 8) ∷ some (stream 2 0 3 8) ∷ []
@@ -55,19 +55,19 @@ pub onward-edges : map onward (stream 2 1 3 8 ∷ stream 1 0 3 8 ∷ []) ≡ som
 onward-edges = refl
 
 -- R3: a line is of its own four numbers
-pub is-itself : Is 3 8 3 2 runs
-is-itself = (runOf 3 8 3 2, refl, refl, refl, refl, refl)
+pub is-itself : RunsAs 3 8 3 2 runs
+is-itself = (runWith 3 8 3 2, refl, refl, refl, refl, refl)
 
 -- what is of other numbers is not: any number of the line, taken by f
-is-other : (f : Held → ℕ) {C T a c : ℕ} → Is C T a c runs → f runs ≡ f (Running (runOf C T a c))
+is-other : (f : Held → ℕ) {C T a c : ℕ} → RunsAs C T a c runs → f runs ≡ f (Running (runWith C T a c))
 is-other f {C} {T} {a} {c} v = ap f (v .1) ∙ ap f (same v)
   where
-    same : Is C T a c runs → Running (v .0) ≡ Running (runOf C T a c)
+    same : RunsAs C T a c runs → Running (v .0) ≡ Running (runWith C T a c)
     same w = rw (v .2, v .3, v .4, v .5)
 
 -- R3: and of no others, nor is a waiting line or nothing
-pub is-no-other : (Is 2 8 3 2 runs → ⊥) × (Is 3 9 3 2 runs → ⊥) × (Is 3 8 2 2 runs → ⊥) × (Is 3 8 3 3 runs → ⊥)
-    × (Is 3 8 3 2 waits → ⊥) × (Is 3 8 3 2 Nothing → ⊥)
+pub is-no-other : (RunsAs 2 8 3 2 runs → ⊥) × (RunsAs 3 9 3 2 runs → ⊥) × (RunsAs 3 8 2 2 runs → ⊥) × (RunsAs 3 8 3 3 runs → ⊥)
+    × (RunsAs 3 8 3 2 waits → ⊥) × (RunsAs 3 8 3 2 Nothing → ⊥)
 is-no-other = (
   (λ v. omega (arith, is-other (ifRuns 0 (λ r. r .need)) v)),
   (λ v. omega (arith, is-other (ifRuns 0 (λ r. r .period)) v)),

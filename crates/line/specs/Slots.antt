@@ -24,8 +24,8 @@ both false b = false
 -- ---- makers: a line and a slot are made and changed here alone, so that they can grow
 
 -- R3: a running line by its four numbers
-abbrev pub runOf : (C T age remaining : ℕ) → Run
-runOf C T a c = record { need = C; period = T; age = a; remaining = c }
+abbrev pub runWith : (C T age remaining : ℕ) → Run
+runWith C T a c = record { need = C; period = T; age = a; remaining = c }
 
 -- the running line r with another period, age or remaining need
 abbrev pub withPeriod : Run → ℕ → Run
@@ -38,8 +38,8 @@ abbrev pub withRemaining : Run → ℕ → Run
 withRemaining r c = record { need = r .need; period = r .period; age = r .age; remaining = c }
 
 -- R3: a waiting line by its three numbers
-abbrev pub waitOf : (C T wait : ℕ) → Wait
-waitOf C T w = record { need = C; period = T; wait = w }
+abbrev pub waitWith : (C T wait : ℕ) → Wait
+waitWith C T w = record { need = C; period = T; wait = w }
 
 -- the waiting line w with another wait
 abbrev pub withWait : Wait → ℕ → Wait
@@ -59,7 +59,7 @@ empty = holding Nothing
 
 -- R43, R46, R47: what a slot holds where a period begins: age 0, all its need remaining
 abbrev pub begun : (C T : ℕ) → Held
-begun C T = Running (runOf C T 0 C)
+begun C T = Running (runWith C T 0 C)
 
 -- ---- what a slot holds
 
@@ -70,8 +70,8 @@ ifRuns z f (Running r) = f r
 ifRuns z f (Waiting w) = z
 
 -- R3: a running line of these four numbers, whatever else it carries
-abbrev pub Is : (C T age remaining : ℕ) → Held → Type 0
-Is C T a c h = (r : Run) × (h ≡ Running r) × (r .need ≡ C) × (r .period ≡ T) × (r .age ≡ a) × (r .remaining ≡ c)
+abbrev pub RunsAs : (C T age remaining : ℕ) → Held → Type 0
+RunsAs C T a c h = (r : Run) × (h ≡ Running r) × (r .need ≡ C) × (r .period ≡ T) × (r .age ≡ a) × (r .remaining ≡ c)
 
 -- R22, computed
 abbrev pub isNothing : Held → Bool

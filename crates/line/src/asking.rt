@@ -8,15 +8,17 @@ use crate::Held;
 use crate::Slot;
 use crate::Stream;
 
-// A stream of these numbers.
-fn asks(end: u16, remaining: u16, need: u16, period: u16) -> Stream
-    ensures { λ r. ⌜ r ≡ stream end remaining need period ⌝ }
-{
-    Stream {
-        end: end,
-        remaining: remaining,
-        need: need,
-        period: period,
+impl Stream {
+    // A stream of these numbers.
+    fn new(end: u16, remaining: u16, need: u16, period: u16) -> Stream
+        ensures { λ r. ⌜ r ≡ stream end remaining need period ⌝ }
+    {
+        Stream {
+            end: end,
+            remaining: remaining,
+            need: need,
+            period: period,
+        }
     }
 }
 
@@ -32,17 +34,17 @@ fn until(age: u16, period: u16) -> u16
 
 impl Slot {
     // R9 to R11: what the slot asks for; an empty one asks for nothing.
-    pub fn stream(self) -> Stream
+    pub fn asks(self) -> Stream
         ensures { λ r. ⌜ r ≡ byStream noStream (λ s. s) (self .held) ⌝ }
     {
         let h = self.held;
         match h {
-            Held::Nothing => asks(0, 0, 0, 0),
+            Held::Nothing => Stream::new(0, 0, 0, 0),
             Held::Running(x) => {
                 let end = until(x.age, x.period);
-                asks(end, x.remaining, x.need, x.period)
+                Stream::new(end, x.remaining, x.need, x.period)
             }
-            Held::Waiting(w) => asks(w.wait, 0, w.need, w.period),
+            Held::Waiting(w) => Stream::new(w.wait, 0, w.need, w.period),
         }
     }
 
@@ -50,7 +52,7 @@ impl Slot {
     pub fn owed(self) -> bool
         ensures { λ r. ⌜ r ≡ isOwed (self .held) ⌝ }
     {
-        let s = self.stream();
+        let s = self.asks();
         0 < s.remaining
     }
 
@@ -58,7 +60,7 @@ impl Slot {
     pub(crate) fn short(self) -> bool
         ensures { λ r. ⌜ r ≡ short (self .held) ⌝ }
     {
-        let s = self.stream();
+        let s = self.asks();
         if 1 < s.end {
             return false;
         }
@@ -70,7 +72,7 @@ impl Slot {
     pub fn key(self) -> u32
         ensures { λ r. ⌜ (r ≡ pick (isOwed (self .held)) (toEnd (self .held)) 65536) × (Owed (self .held) → r < 65536) ⌝ }
     {
-        let s = self.stream();
+        let s = self.asks();
         if s.remaining == 0 {
             return 65536;
         }

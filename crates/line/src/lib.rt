@@ -1,7 +1,7 @@
 // The words of a line: what a slot holds, how it is made, and when it is sound.
 ghost use mathlib.Core.Path.{_≡_};
 ghost use Rattle.line.specs.declared.Held.the-variants.{Running, Waiting};
-ghost use Rattle.line.specs.Slots.{runOf, waitOf, holding, nowHolding, empty, begun, isNothing, isWaiting};
+ghost use Rattle.line.specs.Slots.{runWith, waitWith, holding, nowHolding, empty, begun, isNothing, isWaiting};
 ghost use Rattle.line.specs.Sound.{soundRun, soundWait, sound};
 ghost use Rattle.line.specs.Tick.{is};
 
@@ -89,7 +89,7 @@ impl Wait {
 impl Held {
     // R3: a running line of these numbers.
     pub fn running(need: u16, period: u16, age: u16, remaining: u16) -> Held
-        ensures { λ r. ⌜ r ≡ Running (runOf need period age remaining) ⌝ }
+        ensures { λ r. ⌜ r ≡ Running (runWith need period age remaining) ⌝ }
     {
         Held::Running(Run {
             need: need,
@@ -101,7 +101,7 @@ impl Held {
 
     // R3: a waiting line of these numbers.
     pub fn waiting(need: u16, period: u16, wait: u16) -> Held
-        ensures { λ r. ⌜ r ≡ Waiting (waitOf need period wait) ⌝ }
+        ensures { λ r. ⌜ r ≡ Waiting (waitWith need period wait) ⌝ }
     {
         Held::Waiting(Wait {
             need: need,

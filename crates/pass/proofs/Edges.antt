@@ -9,7 +9,7 @@ use Rattle.line.specs.Ends.{bound}
 use Rattle.sums.specs.Lines.{along, sumOf, allOf}
 use Rattle.sums.specs.Weighed.{fitting}
 use Rattle.pass.specs.declared.Pass.{Pass}
-use Rattle.pass.specs.Pass.{lastOf, endsBy, passOver, passOf, passedIn}
+use Rattle.pass.specs.Pass.{greatestEnd, endsBy, passOver, passOf, passedIn}
 
 -- lines with a new line, and what the pass is to say
 pub record Edge : Type 0 where
@@ -46,10 +46,10 @@ passEdges =
 
 -- R30, R14, R67: the pass on each side of its edges
 pub pass-edges : map (λ (e : Edge). passOf (e .lines) (e .need) (e .period)) passEdges ≡ map (λ (e : Edge). e .says) passEdges
-unfolding due every endsBefore bound sumOf allOf fitting lastOf endsBy passOver passOf passEdges
+unfolding due every endsBefore bound sumOf allOf fitting greatestEnd endsBy passOver passOf passEdges
 pass-edges = refl
 
 -- slices of one length, and one of them short
 pub slices-edges : passedIn (8 ∷ []) (4 ∷ []) (4 ∷ []) (8 ∷ []) 1 4 ∷ passedIn (8 ∷ []) (4 ∷ []) (4 ∷ []) [] 1 4 ∷ [] ≡ starts 0 ∷ shortNow ∷ []
-unfolding due every endsBefore bound along sumOf allOf fitting lastOf endsBy passOver passOf
+unfolding due every endsBefore bound along sumOf allOf fitting greatestEnd endsBy passOver passOf
 slices-edges = refl

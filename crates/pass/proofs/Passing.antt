@@ -19,7 +19,7 @@ use Rattle.sums.specs.Weighed.{fitting, fittingIn}
 use Rattle.sums.proofs.Along.{along-step, along-end, along-all}
 use Rattle.sums.proofs.Weighing.{fitting-says, unfit-is, fit-is}
 use Rattle.pass.specs.declared.Pass.{Pass}
-use Rattle.pass.specs.Pass.{demandOf, lastOf, endsBy, passOver, shortBy, boundBy, passBy, passIn, notPassed, passOf, passedIn}
+use Rattle.pass.specs.Pass.{demandOf, lastBy, endsBy, passOver, shortBy, boundBy, passBy, passIn, notPassed, passOf, passedIn}
 use Rattle.pass.proofs.LastEnd.{last-small}
 
 -- ---- one line's ends
@@ -131,11 +131,11 @@ module _ (Cn Tn last : ℕ) (all : ℕ → ℕ) where
   -- a pass over the ends of all lines before the last end that has passed i lines of n with the start s: with those left it is the whole
   pub record EveryLine (a : ℕ → Stream) (n i s : ℕ) : Type 0 where
     pub upto : i ≤ n
-    pub known : last ≡ lastOf (along a 0 n)
+    pub known : last ≡ lastBy (along a 0 n)
     pub left : passBy Cn Tn last all s (endsBy last (along a i (n - i))) ≡ passBy Cn Tn last all 0 (endsBy last (along a 0 n))
 
   -- no line is passed
-  pub each-start : (a : ℕ → Stream) (n : ℕ) → last ≡ lastOf (along a 0 n) → EveryLine a n 0 0
+  pub each-start : (a : ℕ → Stream) (n : ℕ) → last ≡ lastBy (along a 0 n) → EveryLine a n 0 0
   each-start a n k = record {
     upto = omega arith;
     known = k;
@@ -154,7 +154,7 @@ module _ (Cn Tn last : ℕ) (all : ℕ → ℕ) where
       through = rw g (sym (lines-step (shortBy all) (boundBy Cn Tn last all) last a i n s h)) ∙ v .left
 
       -- an end of line i is short
-      pub each-short : x .short ≡ true → x ≡ passUpTo (lastOf (along a 0 n))
+      pub each-short : x .short ≡ true → x ≡ passUpTo (lastBy (along a 0 n))
       each-short k = sym (ap (λ (b : Bool). pick b x after) k) ∙ through ∙ ap passUpTo (v .known)
 
       -- line i is passed
@@ -162,7 +162,7 @@ module _ (Cn Tn last : ℕ) (all : ℕ → ℕ) where
       each-on k = record { upto = omega arith; known = v .known; left = sym (ap (λ (b : Bool). pick b x after) k) ∙ through }
 
     -- no line is left
-    pub each-end : n ≤ i → isFine s ≡ passUpTo (lastOf (along a 0 n))
+    pub each-end : n ≤ i → isFine s ≡ passUpTo (lastBy (along a 0 n))
     each-end h = sym (lines-end (shortBy all) (boundBy Cn Tn last all) last a i n s h) ∙ v .left ∙ ap passUpTo (v .known)
 
 -- ---- what the pass says
@@ -208,7 +208,7 @@ bound-most Cn Tn last d s = omega (arith, mul-le-mul-right Tn (le-add-left 1 (s 
 in-near : (l : List Stream) (Cn Tn : ℕ) → fitting l ≡ true → 1 ≤ Tn → passIn l Cn Tn .start ≤ 65535
 in-near l Cn Tn e h =
     le-trans
-    (pass-most (shortBy (demandOf l)) (boundBy Cn Tn (lastOf l) (demandOf l)) (lastOf l - Tn) (λ d. bound-most Cn Tn (lastOf l) d (d - demandOf l d)) 0 (endsBy (lastOf l) l) (omega arith))
+    (pass-most (shortBy (demandOf l)) (boundBy Cn Tn (lastBy l) (demandOf l)) (lastBy l - Tn) (λ d. bound-most Cn Tn (lastBy l) d (d - demandOf l d)) 0 (endsBy (lastBy l) l) (omega arith))
     (omega (arith, last-small l (fitting-says l e)))
 
 near-one : (b m : Bool) (x : Pass) → (b ≡ true → x .start ≤ 65535) → pick (not b) notPassed (pick m notPassed x) .start ≤ 65535

@@ -2,7 +2,7 @@
 -- what start the new line may have. The period of a line is here the time from one of its ends to the next.
 use Prim.Native.Nat.{ℕ, _-_, _≤_, max}
 use mathlib.Core.Bool.{Bool, true, false, not}
-use mathlib.Core.List.{List, [], _∷_, _++_}
+use mathlib.Core.List.{List, [], _∷_, _++_, map}
 use lib.Dec.{ltb}
 use Rattle.line.specs.declared.Stream.{Stream}
 use Rattle.line.specs.Slots.{pick}
@@ -21,10 +21,14 @@ dueBy d x = due (x .end) (x .remaining) (x .need) (x .period) d
 abbrev pub demandOf : List Stream → ℕ → ℕ
 demandOf l d = sumOf (dueBy d) l
 
+-- R15: the greatest of these ends, or 0
+unfoldable pub greatestEnd : List ℕ → ℕ
+greatestEnd [] = 0
+greatestEnd (e ∷ es) = max e (greatestEnd es)
+
 -- R15: the greatest first end, or 0
-unfoldable pub lastOf : List Stream → ℕ
-lastOf [] = 0
-lastOf (x ∷ l) = max (x .end) (lastOf l)
+abbrev pub lastBy : List Stream → ℕ
+lastBy l = greatestEnd (map (λ x. x .end) l)
 
 -- R9: the ends before `last`, one line after the other
 unfoldable pub endsBy : (last : ℕ) → List Stream → List ℕ
@@ -50,7 +54,7 @@ passBy Cn Tn last all r ds = passOver (shortBy all) (boundBy Cn Tn last all) r d
 
 -- R30, R14: the pass over all ends of the lines that are before the last end, from the clock on
 abbrev pub passIn : List Stream → (Cn Tn : ℕ) → Pass
-passIn l Cn Tn = passBy Cn Tn (lastOf l) (demandOf l) 0 (endsBy (lastOf l) l)
+passIn l Cn Tn = passBy Cn Tn (lastBy l) (demandOf l) 0 (endsBy (lastBy l) l)
 
 -- short at the clock: what is said of lines that are not fit, and of a need of 0
 abbrev pub notPassed : Pass

@@ -6,7 +6,7 @@ ghost use lib.ListN.{getD};
 ghost use Rattle.line.specs.Streams.{stream, due, endsBefore};
 ghost use Rattle.line.specs.Ends.{bound};
 ghost use Rattle.sums.specs.Lines.{along, sumOf, linesOf, most, Fit, Packed};
-ghost use Rattle.pass.specs.Pass.{demandOf, lastOf, passBy, passIn, notPassed, passedIn, FitNew};
+ghost use Rattle.pass.specs.Pass.{demandOf, greatestEnd, passBy, passIn, notPassed, passedIn, FitNew};
 
 // R30, R14: whether an end was short, and if none was, the start that the ends leave.
 pub struct Pass {
@@ -100,8 +100,8 @@ fn bound_at(need: u32, period: u32, last: u32, d: u32, s: u32) -> u32
 }
 
 // R15: the greatest first end, or 0 where no line runs.
-fn last_end<'a>(ends: &'a [u32], remaining: &'a [u32], needs: &'a [u32], gaps: &'a [u32]) -> u32
-    ensures { λ r. ⌜ r ≡ lastOf (linesOf (now (ends .entry)) (now (remaining .entry)) (now (needs .entry)) (now (gaps .entry))) ⌝ }
+fn last_end(ends: &[u32]) -> u32
+    ensures { λ r. ⌜ r ≡ greatestEnd (now (ends .entry)) ⌝ }
 {
     let mut last: u32 = 0;
     let mut i: usize = 0;
@@ -166,7 +166,7 @@ fn pass_all<'a>(
     requires { ⌜ Packed (now ends) (now remaining) (now needs) (now gaps) × (1 ≤ need) ⌝ }
     ensures { λ r. ⌜ r ≡ passIn (linesOf (now (ends .entry)) (now (remaining .entry)) (now (needs .entry)) (now (gaps .entry))) need period ⌝ }
 {
-    let last = last_end(ends, remaining, needs, gaps);
+    let last = last_end(ends);
     let new = New {
         need: need as u32,
         period: period as u32,

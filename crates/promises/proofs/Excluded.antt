@@ -10,7 +10,7 @@ use Rattle.table.specs.declared.Request.{Request}
 use Rattle.table.specs.declared.Answer.{Answer}
 use Rattle.table.specs.declared.Stepped.{Stepped}
 use Rattle.table.specs.Words.{emptyTable, Said, gives}
-use Rattle.line.specs.Slots.{runOf, ifRuns, at, lowest}
+use Rattle.line.specs.Slots.{runWith, ifRuns, at, lowest}
 use Rattle.table.specs.Grounds.{asked, Answers}
 use Rattle.table.specs.Ask.{says}
 use Rattle.table.specs.Step.{chosen, advance, stepOf}
@@ -52,7 +52,7 @@ no-ask-says-the-clock f m r =
 
 -- R68: the closed formula, in case B
 pub no-ask-uses-the-closed-formula : (f : Table → Request → Answer) → MeetsAsk f
-    → says (f (caseB .table) (caseB .request)) ≡ gives (closedStart 6 (runOf 8 16 6 2) 32) → ⊥
+    → says (f (caseB .table) (caseB .request)) ≡ gives (closedStart 6 (runWith 8 16 6 2) 32) → ⊥
 unfolding cases
 no-ask-uses-the-closed-formula f m r =
     let x : _≡_ {A = Said ℕ} (gives 6) (gives 8) = sym (right-in f m caseB (cases-answer .1 .0)) ∙ r ∙ ap gives closed-formula-B in

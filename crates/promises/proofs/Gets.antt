@@ -10,7 +10,7 @@ use Rattle.line.specs.declared.Held.the-variants.{Running}
 use Rattle.table.specs.declared.Table.{Table}
 use Rattle.table.specs.declared.Request.{Request}
 use Rattle.table.specs.declared.Stepped.{Stepped}
-use Rattle.line.specs.Slots.{runOf, Is, at}
+use Rattle.line.specs.Slots.{runWith, RunsAs, at}
 use Rattle.line.specs.Tick.{Owed, passed}
 use Rattle.table.specs.Admit.{newLine}
 use Rattle.table.specs.Step.{choose, serve, pass, ticked, stepOf}
@@ -60,9 +60,9 @@ next t = ticked (choose (t .slots)) t .table
 good-next : (t : Table) → Good t → t .clock < 2 ^ 48 → Good (next t)
 good-next t g h = subst (λ (s : Stepped). Good (s .table)) (step-table t g h) (good-after stepping t g)
 
-one-tick : (t : Table) (k C P a x : ℕ) → Good t → k < length (t .slots) → Is C P a x (at (t .slots) k) → a < P
+one-tick : (t : Table) (k C P a x : ℕ) → Good t → k < length (t .slots) → RunsAs C P a x (at (t .slots) k) → a < P
     → (y : ℕ) × (y + isSlot k (choose (t .slots)) ≡ x) × (P ≤ a + 1 → y ≡ 0)
-    × (a + 1 < P → Is C P (a + 1) y (at (pass (serve (choose (t .slots)) (t .slots))) k))
+    × (a + 1 < P → RunsAs C P (a + 1) y (at (pass (serve (choose (t .slots)) (t .slots))) k))
 one-tick t k C P a x g b e h =
     let o = choose (t .slots) in
     let s = owed-or-got o (t .slots) k C P a x (choice-may t) e in
@@ -75,8 +75,8 @@ one-tick t k C P a x g b e h =
     )
 
 -- a line's rest of a period from what it has left after one tick of it
-rest-tick : (rest : List Act) (t : Table) (k C P a x : ℕ) → Good t → k < length (t .slots) → Is C P a x (at (t .slots) k) → a < P
-    → ((y : ℕ) → Is C P (a + 1) y (at (next t .slots) k) → a + 1 < P → Rest k (next t .clock + (P - (a + 1))) (P - (a + 1)) y rest (next t) (trace rest (next t)))
+rest-tick : (rest : List Act) (t : Table) (k C P a x : ℕ) → Good t → k < length (t .slots) → RunsAs C P a x (at (t .slots) k) → a < P
+    → ((y : ℕ) → RunsAs C P (a + 1) y (at (next t .slots) k) → a + 1 < P → Rest k (next t .clock + (P - (a + 1))) (P - (a + 1)) y rest (next t) (trace rest (next t)))
     → Rest k (t .clock + (P - a)) (P - a) x rest (next t) (choose (t .slots) ∷ trace rest (next t))
 rest-tick rest t k C P a x g b e h more u r =
     let s = one-tick t k C P a x g b e h in
@@ -88,7 +88,7 @@ rest-tick rest t k C P a x g b e h more u r =
     (λ c. rw m (omega (arith, s .1, more (s .0) (s .3 c) c (rw z at u) (rw z at r))))
 
 -- so a line of age a that is owed x gets exactly x by the end of its period
-pub gets-rest : (more : List Act) (t : Table) (k C P a x : ℕ) → Good t → k < length (t .slots) → Is C P a x (at (t .slots) k) → a < P
+pub gets-rest : (more : List Act) (t : Table) (k C P a x : ℕ) → Good t → k < length (t .slots) → RunsAs C P a x (at (t .slots) k) → a < P
     → Rest k (t .clock + (P - a)) (P - a) x more t (trace more t)
 gets-rest [] t k C P a x g b e h u r = absurd (omega arith)
 gets-rest (asking q ∷ rest) t k C P a x g b e h u r = gets-rest rest t k C P a x g b e h (u .1) r
@@ -111,8 +111,8 @@ waits-on t k C P w e =
     at-pass (serve (choose (t .slots)) (t .slots)) k ∙ ap passed (s .0 ∙ e) ∙ nearer C P w
 
 -- R43: a line that has no more to wait is at the beginning of a period
-begun-is : (C P : ℕ) {h : Held} → h ≡ newLine C P 0 → Is C P 0 C h
-begun-is C P e = (runOf C P 0 C, e, refl, refl, refl, refl)
+begun-is : (C P : ℕ) {h : Held} → h ≡ newLine C P 0 → RunsAs C P 0 C h
+begun-is C P e = (runWith C P 0 C, e, refl, refl, refl, refl)
 
 -- in the run `more` from t, which has the trace tr: not stretched before `until` and run so far, slot k is named C times in the n ticks after the first w
 abbrev After : (k until w n C : ℕ) → List Act → Table → List (Option ℕ) → Type 0
@@ -142,7 +142,7 @@ gets-need (stepping ∷ rest) t k C P (suc w) g b p e u r =
 -- after the run `more` from t slot k is at the beginning of a period of at least P, exactly P if no act before `until` stretches it
 abbrev Started : (k C P until : ℕ) → List Act → Table → Type 0
 Started k C P until more t =
-    (T : ℕ) × Is C T 0 C (at (run more t .slots) k) × (P ≤ T) × (Unstretched k until more t → T ≡ P)
+    (T : ℕ) × RunsAs C T 0 C (at (run more t .slots) k) × (P ≤ T) × (Unstretched k until more t → T ≡ P)
 
 -- in the run `more` from t, should it end at the tick `start`
 abbrev Starts : (k C P start : ℕ) → List Act → Table → Type 0
@@ -153,8 +153,8 @@ one-more : (k C P until : ℕ) (a : Act) (rest : List Act) (t : Table) → Start
 one-more k C P until a rest t s = (s .0, s .1, s .2, λ u. s .3 (u .1))
 
 -- an admission that finds it at the beginning of its first period may stretch it
-started-admit : (q : Request) (rest : List Act) (t : Table) (k C P : ℕ) → k < length (t .slots) → Is C P 0 C (at (t .slots) k)
-    → ((T : ℕ) → Is C T 0 C (at (after (admitting q) t .slots) k) → Started k C T (t .clock + 1) rest (after (admitting q) t))
+started-admit : (q : Request) (rest : List Act) (t : Table) (k C P : ℕ) → k < length (t .slots) → RunsAs C P 0 C (at (t .slots) k)
+    → ((T : ℕ) → RunsAs C T 0 C (at (after (admitting q) t .slots) k) → Started k C T (t .clock + 1) rest (after (admitting q) t))
     → Started k C P (t .clock + 1) (admitting q ∷ rest) t
 started-admit q rest t k C P b e later =
     let w = admit-running t q k C P 0 C e b in
@@ -162,7 +162,7 @@ started-admit q rest t k C P b e later =
     (s .0, s .1, omega (arith, w .2, s .2), λ u. s .3 (u .1) ∙ w .3 (u .0 (omega arith)))
 
 -- a line at the beginning of its first period, while the clock stays
-at-once : (more : List Act) (t : Table) (k C P : ℕ) → Good t → k < length (t .slots) → Is C P 0 C (at (t .slots) k)
+at-once : (more : List Act) (t : Table) (k C P : ℕ) → Good t → k < length (t .slots) → RunsAs C P 0 C (at (t .slots) k)
     → Starts k C P (t .clock) more t
 at-once [] t k C P g b e h = (P, e, omega arith, λ u. refl)
 at-once (asking q ∷ rest) t k C P g b e h = one-more k C P (t .clock + 1) (asking q) rest t (at-once rest t k C P g b e h)

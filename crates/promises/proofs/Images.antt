@@ -16,13 +16,13 @@ use Rattle.table.specs.Admit.{admitWith}
 use Rattle.table.specs.Step.{saysRan, stepOf}
 use Rattle.table.specs.Runs.{Act, asking, admitting, stepping, after, run}
 use Rattle.table.proofs.Step.{refused-keeps}
-use Rattle.image.specs.Image.{size, imageOf, Wide}
+use Rattle.image.specs.Image.{size, imageOf, TableWidths}
 use Rattle.image.specs.Loading.{loadOf}
 use Rattle.image.specs.Answers.{storedIn}
 use Rattle.image.proofs.ReadsBack.{length-image, loads-back}
 use Rattle.image.proofs.Stored.{stored-is}
 use Rattle.house.specs.Results.{refusedAs}
-use Rattle.house.specs.Tables.{changed, askFor, admittedIn, afterAdmit, ranAs, stepped, stepFor, steppedIn, afterStep}
+use Rattle.house.specs.Tables.{changed, askFor, admittedIn, afterAdmit, ranAs, steppedAs, stepFor, steppedIn, afterStep}
 use Rattle.promises.specs.Demand3.{Unfailing}
 use Rattle.promises.specs.Images.{AllNarrowed, imageBy, imageRun, LeftByContract, EmptyImage, ActsAlike, AnswersAlike, ImageRuns, ImageLoads, UnfailingStep, NeverMissedOnImages}
 use Rattle.promises.proofs.Demand3.{never-missed}
@@ -43,7 +43,7 @@ empty-image l e = stored-over emptyTable l e
 
 -- ---- one act
 
-module _ (t : Table) (w : Wide 16 t) where
+module _ (t : Table) (w : TableWidths 16 t) where
   over : (u : Table) → storedIn u (imageOf t) ≡ imageOf u
   over u = stored-over u (imageOf t) (length-image 16 t (w .slots))
 
@@ -77,11 +77,11 @@ answers-alike t w = (λ q. ap (λ (s : Said Table). askFor s q) (loads-back 16 t
 -- ---- a run
 
 -- R4: the empty table has the code's widths
-pub wide-empty : Wide 16 emptyTable
+pub wide-empty : TableWidths 16 emptyTable
 wide-empty = record { slots = refl; clock = omega arith; lines = narrow-empty 16 }
 
 -- R78: a run from the image of any table with the code's widths
-pub image-run-from : (acts : List Act) (t : Table) → AllNarrowed acts → Wide 16 t → (imageRun acts (imageOf t) ≡ imageOf (run acts t)) × Wide 16 (run acts t)
+pub image-run-from : (acts : List Act) (t : Table) → AllNarrowed acts → TableWidths 16 t → (imageRun acts (imageOf t) ≡ imageOf (run acts t)) × TableWidths 16 (run acts t)
 image-run-from [] t n w = (refl, w)
 image-run-from (a ∷ rest) t n w =
     let e = acts-alike a t (n .0) w in
@@ -99,7 +99,7 @@ image-loads acts n = let e = image-run-from acts emptyTable n wide-empty in ap l
 -- ---- no missed period
 
 -- R74: what an unfailing table promises of its step's result
-unfailing-step : (t : Table) → Unfailing t → UnfailingStep (t .clock) (stepped t)
+unfailing-step : (t : Table) → Unfailing t → UnfailingStep (t .clock) (steppedAs t)
 unfailing-step t u = record {
   goes-on = λ h. let g = u .goes-on h in (g .0, ap ranAs (g .1));
   only-fifteen = go (saysRan (stepOf t .outcome)) refl;

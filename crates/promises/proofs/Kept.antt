@@ -14,7 +14,7 @@ use Rattle.table.specs.declared.Request.{Request}
 use Rattle.table.specs.declared.Answer.{Answer}
 use Rattle.table.specs.declared.Answer.the-variants.{Start, Refused}
 use Rattle.table.specs.declared.Stepped.{Stepped}
-use Rattle.line.specs.Slots.{holding, empty, Is, at, isNothing, lowestOf}
+use Rattle.line.specs.Slots.{holding, empty, RunsAs, at, isNothing, lowestOf}
 use Rattle.table.specs.Grounds.{entry, asked}
 use Rattle.line.specs.Stretch.{stretch}
 use Rattle.table.specs.Ask.{says, askOf}
@@ -60,8 +60,8 @@ admitted-new t q r k e =
     ∙ ap (λ (s : Slot). s .held) (getD-set-same (asked t q) k (holding (newLine (q .need) (q .period) (r - t .clock))) empty (slot-empty t q k e .2))
 
 -- a running line keeps its place, at its T'
-admitted-old : (t : Table) (q : Request) (r j C P a x : ℕ) → Granted t q r → Is C P a x (at (t .slots) j)
-    → Is C (entry q j) a x (at (admittedAt t q r .slots) j)
+admitted-old : (t : Table) (q : Request) (r j C P a x : ℕ) → Granted t q r → RunsAs C P a x (at (t .slots) j)
+    → RunsAs C (entry q j) a x (at (admittedAt t q r .slots) j)
 admitted-old t q r j C P a x g e = rw stands (is-stretched (entry q j) (at (t .slots) j) e)
   where
     other : (k : ℕ) → at (t .slots) k ≡ Nothing → j ≡ k → ⊥
@@ -77,12 +77,12 @@ admitted-old t q r j C P a x g e = rw stands (is-stretched (entry q j) (at (t .s
         ∙ at-stretched (t .slots) (entry q) j
 
 -- whatever the answer, it runs with a period that is not shorter, and where it was not stretched with its own
-pub admit-running : (t : Table) (q : Request) (j C P a x : ℕ) → Is C P a x (at (t .slots) j) → j < length (t .slots)
-    → (T : ℕ) × Is C T a x (at (after (admitting q) t .slots) j) × (P ≤ T) × ((Stretches j (admitting q) t → ⊥) → T ≡ P)
+pub admit-running : (t : Table) (q : Request) (j C P a x : ℕ) → RunsAs C P a x (at (t .slots) j) → j < length (t .slots)
+    → (T : ℕ) × RunsAs C T a x (at (after (admitting q) t .slots) j) × (P ≤ T) × ((Stretches j (admitting q) t → ⊥) → T ≡ P)
 admit-running t q j C P a x e b = go (askOf t q) refl
   where
     go : (d : Answer) → askOf t q ≡ d
-        → (T : ℕ) × Is C T a x (at (admitWith t q d .table .slots) j) × (P ≤ T) × ((Stretches j (admitting q) t → ⊥) → T ≡ P)
+        → (T : ℕ) × RunsAs C T a x (at (admitWith t q d .table .slots) j) × (P ≤ T) × ((Stretches j (admitting q) t → ⊥) → T ≡ P)
     go (Start r) h =
         let g = granted t q r h in
         let up : P ≤ entry q j = split P (entry q j) (λ y. y) (λ y. absurd (g .longer j b (rw (e .1) (omega (arith, y, e .3))))) in (
@@ -94,9 +94,9 @@ admit-running t q j C P a x e b = go (askOf t q) refl
     go (Refused y) h = (P, e, omega arith, λ n. refl)
 
 -- not stretched: as it was
-pub admit-kept : (t : Table) (q : Request) (j C P a x : ℕ) → Is C P a x (at (t .slots) j) → j < length (t .slots)
-    → (Stretches j (admitting q) t → ⊥) → Is C P a x (at (after (admitting q) t .slots) j)
-admit-kept t q j C P a x e b n = let w = admit-running t q j C P a x e b in subst (λ (T : ℕ). Is C T a x (at (after (admitting q) t .slots) j)) (w .3 n) (w .1)
+pub admit-kept : (t : Table) (q : Request) (j C P a x : ℕ) → RunsAs C P a x (at (t .slots) j) → j < length (t .slots)
+    → (Stretches j (admitting q) t → ⊥) → RunsAs C P a x (at (after (admitting q) t .slots) j)
+admit-kept t q j C P a x e b n = let w = admit-running t q j C P a x e b in subst (λ (T : ℕ). RunsAs C T a x (at (after (admitting q) t .slots) j)) (w .3 n) (w .1)
 
 -- while a line waits no admission is granted, and nothing changes
 pub admit-waiting : (t : Table) (q : Request) (j C P w : ℕ) → at (t .slots) j ≡ newLine C P (suc w) → j < length (t .slots) → after (admitting q) t ≡ t

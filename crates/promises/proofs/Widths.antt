@@ -16,7 +16,7 @@ use Rattle.table.specs.declared.Request.{Request}
 use Rattle.table.specs.declared.Answer.{Answer}
 use Rattle.table.specs.declared.Answer.the-variants.{Start, Refused}
 use Rattle.table.specs.declared.Stepped.{Stepped}
-use Rattle.line.specs.Slots.{pick, waitOf, holding, empty, begun, slotAt, at, mapAt, isNothing, lowestOf}
+use Rattle.line.specs.Slots.{pick, waitWith, holding, empty, begun, slotAt, at, mapAt, isNothing, lowestOf}
 use Rattle.line.specs.Sound.{sound}
 use Rattle.line.specs.Demand.{endOf, lastEnd}
 use Rattle.line.specs.Stretch.{stretch, stretched}
@@ -26,7 +26,7 @@ use Rattle.table.specs.Ask.{askOf}
 use Rattle.table.specs.Admit.{newLine, putAt, admitWith}
 use Rattle.table.specs.Step.{choose, serve, pass, stepUnless, ticked, advance, stepOf}
 use Rattle.table.specs.Runs.{Act, asking, admitting, stepping, after}
-use Rattle.image.specs.Image.{Narrow, AllNarrow, Wide}
+use Rattle.image.specs.Image.{Narrow, AllNarrow, TableWidths}
 use Rattle.theory.proofs.Numbers.{split}
 use Rattle.theory.proofs.Tail.{last-within}
 use Rattle.theory.proofs.Start.{least-by-last}
@@ -83,18 +83,18 @@ narrow-pass [] n = tt
 narrow-pass (s ∷ l) n = (narrow-passed (s .held) (n .0), narrow-pass l (n .1))
 
 -- R45: a tick before the last
-wide-ticked : (o : Option ℕ) (t : Table) → Wide 16 t → t .clock < 2 ^ 48 → Wide 16 (ticked o t .table)
+wide-ticked : (o : Option ℕ) (t : Table) → TableWidths 16 t → t .clock < 2 ^ 48 → TableWidths 16 (ticked o t .table)
 wide-ticked o t w h = record {
   slots = length-tick o (t .slots) ∙ w .slots;
   clock = omega arith;
   lines = narrow-pass (serve o (t .slots)) (narrow-serve o (t .slots) (w .lines));
 }
 
-wide-unless : (o : Option ℕ) (n : ℕ) (t : Table) (s : Stepped) → Wide 16 t → Wide 16 (s .table) → Wide 16 (stepUnless o n t s .table)
+wide-unless : (o : Option ℕ) (n : ℕ) (t : Table) (s : Stepped) → TableWidths 16 t → TableWidths 16 (s .table) → TableWidths 16 (stepUnless o n t s .table)
 wide-unless none n t s v w = w
 wide-unless (some k) n t s v w = v
 
-wide-advance : (o : Option ℕ) (t : Table) → Wide 16 t → t .clock < 2 ^ 48 → Wide 16 (advance o t .table)
+wide-advance : (o : Option ℕ) (t : Table) → TableWidths 16 t → t .clock < 2 ^ 48 → TableWidths 16 (advance o t .table)
 unfolding advance
 wide-advance o t w h = wide-unless (lowestOf short (serve o (t .slots))) 14 t (ticked o t) w (wide-ticked o t w h)
 
@@ -103,11 +103,11 @@ unfolding stepOf
 early-step t h = rw (lt-leb (2 ^ 48) (t .clock) h)
 
 -- R48: a step keeps the code's widths, refused or not
-pub wide-step : (t : Table) → Wide 16 t → Wide 16 (stepOf t .table)
+pub wide-step : (t : Table) → TableWidths 16 t → TableWidths 16 (stepOf t .table)
 wide-step t w =
     split (2 ^ 48) (t .clock)
-    (λ h. subst (λ (s : Stepped). Wide 16 (s .table)) (sym (at-last t h)) w)
-    (λ h. subst (λ (s : Stepped). Wide 16 (s .table)) (sym (early-step t h))
+    (λ h. subst (λ (s : Stepped). TableWidths 16 (s .table)) (sym (at-last t h)) w)
+    (λ h. subst (λ (s : Stepped). TableWidths 16 (s .table)) (sym (early-step t h))
     (wide-unless (lowestOf (λ x. not (sound x)) (t .slots)) 4 t (advance (choose (t .slots)) t) w (wide-advance (choose (t .slots)) t w h)))
 
 -- ---- an admission
@@ -127,7 +127,7 @@ narrow-stretched (s ∷ l) p b n = (narrow-stretch (p 0) (s .held) (b 0) (n .0),
 narrow-new : (C T w : ℕ) → C < 65536 → T < 65536 → w < 65536 → Narrow (newLine C T w)
 narrow-new C T w c p h = go (ltb 0 w)
   where
-    go : (b : Bool) → Narrow (pick b (Waiting (waitOf C T w)) (begun C T))
+    go : (b : Bool) → Narrow (pick b (Waiting (waitWith C T w)) (begun C T))
     go true = (c, p, h, omega arith)
     go false = (c, p, omega arith, c)
 
@@ -159,7 +159,7 @@ narrow-admitted t q f n = go (askOf t q) refl
     go (Refused x) e = n
 
 -- R42: an admission keeps the code's widths, granted or not
-pub wide-admit : (t : Table) (q : Request) → NarrowRequest q → Wide 16 t → Wide 16 (after (admitting q) t)
+pub wide-admit : (t : Table) (q : Request) → NarrowRequest q → TableWidths 16 t → TableWidths 16 (after (admitting q) t)
 wide-admit t q f w = record {
   slots = admit-length t q ∙ w .slots;
   clock = rw (admit-clock t q) (w .clock);
@@ -167,7 +167,7 @@ wide-admit t q f w = record {
 }
 
 -- R3, R73: every act keeps the code's widths
-pub wide-after : (a : Act) (t : Table) → Narrowed a → Wide 16 t → Wide 16 (after a t)
+pub wide-after : (a : Act) (t : Table) → Narrowed a → TableWidths 16 t → TableWidths 16 (after a t)
 wide-after (asking q) t f w = w
 wide-after (admitting q) t f w = wide-admit t q f w
 wide-after stepping t f w = wide-step t w

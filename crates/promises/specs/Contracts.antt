@@ -17,7 +17,7 @@ use Rattle.card.specs.Reading.{readOf}
 use Rattle.card.specs.Answers.{handed, saidWritten, writeOf, bufferOf}
 use Rattle.driver.specs.Driven.{drivenOf}
 use Rattle.reply.specs.declared.Written.{Written}
-use Rattle.reply.specs.Line.{answerLine, lengthOf, lengthFor, heldAfter}
+use Rattle.reply.specs.Line.{answerLine, saidLength, lengthFor, heldAfter}
 use Rattle.image.specs.declared.Loaded.{Loaded}
 use Rattle.image.specs.Loading.{loadOf}
 use Rattle.image.specs.Answers.{handedOut, storeOf, storedIn}
@@ -45,7 +45,7 @@ Writes t q l a m = (saidWritten a ≡ writeOf t q (length l)) × (m ≡ bufferOf
 
 -- R62: put_reply answers w and leaves the bytes m in the buffer
 abbrev pub Puts : Answer → (buffer : List ℕ) → Written → List ℕ → Type 0
-Puts a l w m = (lengthOf w ≡ lengthFor (answerLine (says a)) l) × (m ≡ heldAfter (answerLine (says a)) l)
+Puts a l w m = (saidLength w ≡ lengthFor (answerLine (says a)) l) × (m ≡ heldAfter (answerLine (says a)) l)
 
 -- R83: load
 abbrev pub Loads : List ℕ → Loaded → Type 0

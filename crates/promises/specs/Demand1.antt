@@ -22,7 +22,7 @@ use Rattle.card.specs.declared.WriteAnswer.{WriteAnswer}
 use Rattle.card.specs.Reading.{readOf}
 use Rattle.card.specs.Answers.{saidRead, saidWritten, zeroRequest}
 use Rattle.reply.specs.declared.Written.{Written}
-use Rattle.reply.specs.Line.{answerLine, lengthOf, Replied}
+use Rattle.reply.specs.Line.{answerLine, saidLength, Replied}
 use Rattle.image.specs.declared.Loaded.{Loaded}
 use Rattle.image.specs.Loading.{loadOf}
 use Rattle.image.specs.Answers.{saidLoaded, storeOf}
@@ -87,7 +87,7 @@ pub record RefusalKeeps : Type 0 where
   pub read : (card : List ℕ) (c : ReadCard) (x : Refusal) → Reads card c → saidRead c ≡ refuses x
       → (readOf card ≡ refuses x) × (c .table ≡ emptyTable) × (c .request ≡ zeroRequest)
   pub write : (t : Table) (q : Request) (l : List ℕ) (a : WriteAnswer) (m : List ℕ) (x : Refusal) → Writes t q l a m → saidWritten a ≡ refuses x → m ≡ l
-  pub put-reply : (a : Answer) (l : List ℕ) (w : Written) (m : List ℕ) → Puts a l w m → lengthOf w ≡ none → m ≡ l
+  pub put-reply : (a : Answer) (l : List ℕ) (w : Written) (m : List ℕ) → Puts a l w m → saidLength w ≡ none → m ≡ l
   -- loading is lent nothing to change either
   pub load : (l : List ℕ) (y : Loaded) (x : Refusal) → Loads l y → saidLoaded y ≡ refuses x → (loadOf l ≡ refuses x) × (y .table ≡ emptyTable)
   pub store : (t : Table) (l : List ℕ) (a : WriteAnswer) (m : List ℕ) (x : Refusal) → Stores t l a m → saidWritten a ≡ refuses x → m ≡ l

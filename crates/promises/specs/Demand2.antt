@@ -18,7 +18,7 @@ use Rattle.card.specs.Bytes.{Bytes}
 use Rattle.card.specs.Card.{Card, carrying, cleared, Fits}
 use Rattle.card.specs.Reading.{readOf}
 use Rattle.card.specs.Answers.{saidWritten}
-use Rattle.image.specs.Image.{imageOf, Wide}
+use Rattle.image.specs.Image.{imageOf, TableWidths}
 use Rattle.image.specs.Loading.{loadOf}
 use Rattle.promises.specs.Contracts.{Writes, Stores}
 
@@ -50,7 +50,7 @@ ReadWritesBack = (card : List ℕ) (c : Card) (l : List ℕ) (a : WriteAnswer) (
 
 -- R82: what was stored loads back. `Wide` holds of every table of the code's types.
 abbrev pub StoredLoadsBack : Type 0
-StoredLoadsBack = (t : Table) (l : List ℕ) (a : WriteAnswer) (m : List ℕ) (n : ℕ) → Wide 16 t → Stores t l a m → saidWritten a ≡ gives n
+StoredLoadsBack = (t : Table) (l : List ℕ) (a : WriteAnswer) (m : List ℕ) (n : ℕ) → TableWidths 16 t → Stores t l a m → saidWritten a ≡ gives n
     → loadOf (take n m) ≡ gives t
 
 -- R82: what loads is stored byte for byte, into any buffer that has room for it
@@ -60,7 +60,7 @@ LoadedStoresBack = (image : List ℕ) (t : Table) (l : List ℕ) (a : WriteAnswe
 
 -- R82: no two tables have the same image
 abbrev pub OneImage : Type 0
-OneImage = (t u : Table) → Wide 16 t → Wide 16 u → imageOf t ≡ imageOf u → t ≡ u
+OneImage = (t u : Table) → TableWidths 16 t → TableWidths 16 u → imageOf t ≡ imageOf u → t ≡ u
 
 -- R14, R18, R72, R82: the second demand, all of it
 pub record Demand2 : Type 0 where

@@ -9,7 +9,7 @@ use Rattle.table.specs.declared.Table.{Table}
 use Rattle.table.specs.declared.Request.{Request}
 use Rattle.table.specs.declared.Refusal.{Refusal}
 use Rattle.table.specs.Words.{emptyTable, refusal, gives, refuses}
-use Rattle.line.specs.Slots.{ifRuns, Is, at, Each, isNothing, lowestOf}
+use Rattle.line.specs.Slots.{ifRuns, RunsAs, at, Each, isNothing, lowestOf}
 use Rattle.line.specs.Sound.{Sound}
 use Rattle.line.specs.Demand.{lastEnd}
 use Rattle.table.specs.Grounds.{entry, asked, Answers}
@@ -73,7 +73,7 @@ Unstretched k until (a ∷ rest) t = (t .clock < until → Stretches k a t → �
 abbrev pub RunsFromStart : Type 0
 RunsFromStart = (acts : List Act) (q : Request) (r k : ℕ) → Admission acts q r k
     → (more : List Act) → run more (admitted-table acts q) .clock ≡ r
-    → (T : ℕ) × Is (q .need) T 0 (q .need) (at (run more (admitted-table acts q) .slots) k) × (q .period ≤ T)
+    → (T : ℕ) × RunsAs (q .need) T 0 (q .need) (at (run more (admitted-table acts q) .slots) k) × (q .period ≤ T)
     × (Unstretched k (r + 1) more (admitted-table acts q) → T ≡ q .period)
 
 -- R76: the list of slots that ran names k exactly Cn times from r to r + Tn

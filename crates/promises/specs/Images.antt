@@ -9,12 +9,12 @@ use Rattle.table.specs.declared.Request.{Request}
 use Rattle.table.specs.Words.{emptyTable, refusal, gives}
 use Rattle.table.specs.Ask.{says, askOf}
 use Rattle.table.specs.Runs.{Act, asking, admitting, stepping, after, run}
-use Rattle.image.specs.Image.{size, imageOf, Wide}
+use Rattle.image.specs.Image.{size, imageOf, TableWidths}
 use Rattle.image.specs.Loading.{loadOf}
 use Rattle.image.specs.Answers.{storedIn}
 use Rattle.house.specs.declared.Result.{Result}
 use Rattle.house.specs.Results.{grantedAs, refusedAs, slotNumber}
-use Rattle.house.specs.Tables.{askedAs, askFor, afterAdmit, stepped, stepFor, afterStep}
+use Rattle.house.specs.Tables.{askedAs, askFor, afterAdmit, steppedAs, stepFor, afterStep}
 use Rattle.promises.specs.Contracts.{Empties, AdmitsImage, StepsImage}
 use Rattle.promises.specs.Demand3.{Sixteen}
 
@@ -60,12 +60,12 @@ EmptyImage = (l : List ℕ) → length l ≡ size 16 → storedIn emptyTable l �
 
 -- R78, R82: one act on the image of any table with the code's widths: the image of the table after it, which has the code's widths again
 abbrev pub ActsAlike : Type 0
-ActsAlike = (a : Act) (t : Table) → Narrowed a → Wide 16 t → (imageBy a (imageOf t) ≡ imageOf (after a t)) × Wide 16 (after a t)
+ActsAlike = (a : Act) (t : Table) → Narrowed a → TableWidths 16 t → (imageBy a (imageOf t) ≡ imageOf (after a t)) × TableWidths 16 (after a t)
 
 -- R86, R87, R88: on the image of a table is answered what is answered on the table
 abbrev pub AnswersAlike : Type 0
-AnswersAlike = (t : Table) → Wide 16 t
-    → ((q : Request) → askFor (loadOf (imageOf t)) q ≡ askedAs t (says (askOf t q))) × (stepFor (loadOf (imageOf t)) ≡ stepped t)
+AnswersAlike = (t : Table) → TableWidths 16 t
+    → ((q : Request) → askFor (loadOf (imageOf t)) q ≡ askedAs t (says (askOf t q))) × (stepFor (loadOf (imageOf t)) ≡ steppedAs t)
 
 -- R78: a run over the boundary
 abbrev pub ImageRuns : Type 0

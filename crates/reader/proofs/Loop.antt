@@ -9,9 +9,9 @@ use lib.ListN.{length, take, drop, set, replicate, length-drop, length-set, take
 use lib.Seq.{take-suc-set, drop-set-lt, drop-drop}
 use lib.Dec.{eqb}
 use borrow.Author.Tests.{eq-eqb, ne-eqb}
-use Rattle.line.specs.declared.Slot.{Slot as Place}
 use Rattle.line.specs.Slots.{pick, empty}
-use Rattle.table.specs.Words.{tableWith, requestWith, refusal, Said, gives, refuses}
+use Rattle.table.specs.declared.Table.{Table}
+use Rattle.table.specs.Words.{tableWith, withSlots, requestWith, refusal, Said, gives, refuses}
 use Rattle.card.specs.declared.SlotRecord.{SlotRecord}
 use Rattle.card.specs.declared.Record.{Record}
 use Rattle.card.specs.declared.Record.the-variants.{Slot, Last, Refused}
@@ -128,14 +128,13 @@ module _ {n : ℕ} {l : List ℕ} {rs : List SlotRecord} {at i : ℕ} {gap : Boo
       }
 
   -- R54: with RQ the records are those of the card
-  pub mid-last : (c t : ℕ) → x ≡ Last c t → (k : ℕ) → k ≡ value 8 l clockAt
-      → reading n l ≡ closing gap at (length l - at) (saying k rs c t)
-  mid-last c t e k q =
-      m .whole ∙ ap (putInFront (take i rs)) (records-last (value 8 l clockAt) (n - i) gap at (drop at l) c t (sym s ∙ e))
-      ∙ in-front-closing (take i rs) gap at (length (drop at l)) (value 8 l clockAt) (n - i) c t
-      ∙ ap (λ (y : List SlotRecord). closing gap at (length (drop at l)) (saying (value 8 l clockAt) y c t))
+  pub mid-last : (c t : ℕ) → x ≡ Last c t → reading n l ≡ closing gap at (length l - at) (saying (value 8 l clockAt) rs c t)
+  mid-last c t e =
+      let k = value 8 l clockAt in
+      m .whole ∙ ap (putInFront (take i rs)) (records-last k (n - i) gap at (drop at l) c t (sym s ∙ e))
+      ∙ in-front-closing (take i rs) gap at (length (drop at l)) k (n - i) c t
+      ∙ ap₂ (λ (b : ℕ) (y : List SlotRecord). closing gap at b (saying k y c t)) (length-drop at l)
       (ap (λ (y : List SlotRecord). take i rs ++ y) (sym (m .rest)) ∙ take-append-drop i rs)
-      ∙ ap₂ (λ (y j : ℕ). closing gap at y (saying j rs c t)) (length-drop at l) (sym q)
 
   -- R57, R58: a refused record refuses the card, at its offset
   pub mid-refused : (r : ℕ) → x ≡ Refused r → reading n l ≡ refuses (refusal r at)
@@ -148,32 +147,31 @@ map-set f [] i v = refl
 map-set f (x ∷ xs) zero v = refl
 map-set {B = B} f (x ∷ xs) (suc i) v = ap (λ (t : List B). f x ∷ t) (map-set f xs i v)
 
--- the slots and the entries are those of the records that are read
-pub record Kept (n : ℕ) (l : List ℕ) (ss : List Place) (ts : List ℕ) (at i : ℕ) (gap : Bool) : Type 0 where
+-- the clock is that of the card, and the slots and the entries are those of the records that are read
+pub record Kept (n : ℕ) (l : List ℕ) (t : Table) (ts : List ℕ) (at i : ℕ) (gap : Bool) : Type 0 where
   pub rs : List SlotRecord
   pub mid : Mid n l rs at i gap
-  pub slots : ss ≡ map slotFor rs
+  pub table : t ≡ tableWith (value 8 l clockAt) (map slotFor rs)
   pub stretched : ts ≡ map entryFor rs
 
 -- no record is read: all slots are empty
-pub kept-start : (l : List ℕ) → clockLength ≤ length l → Kept 16 l (replicate 16 empty) (replicate 16 0) clockLength 0 false
-kept-start l h = record { rs = replicate 16 free; mid = mid-start l h; slots = refl; stretched = refl }
+pub kept-start : (l : List ℕ) → clockLength ≤ length l → Kept 16 l (tableWith (value 8 l clockAt) (replicate 16 empty)) (replicate 16 0) clockLength 0 false
+kept-start l h = record { rs = replicate 16 free; mid = mid-start l h; table = refl; stretched = refl }
 
 -- the record x was seen at the offset
-module _ {n : ℕ} {l : List ℕ} {ss : List Place} {ts : List ℕ} {at i : ℕ} {gap : Bool} (v : Kept n l ss ts at i gap) {x : Record} (s : x ≡ recordOf (n - i) (drop at l)) where
+module _ {n : ℕ} {l : List ℕ} {t : Table} {ts : List ℕ} {at i : ℕ} {gap : Bool} (v : Kept n l t ts at i gap) {x : Record} (s : x ≡ recordOf (n - i) (drop at l)) where
   -- R53: a slot's record goes into slot i, with its entry
   pub kept-slot : (r : SlotRecord) → x ≡ Slot r
-      → Kept n l (set ss i (slotFor r)) (set ts i (entryFor r)) (at + recordLength (r .mark)) (i + 1) (isFree (r .mark))
+      → Kept n l (withSlots t (set (t .slots) i (slotFor r))) (set ts i (entryFor r)) (at + recordLength (r .mark)) (i + 1) (isFree (r .mark))
   kept-slot r e = record {
     rs = set (v .rs) i r;
     mid = mid-slot (v .mid) s r e;
-    slots = ap (λ (y : List Place). set y i (slotFor r)) (v .slots) ∙ map-set slotFor (v .rs) i r;
+    table = ap (λ (y : Table). withSlots y (set (y .slots) i (slotFor r))) (v .table) ∙ ap (tableWith (value 8 l clockAt)) (map-set slotFor (v .rs) i r);
     stretched = ap (λ (y : List ℕ). set y i (entryFor r)) (v .stretched) ∙ map-set entryFor (v .rs) i r;
   }
 
-  -- R53, R54: with RQ the slots and entries are those of the card
-  pub kept-last : (c t : ℕ) → x ≡ Last c t → (k : ℕ) → k ≡ value 8 l clockAt
-      → meaning (reading n l) ≡ closing gap at (length l - at) (carrying (tableWith k ss) (requestWith ts c t))
-  kept-last c t e k q =
-      ap meaning (mid-last (v .mid) s c t e k q) ∙ meaning-closing gap at (length l - at) (saying k (v .rs) c t)
-      ∙ sym (ap₂ (λ (y : List Place) (z : List ℕ). closing gap at (length l - at) (carrying (tableWith k y) (requestWith z c t))) (v .slots) (v .stretched))
+  -- R53, R54: with RQ the table and the entries are those of the card
+  pub kept-last : (c p : ℕ) → x ≡ Last c p → meaning (reading n l) ≡ closing gap at (length l - at) (carrying t (requestWith ts c p))
+  kept-last c p e =
+      ap meaning (mid-last (v .mid) s c p e) ∙ meaning-closing gap at (length l - at) (saying (value 8 l clockAt) (v .rs) c p)
+      ∙ sym (ap₂ (λ (y : Table) (z : List ℕ). closing gap at (length l - at) (carrying y (requestWith z c p))) (v .table) (v .stretched))

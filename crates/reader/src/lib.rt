@@ -159,8 +159,8 @@ fn records(card: &[u8]) -> ReadCard
     ensures { λ r. ⌜ r ≡ handed (meaning (recordsOf (value 8 (now (card .entry)) clockAt) 16 false clockLength (drop clockLength (now (card .entry))))) ⌝ }
 {
     let none = Slot::empty();
-    let mut slots = [none; 16];
-    let mut stretched = [0u16; 16];
+    let mut table = Table::new(clock(card), [none; 16]);
+    let mut request = Request::new([0u16; 16], 0, 0);
     let mut at: usize = layout::CLOCK_LENGTH;
     let mut i: usize = 0;
     let mut gap = false;
@@ -168,15 +168,15 @@ fn records(card: &[u8]) -> ReadCard
         let r = record_at(card, at, 16 - i);
         match r {
             Record::Slot(x) => {
-                slots[i] = x.slot();
-                stretched[i] = x.stretched;
+                table.slots[i] = x.slot();
+                request.stretched[i] = x.stretched;
                 at = at + x.length();
                 gap = x.is_free();
                 i = i + 1;
             }
             Record::Last(need, period) => {
-                let table = Table::new(clock(card), slots);
-                let request = Request::new(stretched, need, period);
+                request.need = need;
+                request.period = period;
                 return closed(card.len(), at, gap, table, request);
             }
             Record::Refused(number) => {

@@ -11,7 +11,7 @@ use Rattle.table.specs.declared.Answer.the-variants.{Start, Refused}
 use Rattle.table.specs.Words.{refusal, gives, refuses}
 use Rattle.table.specs.Ask.{says}
 use Rattle.reply.specs.declared.Written.the-variants.{Length, Short}
-use Rattle.reply.specs.Line.{digitsIn, digits, valueFrom, valueOf, AllDigits, answerLine, Wide, Replied, lengthOf, lengthFor, heldAfter}
+use Rattle.reply.specs.Line.{digitsIn, digits, valueFrom, valueOf, AllDigits, answerLine, AnswerWidths, Replied, saidLength, lengthFor, heldAfter}
 
 -- a number and its digits
 pub record DigitEdge : Type 0 where
@@ -95,7 +95,7 @@ unfolding digitsIn digits answerLine lineEdges
 line-edges = refl
 
 -- R61: the greatest numbers that an answer has are among those whose line is at most 40 bytes long
-pub widest : Wide (gives 18446744073709551615) × Wide (refuses (refusal 65535 18446744073709551615))
+pub widest : AnswerWidths (gives 18446744073709551615) × AnswerWidths (refuses (refusal 65535 18446744073709551615))
 widest = (omega arith, (omega arith, omega arith))
 
 -- R61: a line in an array of 40 bytes, and zeros after it
@@ -146,5 +146,5 @@ unfolding digitsIn digits answerLine putEdges
 put-edges = refl
 
 -- R62: the code's answers say their own numbers
-pub length-edges : map lengthOf (Length 15 ∷ Short ∷ []) ≡ some 15 ∷ none ∷ []
+pub length-edges : map saidLength (Length 15 ∷ Short ∷ []) ≡ some 15 ∷ none ∷ []
 length-edges = refl

@@ -12,7 +12,7 @@ use Rattle.table.specs.Ask.{says}
 use Rattle.reply.specs.declared.Reply.{Reply}
 use Rattle.reply.specs.declared.Written.{Written}
 use Rattle.reply.specs.declared.Written.the-variants.{Length, Short}
-use Rattle.reply.specs.Line.{lengthOf, lengthFor, heldAfter, digitsIn, digits, AllDigits, answerLine, Wide, Replied, newline, space}
+use Rattle.reply.specs.Line.{saidLength, lengthFor, heldAfter, digitsIn, digits, AllDigits, answerLine, AnswerWidths, Replied, lineFeed, space}
 use Rattle.reply.proofs.Digits.{digits-one, digits-are-digits, digits-short}
 
 -- R61: case A's line
@@ -59,8 +59,8 @@ differ r m p e = let z : _≡_ {A = ℕ} 108 102 = ap (λ (l : List ℕ). getD l
 refuses-one : (m p n q : ℕ) → answerLine (refuses (refusal m p)) ≡ answerLine (refuses (refusal n q)) → (m ≡ n) × (p ≡ q)
 unfolding answerLine
 refuses-one m p n q e =
-    let d : digits m ++ space ++ digits p ++ newline ≡ digits n ++ space ++ digits q ++ newline = ap (drop 8) e in
-    let w : digits m ++ (32 ∷ (digits p ++ newline)) ≡ digits n ++ (32 ∷ (digits q ++ newline)) = simp append-assoc at d in
+    let d : digits m ++ space ++ digits p ++ lineFeed ≡ digits n ++ space ++ digits q ++ lineFeed = ap (drop 8) e in
+    let w : digits m ++ (32 ∷ (digits p ++ lineFeed)) ≡ digits n ++ (32 ∷ (digits q ++ lineFeed)) = simp append-assoc at d in
     let f = numbers m n _ _ 32 32 (omega arith) (omega arith) w in
     (f .0, numbers p q [] [] 10 10 (omega arith) (omega arith) (f .1) .0)
 
@@ -100,7 +100,7 @@ pub refused-length : {a : Answer} (x : Refusal) (n m k : ℕ) → a ≡ Refused 
 refused-length x n m k e f g h = rw e (omega (arith, refuses-length (x .number) (x .place), ap (λ (j : ℕ). length (digits j)) f))
 
 -- R61: 40 bytes are enough: a number of 64 bits has at most 20 digits, and one of 16 at most 5
-pub line-length : (s : Said ℕ) → Wide s → length (answerLine s) ≤ 40
+pub line-length : (s : Said ℕ) → AnswerWidths s → length (answerLine s) ≤ 40
 line-length (gives r) h = omega (arith, gives-length r, digits-short 19 r (omega arith))
 line-length (refuses x) h =
     omega (arith, refuses-length (x .number) (x .place), digits-short 4 (x .number) (omega arith), digits-short 19 (x .place) (omega arith))
@@ -115,7 +115,7 @@ reply-settled line r s v w =
     sym (take-append-drop (r .len) (r .bytes)) ∙ rw (f, g) (take-append-drop (s .len) (s .bytes)) in
     rw (n, b)
 
-length-one : (r s : Written) → lengthOf r ≡ lengthOf s → r ≡ s
+length-one : (r s : Written) → saidLength r ≡ saidLength s → r ≡ s
 length-one (Length m) (Length n) e = cc
 length-one (Length m) Short e = cc
 length-one Short (Length n) e = cc
@@ -123,7 +123,7 @@ length-one Short Short e = refl
 
 -- R71: and so are what putting a line into a buffer may answer and what the buffer may then hold
 pub put-reply-settled : (line buffer : List ℕ) (r s : Written) (m n : List ℕ)
-    → (lengthOf r ≡ lengthFor line buffer) × (m ≡ heldAfter line buffer)
-    → (lengthOf s ≡ lengthFor line buffer) × (n ≡ heldAfter line buffer)
+    → (saidLength r ≡ lengthFor line buffer) × (m ≡ heldAfter line buffer)
+    → (saidLength s ≡ lengthFor line buffer) × (n ≡ heldAfter line buffer)
     → (r ≡ s) × (m ≡ n)
 put-reply-settled line buffer r s m n v w = (length-one r s (v .0 ∙ sym (w .0)), v .1 ∙ sym (w .1))

@@ -57,18 +57,18 @@ abbrev pub space : List ℕ
 space = 32 ∷ []
 
 -- R61: byte 0A
-abbrev pub newline : List ℕ
-newline = 10 ∷ []
+abbrev pub lineFeed : List ℕ
+lineFeed = 10 ∷ []
 
 -- R61: the whole line, newline included
 unfoldable pub answerLine : Said ℕ → List ℕ
-answerLine (gives r) = release ++ digits r ++ newline
-answerLine (refuses x) = refused ++ digits (x .number) ++ space ++ digits (x .place) ++ newline
+answerLine (gives r) = release ++ digits r ++ lineFeed
+answerLine (refuses x) = refused ++ digits (x .number) ++ space ++ digits (x .place) ++ lineFeed
 
 -- R17, R61: the numbers are of the widths that an answer has: a start and a place of 64 bits, a refusal's number of 16
-abbrev pub Wide : Said ℕ → Type 0
-Wide (gives r) = r < 2 ^ 64
-Wide (refuses x) = (x .number < 2 ^ 16) × (x .place < 2 ^ 64)
+abbrev pub AnswerWidths : Said ℕ → Type 0
+AnswerWidths (gives r) = r < 2 ^ 64
+AnswerWidths (refuses x) = (x .number < 2 ^ 16) × (x .place < 2 ^ 64)
 
 -- bytes that are 0
 abbrev pub zeros : ℕ → List ℕ
@@ -90,9 +90,9 @@ abbrev pub laidFrom : (at : ℕ) (bytes buffer : List ℕ) → List ℕ
 laidFrom at bytes buffer = take at buffer ++ laid bytes (drop at buffer)
 
 -- the length that is answered, or none for a buffer that is too short
-abbrev pub lengthOf : Written → Option ℕ
-lengthOf (Length n) = some n
-lengthOf Short = none
+abbrev pub saidLength : Written → Option ℕ
+saidLength (Length n) = some n
+saidLength Short = none
 
 -- R33: the line fits the buffer
 abbrev pub fits : (line buffer : List ℕ) → Bool

@@ -4,7 +4,7 @@ ghost use Prim.Native.Nat.{_+_, _≤_, _<_};
 ghost use lib.ListN.{length};
 ghost use Rattle.table.specs.Words.{gives, refuses};
 ghost use Rattle.table.specs.Ask.{says};
-ghost use Rattle.reply.specs.Line.{digits, answerLine, laid, laidFrom, Replied, lengthOf, lengthFor, heldAfter};
+ghost use Rattle.reply.specs.Line.{digits, answerLine, laid, laidFrom, Replied, saidLength, lengthFor, heldAfter};
 use table::Answer;
 use table::Refusal;
 
@@ -32,7 +32,7 @@ pub fn reply_to(a: Answer) -> Reply
 
 // R33, R62: puts the line for an answer at the start of a lent buffer. One that is too short keeps every byte.
 pub fn put_reply(a: Answer, out: &mut [u8]) -> Written
-    ensures { λ r. ⌜ lengthOf r ≡ lengthFor (answerLine (says a)) (now (out .entry)) ⌝ }
+    ensures { λ r. ⌜ saidLength r ≡ lengthFor (answerLine (says a)) (now (out .entry)) ⌝ }
     ensures { λ _. ⌜ now (out .exit) ≡ heldAfter (answerLine (says a)) (now (out .entry)) ⌝ }
 {
     let len = line_len(a);

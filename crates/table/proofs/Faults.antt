@@ -6,7 +6,7 @@ use native.Mathlib.Omega.{arith}
 use native.Mathlib.Decide.{decLe}
 use borrow.Author.Tests.{le-ltb}
 use Rattle.line.specs.declared.Slot.{Slot}
-use Rattle.line.specs.Slots.{runOf, total, mapAt}
+use Rattle.line.specs.Slots.{runWith, total, mapAt}
 use Rattle.line.specs.Streams.{due, every, endsBefore}
 use Rattle.line.specs.Demand.{newDemand, Smooth, lastEnd}
 use Rattle.table.specs.Grounds.{asked}
@@ -19,14 +19,14 @@ pub not-smooth : (t0 : ℕ) (l : List Slot) (Cn Tn r t : ℕ) → t0 ≤ t → 0
 not-smooth t0 l Cn Tn r t h x s = omega (arith, s .no-excess t h)
 
 -- R68: the closed formula gives 8 in case B
-pub closed-formula-B : closedStart 6 (runOf 8 16 6 2) 32 ≡ 8
+pub closed-formula-B : closedStart 6 (runWith 8 16 6 2) 32 ≡ 8
 unfolding closedStart
 closed-formula-B = refl
 
 -- R68: with nothing remaining it is the end itself, and where more remains than time is left it is cut at t0
-pub closed-formula-edges : (closedStart 6 (runOf 8 16 6 0) 32 ≡ 16)
-    × (closedStart 6 (runOf 8 16 6 8) 32 ≡ 6)
-    × (closedStart 6 (runOf 8 16 6 2) 48 ≡ 10)
+pub closed-formula-edges : (closedStart 6 (runWith 8 16 6 0) 32 ≡ 16)
+    × (closedStart 6 (runWith 8 16 6 8) 32 ≡ 6)
+    × (closedStart 6 (runWith 8 16 6 2) 48 ≡ 10)
 unfolding closedStart
 closed-formula-edges = (refl, refl, refl)
 

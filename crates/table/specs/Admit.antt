@@ -12,14 +12,14 @@ use Rattle.table.specs.declared.Request.{Request}
 use Rattle.table.specs.declared.Answer.{Answer}
 use Rattle.table.specs.declared.Answer.the-variants.{Start, Refused}
 use Rattle.table.specs.declared.Admitted.{Admitted}
-use Rattle.line.specs.Slots.{pick, waitOf, holding, begun, isNothing, lowestOf}
+use Rattle.line.specs.Slots.{pick, waitWith, holding, begun, isNothing, lowestOf}
 use Rattle.table.specs.Words.{withSlots}
 use Rattle.table.specs.Grounds.{asked}
 use Rattle.table.specs.Ask.{askOf}
 
 -- R43: the new line runs at once where there is nothing to wait for, else it waits
 abbrev pub newLine : (Cn Tn wait : ℕ) → Held
-newLine Cn Tn w = pick (ltb 0 w) (Waiting (waitOf Cn Tn w)) (begun Cn Tn)
+newLine Cn Tn w = pick (ltb 0 w) (Waiting (waitWith Cn Tn w)) (begun Cn Tn)
 
 -- s for the slot named
 abbrev pub putAt : Option ℕ → Slot → List Slot → List Slot

@@ -6,7 +6,7 @@ use Rattle.line.specs.declared.Held.the-variants.{Running, Waiting}
 use Rattle.line.specs.declared.Slot.{Slot}
 use Rattle.table.specs.declared.Table.{Table}
 use Rattle.table.specs.declared.Request.{Request}
-use Rattle.line.specs.Slots.{runOf, waitOf, holding, empty}
+use Rattle.line.specs.Slots.{runWith, waitWith, holding, empty}
 use Rattle.table.specs.Words.{tableWith, requestWith, refusal, Said, gives, refuses}
 
 -- a line of a case: C, T, T', age, remaining
@@ -29,23 +29,23 @@ line C T T' a c = record { need = C; period = T; stretched = T'; age = a; remain
 
 -- a slot that runs a line
 abbrev pub running : (C T age remaining : ℕ) → Slot
-running C T a c = holding (Running (runOf C T a c))
+running C T a c = holding (Running (runWith C T a c))
 
 -- a slot whose line waits
 abbrev pub waiting : (C T wait : ℕ) → Slot
-waiting C T w = holding (Waiting (waitOf C T w))
+waiting C T w = holding (Waiting (waitWith C T w))
 
 -- the slots from 0 up; the others hold nothing
 abbrev pub tableOf : (clock : ℕ) → List Slot → Table
 tableOf t0 l = tableWith t0 (l ++ replicate (16 - length l) empty)
 
 -- the slot of a line of a case
-abbrev pub slotFor : CaseLine → Slot
-slotFor b = running (b .need) (b .period) (b .age) (b .remaining)
+abbrev pub caseSlot : CaseLine → Slot
+caseSlot b = running (b .need) (b .period) (b .age) (b .remaining)
 
 -- the table of a case, its lines from slot 0 up
 abbrev pub tableFor : (clock : ℕ) → List CaseLine → Table
-tableFor t0 bs = tableOf t0 (map slotFor bs)
+tableFor t0 bs = tableOf t0 (map caseSlot bs)
 
 -- the request of a case: each line's T', 0 for the other slots, and the new line
 abbrev pub requestFor : List CaseLine → (Cn Tn : ℕ) → Request

@@ -2,6 +2,7 @@
 use mathlib.Core.Path.{_≡_, refl, sym, ap, ap₂, _∙_}
 use mathlib.Core.List.{List, _++_, append-assoc}
 use mathlib.Core.Bool.{Bool}
+use mathlib.Core.Option.{none, some}
 use Prim.Native.Nat.{ℕ, _+_, _*_, _/_, _%_, _≤_, _<_}
 use native.Mathlib.Omega.{arith}
 use native.Mathlib.Nat.{mul-add-mod-self-left, mod-eq-of-lt}
@@ -10,17 +11,17 @@ use borrow.Author.Tests.{le-leb, lt-leb}
 use Rattle.table.specs.declared.Table.{Table}
 use Rattle.table.specs.declared.Request.{Request}
 use Rattle.table.specs.declared.Refusal.{Refusal}
-use Rattle.table.specs.declared.Which.{Which}
-use Rattle.table.specs.declared.Which.the-variants.{None, At}
 use Rattle.line.specs.Slots.{pick, isWaiting, lowestOf}
-use Rattle.table.specs.Words.{slotOf, refusal, Said, gives, refuses}
+use Rattle.table.specs.Words.{refusal, Said, gives, refuses}
 use Rattle.card.specs.Bytes.{le}
 use Rattle.card.specs.Layout.{clockLength, lastLength}
 use Rattle.card.specs.Card.{clockRecord, slotRecords, requestRecord, used, cardOf}
 use Rattle.card.specs.Answers.{lengthOf, filled, writeOf, bufferOf}
 use Rattle.card.proofs.Numbers.{two-of}
 use Rattle.card.proofs.Length.{length-card}
+use Rattle.writer.specs.Measured.{waitingIn}
 use Rattle.writer.specs.Parts.{partsOf}
+use Rattle.writer.proofs.Slots.{waiting-used}
 
 -- the clock's eight bytes, by the numbers that the code makes of it
 pub by-twos : (v : ℕ) → v < 18446744073709551616
@@ -51,10 +52,14 @@ module _ (t : Table) (q : Request) where
       → (refuses r ≡ lengthOf t q (length l)) × (l ≡ filled (cardOf t q) l (lengthOf t q (length l)))
   short-writing l r e h = rw (e, too-short (length l) h) (refl, refl)
 
-  -- the records of n slots, where n are used
+  -- n slots, where n are used
   module _ (n : ℕ) (e : n ≡ used (t .slots)) where
+    -- R23: the lowest waiting line of these is the lowest of all
+    all-waiting : waitingIn n (t .slots) ≡ lowestOf isWaiting (t .slots)
+    all-waiting = ap (λ (j : ℕ). waitingIn j (t .slots)) e ∙ waiting-used (t .slots)
+
     -- R53: CK and RQ, and the slots' records
-    pub parts-length : clockLength + lastLength + length (slotRecords n (t .slots) (q .stretched)) ≡ length (cardOf t q)
+    parts-length : clockLength + lastLength + length (slotRecords n (t .slots) (q .stretched)) ≡ length (cardOf t q)
     parts-length = ap (λ (j : ℕ). clockLength + lastLength + length (slotRecords j (t .slots) (q .stretched))) e ∙ sym (length-card t q)
 
     -- R33: the length that the code works out
@@ -75,13 +80,13 @@ module _ (t : Table) (q : Request) where
     whole-writing l m len f h w =
         rw (long-enough (length l) h, f) (refl, w ∙ ap₂ (λ (x : List ℕ) (j : ℕ). x ++ drop j l) parts-card parts-length)
 
-  module _ (o : Which) (w : slotOf o ≡ lowestOf isWaiting (t .slots)) where
     -- R23: a waiting line is refused at its slot, whatever the buffer
-    pub waiting-writing : (k : ℕ) → o ≡ At k → (r : Refusal) → r ≡ refusal 3 k → (l : List ℕ)
+    pub waiting-writing : (k : ℕ) → waitingIn n (t .slots) ≡ some k → (r : Refusal) → r ≡ refusal 3 k → (l : List ℕ)
         → (refuses r ≡ writeOf t q (length l)) × (l ≡ bufferOf t q l)
-    waiting-writing k e r f l = rw (sym w, e, f) (refl, refl)
+    waiting-writing k w r f l = rw (sym all-waiting, w, f) (refl, refl)
 
     -- R59: where none waits the room decides
-    pub other-writing : o ≡ None → (l m : List ℕ) (s : Said ℕ) → (s ≡ lengthOf t q (length l)) × (m ≡ filled (cardOf t q) l (lengthOf t q (length l)))
+    pub other-writing : waitingIn n (t .slots) ≡ none → (l m : List ℕ) (s : Said ℕ)
+        → (s ≡ lengthOf t q (length l)) × (m ≡ filled (cardOf t q) l (lengthOf t q (length l)))
         → (s ≡ writeOf t q (length l)) × (m ≡ bufferOf t q l)
-    other-writing e l m s p = rw (sym w, e) p
+    other-writing w l m s p = rw (sym all-waiting, w) p

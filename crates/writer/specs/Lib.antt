@@ -1,2 +1,3 @@
--- The parts of a card.
+-- The parts of a card, and what is measured of them.
+pub mod Measured
 pub mod Parts

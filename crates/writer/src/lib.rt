@@ -1,25 +1,30 @@
 // The card writer: each record goes into the part of the buffer after the last one.
 ghost use mathlib.Core.Path.{_≡_};
 ghost use mathlib.Core.List.{_++_};
-ghost use Prim.Native.Nat.{_+_, _*_, _≤_, _<_};
+ghost use Prim.Native.Nat.{_+_, _≤_};
 ghost use lib.ListN.{length, drop};
 ghost use Rattle.card.specs.Bytes.{le, markOf};
 ghost use Rattle.card.specs.Layout.{clockLength, lineLength, lastLength, recordLength};
 ghost use Rattle.card.specs.Marked.{numbersOf, recordBytes};
 ghost use Rattle.card.specs.Card.{clockRecord, requestRecord, slotRecord, slotRecords, used, cardOf};
 ghost use Rattle.card.specs.Answers.{saidWritten, lengthOf, filled, writeOf, bufferOf};
+ghost use Rattle.writer.specs.Measured.{MeasuredRecords};
 ghost use Rattle.writer.specs.Parts.{partsOf};
 use card::Mark;
 use card::Recorded;
 use card::SlotRecord;
 use card::WriteAnswer;
 use card::layout;
-use line::Kind;
 use line::Slot;
 use table::Refusal;
 use table::Request;
 use table::Table;
-use table::Which;
+
+// R23, R53: the length of the first slots' records, or the lowest of these slots that has none: its line waits.
+enum Measured {
+    Length(usize),
+    Without(usize),
+}
 
 // R52: the lower byte comes first.
 fn put16(out: &mut [u8], v: u16)
@@ -115,17 +120,6 @@ fn put_slot(out: &mut [u8], s: Slot, stretched: u16) -> usize
     }
 }
 
-// R53: the length of a slot's record, 0 where it has none.
-fn slot_len(s: Slot, stretched: u16) -> usize
-    ensures { λ r. ⌜ r ≡ length (slotRecord (s .held) stretched) ⌝ }
-{
-    let x = SlotRecord::of(s, stretched);
-    match x {
-        Recorded::As(r) => r.length(),
-        Recorded::No => 0,
-    }
-}
-
 // R55: how many slots there are up to the last that holds something.
 fn used_slots(slots: [Slot; 16]) -> usize
     ensures { λ r. ⌜ (r ≡ used slots) × (r ≤ 16) ⌝ }
@@ -143,20 +137,28 @@ fn used_slots(slots: [Slot; 16]) -> usize
     0
 }
 
-// The length of the records of the first `n` slots.
-fn records_len(slots: [Slot; 16], stretched: [u16; 16], n: usize) -> usize
+// R23, R53: measures the records of the first `n` slots, up to a slot whose line waits.
+fn measure(slots: [Slot; 16], stretched: [u16; 16], n: usize) -> Measured
     requires { ⌜ n ≤ 16 ⌝ }
-    ensures { λ r. ⌜ (r ≡ length (slotRecords n slots stretched)) × (r ≤ lineLength * 16) ⌝ }
+    ensures { λ r. ⌜ MeasuredRecords n slots stretched r ⌝ }
 {
     let mut i: usize = 0;
     let mut len: usize = 0;
     while i < n {
         let s = slots[i];
         let t = stretched[i];
-        len = len + slot_len(s, t);
+        let x = SlotRecord::of(s, t);
+        match x {
+            Recorded::As(r) => {
+                len = len + r.length();
+            }
+            Recorded::No => {
+                return Measured::Without(i);
+            }
+        }
         i = i + 1;
     }
-    len
+    Measured::Length(len)
 }
 
 // R54: writes the records of the first `n` slots, slot 0 first, and answers their length.
@@ -189,14 +191,12 @@ fn put_parts(out: &mut [u8], t: Table, q: Request, n: usize)
 }
 
 // R33, R59: the length is known before a byte is written, so that a refusal leaves the buffer alone.
-fn write_card(t: Table, q: Request, out: &mut [u8]) -> WriteAnswer
+fn write_card(t: Table, q: Request, n: usize, m: usize, out: &mut [u8]) -> WriteAnswer
+    requires { ⌜ (n ≤ 16) × (n ≡ used (t .slots)) × (m ≡ length (slotRecords n (t .slots) (q .stretched))) ⌝ }
     ensures { λ r. ⌜ saidWritten r ≡ lengthOf t q (length (now (out .entry))) ⌝ }
     ensures { λ _. ⌜ now (out .exit) ≡ filled (cardOf t q) (now (out .entry)) (lengthOf t q (length (now (out .entry)))) ⌝ }
 {
-    let slots = t.slots;
-    let stretched = q.stretched;
-    let n = used_slots(slots);
-    let len = layout::CLOCK_LENGTH + layout::LAST_LENGTH + records_len(slots, stretched, n);
+    let len = layout::CLOCK_LENGTH + layout::LAST_LENGTH + m;
     if out.len() < len {
         return WriteAnswer::Refused(Refusal::new(13, 0));
     }
@@ -208,8 +208,11 @@ fn write_card(t: Table, q: Request, out: &mut [u8]) -> WriteAnswer
 pub fn write(t: Table, q: Request, out: &mut [u8]) -> WriteAnswer
     ensures { λ r. ⌜ (saidWritten r ≡ writeOf t q (length (now (out .entry)))) × (now (out .exit) ≡ bufferOf t q (now (out .entry))) ⌝ }
 {
-    match t.lowest(Kind::Unstarted) {
-        Which::At(k) => WriteAnswer::Refused(Refusal::new(3, k as u64)),
-        Which::None => write_card(t, q, out),
+    let slots = t.slots;
+    let stretched = q.stretched;
+    let n = used_slots(slots);
+    match measure(slots, stretched, n) {
+        Measured::Without(k) => WriteAnswer::Refused(Refusal::new(3, k as u64)),
+        Measured::Length(m) => write_card(t, q, n, m, out),
     }
 }

@@ -10,23 +10,21 @@ use Rattle.reader.proofs.records.Statement.{statement}
 use Rattle.reader.proofs.records.Tie as tie
 
 abbrev Inv-loop : tie.InvT-loop
-Inv-loop card slots₀ stretched₀ at₀ i₀ gap₀ slots stretched at i gap = Kept 16 card slots stretched at i gap
+Inv-loop card table₀ request₀ at₀ i₀ gap₀ table request at i gap = Kept 16 card table (request .stretched) at i gap
 
 abbrev μ-loop : tie.MeasureT-loop
-μ-loop card slots₀ stretched₀ at₀ i₀ gap₀ slots stretched at i gap = 16 - i
+μ-loop card table₀ request₀ at₀ i₀ gap₀ table request at i gap = 16 - i
 
 loop-holds : tie.Need-loop-holds Inv-loop μ-loop
-loop-holds c = rw (c .empty .ensures) (kept-start (c .before .before .args .card .now) (omega arith))
+loop-holds c =
+    let b = c .before .before in
+    rw (c .new2 .ensures, c .before .new .ensures, b .clock .ensures, b .before .empty .ensures)
+    (kept-start (b .before .before .before .args .card .now) (omega arith))
 
-array-set-from-slots : tie.Need-array-set-from-slots Inv-loop μ-loop
-array-set-from-slots c =
+element-set-from-table : tie.Need-element-set-from-table Inv-loop μ-loop
+element-set-from-table c =
     let b = c .before .before .before .before in
-    omega (arith, slot-room (b .before .loop .inv .mid) (b .record-at .ensures) (c .before .before .r .given .1))
-
-array-write-stretched : tie.Need-array-write-stretched Inv-loop μ-loop
-array-write-stretched c =
-    let b = c .before .before .before .before in
-    omega (arith, slot-room (b .before .loop .inv .mid) (b .record-at .ensures) (c .before .before .r .given .1))
+    slot-room (b .before .loop .inv .mid) (b .record-at .ensures) (c .before .before .r .given .1) .0
 
 add-at : tie.Need-add-at Inv-loop μ-loop
 add-at c =
@@ -34,9 +32,7 @@ add-at c =
     omega (arith, slot-room (b .before .loop .inv .mid) (b .record-at .ensures) (c .before .before .before .r .given .1), c .length .ensures .0)
 
 loop-less : tie.Need-loop-less Inv-loop μ-loop
-loop-less c =
-    let b = c .before .before .before .before .before .before in
-    omega (arith, slot-room (b .before .loop .inv .mid) (b .record-at .ensures) (c .before .before .before .before .r .given .1))
+loop-less c = omega (arith, element-set-from-table (c .before .before))
 
 loop-again : tie.Need-loop-again Inv-loop μ-loop
 loop-again c =
@@ -47,17 +43,15 @@ loop-again c =
 
 closed-requires : tie.Need-closed-requires Inv-loop μ-loop
 closed-requires c κs =
-    let f = c .before .before .before .before in
+    let f = c .before in
     let b = f .before .before in
     last-room (b .before .loop .inv .mid) (b .record-at .ensures) (f .r2 .given .1)
 
 returns : tie.Need-returns Inv-loop μ-loop
 returns c =
-    let k = c .before .before .before in
-    let f = k .before .before in
+    let f = c .before .before in
     let b = f .before .before in
-    (rw (c .before .before .new .ensures, c .before .new2 .ensures) at (c .closed .ensures))
-    ∙ ap handed (sym (kept-last (b .before .loop .inv) (b .record-at .ensures) _ _ (f .r2 .given .1) (k .clock .result) (k .clock .ensures)))
+    rw (c .closed .ensures) (ap handed (sym (kept-last (b .before .loop .inv) (b .record-at .ensures) _ _ (f .r2 .given .1))))
 
 returns-2 : tie.Need-returns-2 Inv-loop μ-loop
 returns-2 c =
@@ -68,7 +62,7 @@ returns-2 c =
 pub records-spec : {M : Type 1} → statement M
 records-spec =
     tie.close
-    (tie.spec Inv-loop μ-loop (λ c κs. tt) loop-holds (λ c. omega arith) (λ c κs. omega (arith, c .loop .inv .mid .room)) (λ c. search needs) (λ c κs. tt)
-    (λ c. omega (arith, array-set-from-slots c)) array-set-from-slots (λ c. omega (arith, array-write-stretched c)) array-write-stretched (λ c κs. tt) add-at
-    (λ c κs. tt) (λ c. omega (arith, loop-less c)) loop-less loop-again (λ c. search needs) (λ c κs. omega arith) (λ c κs. tt) (λ c κs. tt) closed-requires
-    returns (λ c. search needs) (λ c κs. tt) returns-2)
+    (tie.spec Inv-loop μ-loop (λ c κs. tt) (λ c κs. omega arith) (λ c κs. tt) (λ c κs. tt) loop-holds (λ c. omega arith)
+    (λ c κs. omega (arith, c .loop .inv .mid .room)) (λ c. search needs) (λ c κs. tt) (λ c. omega (arith, element-set-from-table c)) element-set-from-table
+    (λ c. omega (arith, element-set-from-table c)) element-set-from-table (λ c κs. tt) add-at (λ c κs. tt) (λ c. omega (arith, loop-less c)) loop-less
+    loop-again (λ c. search needs) closed-requires returns (λ c. search needs) (λ c κs. tt) returns-2)

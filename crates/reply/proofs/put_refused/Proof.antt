@@ -4,7 +4,7 @@ use mathlib.Core.Path.{ap}
 use native.Mathlib.Omega.{arith}
 use lib.ListN.{length}
 use borrow.Author.Needs.{needs}
-use Rattle.reply.specs.Line.{digits, refused, space, newline, answerLine}
+use Rattle.reply.specs.Line.{digits, refused, space, lineFeed, answerLine}
 use Rattle.reply.proofs.Line.{refuses-length}
 use Rattle.reply.proofs.Laid.{lay-start, lay-on}
 use Rattle.reply.proofs.put_refused.Statement.{statement}
@@ -31,7 +31,7 @@ returns c =
     let number = lay-on (digits (w .wide .result)) word (e2 .add-number .ensures) in
     let gap = lay-on space number (e3 .add-bytes2 .ensures) in
     let place = lay-on (digits (a .x .place)) gap (e4 .add-number2 .ensures) in
-    rw (w .wide .ensures .0) at (lay-on newline place (e5 .add-bytes3 .ensures) .same)
+    rw (w .wide .ensures .0) at (lay-on lineFeed place (e5 .add-bytes3 .ensures) .same)
 
 pub put-refused-spec : {M : Type 1} → statement M
 put-refused-spec =

@@ -1,6 +1,6 @@
 -- `reply::put_release` meets its contract: the pieces of the line, one after the other.
 use native.Mathlib.Omega.{arith}
-use Rattle.reply.specs.Line.{digits, release, newline, answerLine}
+use Rattle.reply.specs.Line.{digits, release, lineFeed, answerLine}
 use Rattle.reply.proofs.Line.{gives-length}
 use Rattle.reply.proofs.Laid.{lay-start, lay-on}
 use borrow.Author.Needs.{needs}
@@ -16,7 +16,7 @@ returns c =
     let a = e1 .before .before .before .before .args in
     let word = lay-on release (lay-start (a .out .now)) (e1 .add-bytes .ensures) in
     let start = lay-on (digits (a .start)) word (e2 .add-number .ensures) in
-    lay-on newline start (e3 .add-bytes2 .ensures) .same
+    lay-on lineFeed start (e3 .add-bytes2 .ensures) .same
 
 pub put-release-spec : {M : Type 1} → statement M
 put-release-spec =

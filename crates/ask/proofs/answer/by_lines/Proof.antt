@@ -10,7 +10,7 @@ returns : tie.Need-returns
 returns c =
     let at = c .before .before .before .before .before .before .before .before .before .before .before .before in
     let x = at .args in
-    fronts-answer (x .g) (x .clock) (x .need) (x .period) (at .pre .0) (at .pre .1) (c .before .decide .ensures) (c .answered .ensures)
+    fronts-answer (x .g) (x .clock) (x .need) (x .period) (at .pre .0) (c .before .decide .ensures) (c .answered .ensures)
 
 pub by-lines-spec : {M : Type 1} → statement M
 by-lines-spec =

@@ -28,12 +28,11 @@ loop-holds c =
 
 loop-again : tie.Need-loop-again Inv-loop μ-loop
 loop-again c =
-    let at = c .before .before in
+    let at = c .before in
     let v = at .before .before .before .before .loop .inv in
     let h = at .before .before .before .loop-test .taken in
-    let e = at .stretched .ensures in
-    let t = c .before .is-empty .ensures in
-    ⊎-elim (λ w. rw (w .7) (gather-push v _ h e t (w .0 .taken) (w .1 .ensures))) (λ w. rw (w .1) (gather-skip v _ h e t (w .0 .left))) (c .if1 .came)
+    let t = at .is-empty .ensures in
+    ⊎-elim (λ w. rw (w .8) (gather-push v _ h t (w .0 .taken) (w .1 .ensures) (w .2 .ensures))) (λ w. rw (w .1) (gather-skip v _ h t (w .0 .left))) (c .if1 .came)
 
 pub gather-spec : {M : Type 1} → statement M
 gather-spec =

@@ -3,7 +3,7 @@ use mathlib.Core.Path.{sym, ap, _∙_}
 use mathlib.Core.Option.{Option}
 use Prim.Native.Nat.{ℕ}
 use Rattle.reply.specs.declared.Written.{Written}
-use Rattle.reply.specs.Line.{lengthOf}
+use Rattle.reply.specs.Line.{saidLength}
 use Rattle.house.specs.Results.{refusedAs, resultOf}
 use Rattle.house.specs.Cards.{saidPut}
 use borrow.Author.Needs.{needs}
@@ -13,14 +13,14 @@ use Rattle.house.proofs.cards.put_line.Tie as tie
 returns : tie.Need-returns
 returns c =
     let p = c .before .before .before .before .before .before .put-reply .ensures in (
-      c .granted .ensures ∙ ap (λ (w : Written). resultOf (saidPut (lengthOf w))) (sym (c .before .before .n .given .1)) ∙ ap (λ (o : Option ℕ). resultOf (saidPut o)) (p .0),
+      c .granted .ensures ∙ ap (λ (w : Written). resultOf (saidPut (saidLength w))) (sym (c .before .before .n .given .1)) ∙ ap (λ (o : Option ℕ). resultOf (saidPut o)) (p .0),
       p .1,
     )
 
 returns-2 : tie.Need-returns-2
 returns-2 c =
     let p = c .before .before .before .before .before .before .put-reply .ensures in (
-      c .refused .ensures ∙ ap refusedAs (c .before .new .ensures) ∙ ap (λ (w : Written). resultOf (saidPut (lengthOf w))) (sym (c .before .before .enum-told .given .1))
+      c .refused .ensures ∙ ap refusedAs (c .before .new .ensures) ∙ ap (λ (w : Written). resultOf (saidPut (saidLength w))) (sym (c .before .before .enum-told .given .1))
           ∙ ap (λ (o : Option ℕ). resultOf (saidPut o)) (p .0),
       p .1,
     )

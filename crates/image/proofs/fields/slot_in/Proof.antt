@@ -10,23 +10,26 @@ use Rattle.image.proofs.fields.slot_in.Tie as tie
 returns : tie.Need-returns
 returns c =
     let n = c .before in
-    let e = n .before .before .before .before .before .before .eight .ensures in
+    let d = n .before .before .before in
+    let e = d .before .before .before .before .eight .ensures in
     c .holding .ensures ∙ ap holding (n .running .ensures)
-    ∙ running-in _ (e .1) (e .0) (omega arith) (n .before .before .before .before .lowest .ensures) (n .before .before .before .lowest2 .ensures) (n .before .before .lowest3 .ensures) (n .before .lowest4 .ensures)
+    ∙ running-in _ (e .1) (e .0) (omega arith) (d .before .before .before .lowest .ensures) (d .before .before .lowest2 .ensures) (d .before .lowest3 .ensures) (d .lowest4 .ensures)
 
 returns-2 : tie.Need-returns-2
 returns-2 c =
     let n = c .before in
-    let e = n .before .before .before .before .before .eight .ensures in
+    let d = n .before .before .before in
+    let e = d .before .before .before .before .eight .ensures in
     c .holding2 .ensures ∙ ap holding (n .waiting .ensures)
-    ∙ waiting-in _ (e .1) (e .0) (omega arith) (n .before .before .before .lowest5 .ensures) (n .before .before .lowest6 .ensures) (n .before .lowest7 .ensures)
+    ∙ waiting-in _ (e .1) (e .0) (omega arith) (d .before .before .before .lowest .ensures) (d .before .before .lowest2 .ensures) (d .before .lowest3 .ensures)
 
 returns-3 : tie.Need-returns-3
-returns-3 c = c .empty .ensures ∙ nothing-in (c .before .before .before .before .before .args .s .now) (λ e. omega arith) (λ e. omega arith)
+returns-3 c =
+    let d = c .before .before .before in
+    c .empty .ensures ∙ nothing-in (d .before .before .before .before .before .before .args .s .now) (λ e. omega arith) (λ e. omega arith)
 
 pub slot-in-spec : {M : Type 1} → statement M
 slot-in-spec =
     tie.close
-    (tie.spec (λ c. search needs) (λ c κs. search needs) (λ c κs. search needs) (λ c κs. search needs) (λ c κs. search needs) (λ c κs. search needs)
-    (λ c κs. search needs) (λ c κs. search needs) (λ c κs. search needs) (λ c κs. search needs) (λ c κs. search needs) (λ c κs. search needs)
-    (λ c κs. search needs) (λ c κs. search needs) returns returns-2 returns-3)
+    (tie.spec (λ c κs. search needs) (λ c κs. search needs) (λ c κs. search needs) (λ c κs. search needs) (λ c κs. search needs) (λ c. search needs)
+    (λ c κs. search needs) (λ c κs. search needs) (λ c κs. search needs) (λ c κs. search needs) (λ c κs. search needs) returns returns-2 returns-3)
