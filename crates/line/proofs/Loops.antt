@@ -60,6 +60,10 @@ module _ {A : Type 0} {f : ℕ → A → A} {n : ℕ} {l₀ l : List A} {i : ℕ
   map-on d h e =
       record { long = v .long; upto = omega arith; same = rw (e, v .same, mapTo-at f i l₀ d, mapTo-set f i l₀ d, add-one) }
 
+  -- element i is still what it was
+  pub map-sees : (d : A) → getD l i d ≡ getD l₀ i d
+  map-sees d = ap (λ (r : List A). getD r i d) (v .same) ∙ mapTo-at f i l₀ d
+
   -- after n elements the list is mapped
   pub map-end : n ≤ i → l ≡ mapAt f l₀
   map-end h = v .same ∙ mapTo-all f i l₀ (omega arith)

@@ -6,7 +6,7 @@ use Rattle.line.specs.declared.Held.{Held}
 use Rattle.line.specs.declared.Held.the-variants.{Running, Waiting, Nothing}
 use Rattle.line.specs.declared.Slot.{Slot}
 use Rattle.line.specs.declared.Kind.{Kind}
-use Rattle.line.specs.declared.Kind.the-variants.{Free, Unstarted, Unsound, Short}
+use Rattle.line.specs.declared.Kind.the-variants.{Free, Unstarted, Unsound}
 use Rattle.line.specs.Slots.{pick, withAge, withRemaining, withWait, nowHolding, begun, ifRuns, isNothing, isWaiting}
 use Rattle.line.specs.Streams.{byStream}
 use Rattle.line.specs.Sound.{sound}
@@ -45,9 +45,8 @@ servedSlot s = nowHolding s (served (s .held))
 abbrev pub passedSlot : Slot → Slot
 passedSlot s = nowHolding s (passed (s .held))
 
--- R22, R23, R24, R34: a slot of the kind that is looked for
+-- R22, R23, R24: a slot of the kind that is looked for
 abbrev pub is : Kind → Held → Bool
 is Free h = isNothing h
 is Unstarted h = isWaiting h
 is Unsound h = not (sound h)
-is Short h = short h

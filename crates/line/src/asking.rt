@@ -57,7 +57,7 @@ impl Slot {
     }
 
     // R46, R34: its period ends short with this tick.
-    pub(crate) fn short(self) -> bool
+    pub fn short(self) -> bool
         ensures { λ r. ⌜ r ≡ short (self .held) ⌝ }
     {
         let s = self.asks();

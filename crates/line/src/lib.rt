@@ -44,13 +44,11 @@ pub struct Stream {
     pub period: u16,
 }
 
-// What is looked for among the slots: no line (R22, R43), a line that waits to start (R23), one that is not sound (R24), one whose period ends short
-// with this tick (R34).
+// What is looked for among the slots: no line (R22, R43), a line that waits to start (R23), one that is not sound (R24).
 pub enum Kind {
     Free,
     Unstarted,
     Unsound,
-    Short,
 }
 
 impl Run {
@@ -176,7 +174,7 @@ impl Slot {
         }
     }
 
-    // R22, R23, R24, R34: the slot is of the kind that is looked for.
+    // R22, R23, R24: the slot is of the kind that is looked for.
     pub fn is(self, kind: Kind) -> bool
         ensures { λ r. ⌜ r ≡ is kind (self .held) ⌝ }
     {
@@ -184,7 +182,6 @@ impl Slot {
             Kind::Free => self.is_empty(),
             Kind::Unstarted => self.waits(),
             Kind::Unsound => !self.sound(),
-            Kind::Short => self.short(),
         }
     }
 }

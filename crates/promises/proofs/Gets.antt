@@ -15,12 +15,12 @@ use Rattle.line.specs.Tick.{Owed, passed}
 use Rattle.table.specs.Admit.{newLine}
 use Rattle.table.specs.Step.{choose, serve, pass, ticked, stepOf}
 use Rattle.table.specs.Runs.{Act, asking, admitting, stepping, after, run, ranIn, trace, isSlot, times}
-use Rattle.table.proofs.Step.{slot-of-which}
+use Rattle.table.proofs.Step.{length-serve, slot-of-which}
 use Rattle.theory.specs.Fine.{May, Kept}
 use Rattle.theory.proofs.Numbers.{split}
 use Rattle.theory.proofs.Pump.{never-short, earliest-may}
 use Rattle.theory.proofs.Step.{choose-earliest}
-use Rattle.theory.proofs.Trace.{at-pass, length-serve, length-tick, is-passed, owed-or-got, not-served, nearer, not-yet}
+use Rattle.theory.proofs.Trace.{at-pass, length-tick, is-passed, owed-or-got, not-served, nearer, not-yet}
 use Rattle.promises.specs.Demand3.{Unstretched}
 use Rattle.promises.proofs.Good.{Good, at-last, good-after}
 use Rattle.promises.proofs.Kept.{admit-clock, admit-length, admit-running, admit-kept, admit-waiting, step-table, clock-after}

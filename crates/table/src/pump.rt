@@ -2,7 +2,7 @@
 ghost use mathlib.Core.Path.{_≡_};
 ghost use Prim.Native.Nat.{_+_, _^_, _<_};
 ghost use Rattle.table.specs.Words.{withSlots, slotOf};
-ghost use Rattle.table.specs.Step.{choose, serve, pass, refusedStep, advance, stepOf};
+ghost use Rattle.table.specs.Step.{choose, serve, refusedStep, advance, stepOf};
 use crate::Outcome;
 use crate::Refusal;
 use crate::Stepped;
@@ -51,21 +51,6 @@ impl Table {
         }
     }
 
-    // R45 to R47: what each slot holds a tick later. The clock stays: `advance` moves it.
-    fn pass(self) -> Table
-        ensures { λ r. ⌜ r ≡ withSlots self (pass (self .slots)) ⌝ }
-    {
-        let mut t = self;
-        let mut i: usize = 0;
-        while i < 16 {
-            let s = t.slots[i];
-            let next = s.passed();
-            t.slots[i] = next;
-            i = i + 1;
-        }
-        t
-    }
-
     // R48, R17: the table as it was, and no slot ran.
     fn refused(self, number: u16, place: usize) -> Stepped
         ensures { λ r. ⌜ r ≡ refusedStep self number place ⌝ }
@@ -77,23 +62,27 @@ impl Table {
         }
     }
 
-    // R45, R48: a tick in which the slot named, or none, is served.
+    // R45 to R48: a tick in which the slot named, or none, is served: what each slot holds then, or 14 at the lowest whose period ends short (R34).
     fn advance(self, w: Which) -> Stepped
         requires { ⌜ self .clock < 2 ^ 48 ⌝ }
         ensures { λ r. ⌜ r ≡ advance (slotOf w) self ⌝ }
     {
         let served = self.serve(w);
-        let late = served.lowest(line::Kind::Short);
-        match late {
-            Which::At(k) => self.refused(14, k),
-            Which::None => {
-                let mut next = served.pass();
-                next.clock = self.clock + 1;
-                Stepped {
-                    table: next,
-                    outcome: Outcome::Ran(w),
-                }
+        let mut next = served;
+        let mut i: usize = 0;
+        while i < 16 {
+            let s = next.slots[i];
+            if s.short() {
+                return self.refused(14, i);
             }
+            let later = s.passed();
+            next.slots[i] = later;
+            i = i + 1;
+        }
+        next.clock = self.clock + 1;
+        Stepped {
+            table: next,
+            outcome: Outcome::Ran(w),
         }
     }
 

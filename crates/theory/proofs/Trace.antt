@@ -6,7 +6,7 @@ use Prim.Native.Nat.{ℕ, suc, _+_, _-_, _<_}
 use native.Mathlib.Decide.{ℕ-discrete}
 use native.Mathlib.Omega.{arith}
 use borrow.Author.Tests.{lt-ltb, le-ltb, eq-eqb, ne-eqb}
-use lib.ListN.{length, length-set, length-map, List·getD-map}
+use lib.ListN.{length, length-map, List·getD-map}
 use lib.Seq.{getD-set-same, getD-set-other}
 use Rattle.line.specs.declared.Held.{Held}
 use Rattle.line.specs.declared.Held.the-variants.{Running, Waiting}
@@ -17,17 +17,13 @@ use Rattle.table.specs.Admit.{newLine}
 use Rattle.line.specs.Tick.{Owed, served, passed, servedSlot, passedSlot}
 use Rattle.table.specs.Step.{serve, pass}
 use Rattle.table.specs.Runs.{isSlot}
+use Rattle.table.proofs.Step.{length-serve}
 use Rattle.theory.specs.Fine.{May}
 use Rattle.theory.proofs.Numbers.{split}
 
 -- R45 to R47: what slot i holds a tick later
 pub at-pass : (l : List Slot) (i : ℕ) → at (pass l) i ≡ passed (at l i)
 at-pass l i = ap (λ (s : Slot). s .held) (List·getD-map passedSlot l i empty)
-
--- serving leaves the number of slots as it was
-pub length-serve : (o : Option ℕ) (l : List Slot) → length (serve o l) ≡ length l
-length-serve none l = refl
-length-serve (some k) l = length-set l k (servedSlot (slotAt l k))
 
 -- a tick leaves the number of slots as it was
 pub length-tick : (o : Option ℕ) (l : List Slot) → length (pass (serve o l)) ≡ length l
