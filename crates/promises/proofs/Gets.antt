@@ -192,4 +192,5 @@ at-start (stepping ∷ rest) t k C P (suc w) g b e = λ h.
     (λ l. one-more k C P (t .clock + suc w + 1) stepping rest t (subst (λ (s : Stepped). Starts k C P (t .clock + suc w) rest (s .table)) (sym (at-last t l)) (at-start rest t k C P (suc w) g b e) h))
     (λ l. let z : t .clock + 1 + w ≡ t .clock + suc w = omega arith in
     one-more k C P (t .clock + suc w + 1) stepping rest t (subst (λ (s : Stepped). Starts k C P (t .clock + suc w) rest (s .table)) (sym (step-table t g l))
-    (rw z at (at-start rest (next t) k C P w (good-next t g l) (rw (length-tick (choose (t .slots)) (t .slots)) b) (waits-on t k C P w e))) h))
+    (subst (λ (n : ℕ). Starts k C P n rest (next t)) z
+    (at-start rest (next t) k C P w (good-next t g l) (rw (length-tick (choose (t .slots)) (t .slots)) b) (waits-on t k C P w e))) h))
