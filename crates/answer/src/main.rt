@@ -54,7 +54,7 @@ fn put(line: [u8; 40], len: usize) -> bool
 
 // R60: says the line of a card.
 fn answer(card: &[u8]) {
-    let a: table::Answer = house::cards::answer(card);
+    let a: table::Answer = calls::cards::answer(card);
     let r = reply::reply_to(a);
     let line = r.bytes;
     if !put(line, r.len) {
@@ -65,7 +65,7 @@ fn answer(card: &[u8]) {
     }
 }
 
-// R60: one byte more is read than the longest card has: no byte after it changes an answer (house's theorem `answer-by-209`).
+// R60: one byte more is read than the longest card has: no byte after it changes an answer (the theorem `answer-by-209` of calls).
 fn main() {
     let mut card = [0u8; 209];
     let t = take(&mut card);

@@ -1,9 +1,2 @@
--- The laws of the boundary: what is read and loaded, the run, the operations; what follows for bytes; the edges.
-pub mod Said
-pub mod Run
-pub mod Operations
-pub mod Copied
-pub mod Theorems
-pub mod CaseA
+-- The edge of the version; the boundary's other laws are those of the calls.
 pub mod Edges
-pub mod Faults

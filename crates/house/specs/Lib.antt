@@ -1,5 +1,2 @@
--- What the boundary answers, and what lent bytes hold then.
-pub mod Results
-pub mod Cards
-pub mod Tables
-pub mod Moves
+-- The version of the boundary; all else that it answers is said by the definitions of the calls.
+pub mod Version

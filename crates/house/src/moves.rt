@@ -3,47 +3,13 @@ ghost use mathlib.Core.Path.{_≡_};
 ghost use lib.ListN.{length};
 ghost use Rattle.card.specs.Reading.{readOf};
 ghost use Rattle.image.specs.Loading.{loadOf};
-ghost use Rattle.image.specs.Answers.{storeOf, storedIn};
-ghost use Rattle.house.specs.Results.{resultOf};
-ghost use Rattle.house.specs.Tables.{requestOf};
-ghost use Rattle.house.specs.Moves.{eighteen, writeCardFor, cardAfter, readCardFor, imageAfter, numbersIf, numbersAfter};
-use crate::Result;
-use crate::cards::written;
+ghost use Rattle.calls.specs.Results.{resultOf};
+ghost use Rattle.calls.specs.Tables.{requestOf};
+ghost use Rattle.calls.specs.Moves.{writeCardFor, cardAfter, readCardFor, imageAfter, numbersAfter};
+use calls::Result;
 use card::CardAnswer;
-use card::WriteAnswer;
 use image::LoadAnswer;
 use table::Request;
-use table::Table;
-
-// R92: a request's eighteen numbers.
-fn numbers_of(q: Request) -> [u16; 18]
-    ensures { λ r. ⌜ r ≡ eighteen q ⌝ }
-{
-    let stretched = q.stretched;
-    let mut out = [0u16; 18];
-    let mut i: usize = 0;
-    while i < 16 {
-        out[i] = stretched[i];
-        i = i + 1;
-    }
-    out[16] = q.need;
-    out[17] = q.period;
-    out
-}
-
-// R92: the table and the request of a card, where the buffer has room for the image.
-fn move_in(t: Table, q: Request, table: &mut [u8], numbers: &mut [u16; 18]) -> Result
-    ensures { λ r. ⌜ (r ≡ resultOf (storeOf (length (now (table .entry))))) × (now (table .exit) ≡ storedIn t (now (table .entry))) × (now (numbers .exit) ≡ numbersIf q (storeOf (length (now (table .entry)))) (now (numbers .entry))) ⌝ }
-{
-    let w = image::store(t, table);
-    match w {
-        WriteAnswer::Length(_) => {
-            *numbers = numbers_of(q);
-            written(w)
-        }
-        WriteAnswer::Refused(_) => written(w),
-    }
-}
 
 // R91: the image is read and the card of its table and a request written; a refusal leaves every byte of the lent buffer.
 #[no_mangle]
@@ -60,8 +26,8 @@ pub extern "C" fn trimthuel_write_card(
     let said = i.answer;
     match said {
         LoadAnswer::Read => {
-            let q = crate::tables::request(need, period, *stretched);
-            written(writer::write(i.table, q, card))
+            let q = Request::new(*stretched, need, period);
+            calls::written(writer::write(i.table, q, card))
         }
         LoadAnswer::Refused(x) => Result::refused(x),
     }
@@ -79,7 +45,7 @@ pub extern "C" fn trimthuel_read_card(
     let c = reader::read(card);
     let said = c.answer;
     match said {
-        CardAnswer::Read => move_in(c.table, c.request, table, numbers),
+        CardAnswer::Read => calls::moves::move_in(c.table, c.request, table, numbers),
         CardAnswer::Refused(x) => Result::refused(x),
     }
 }

@@ -19,9 +19,9 @@ use Rattle.table.specs.Cases.{tableOf}
 use Rattle.image.specs.Image.{imageOf}
 use Rattle.image.specs.Loading.{blankFrom, slotsWrong, lengthWrong, wrongIn, heldIn, loadWith, loadOf}
 use Rattle.image.specs.Answers.{storeOf, storedIn}
-use Rattle.house.specs.declared.Result.{Result}
-use Rattle.house.specs.Results.{grantedAs, refusedAs}
-use Rattle.house.specs.Tables.{askFor, stepFor}
+use Rattle.calls.specs.declared.Result.{Result}
+use Rattle.calls.specs.Results.{grantedAs, refusedAs}
+use Rattle.calls.specs.Tables.{askFor, stepFor}
 use Rattle.promises.specs.Images.{NarrowRequest, Narrowed, AllNarrowed, imageRun, UnfailingStep}
 
 -- ---- bytes

@@ -36,11 +36,11 @@ use Rattle.reply.proofs.Line.{reply-settled, put-reply-settled}
 use Rattle.image.specs.Image.{imageOf}
 use Rattle.image.specs.Loading.{loadOf}
 use Rattle.image.specs.Answers.{handedOut, saidLoaded, storeOf, storedIn}
-use Rattle.house.specs.declared.Result.{Result}
-use Rattle.house.specs.Results.{grantedAs, resultOf}
-use Rattle.house.specs.Cards.{lineFor, saidPut, rewriteFor, rewrittenFor}
-use Rattle.house.specs.Tables.{changed, askedAs, askFor, afterAdmit, ranAs, stepFor, afterStep, ReadyFor}
-use Rattle.house.specs.Moves.{eighteen, writeCardFor, cardAfter, readCardFor, imageAfter, numbersAfter}
+use Rattle.calls.specs.declared.Result.{Result}
+use Rattle.calls.specs.Results.{grantedAs, resultOf}
+use Rattle.calls.specs.Cards.{lineFor, saidPut, rewriteFor, rewrittenFor}
+use Rattle.calls.specs.Tables.{changed, askedAs, askFor, afterAdmit, ranAs, stepFor, afterStep, ReadyFor}
+use Rattle.calls.specs.Moves.{eighteen, writeCardFor, cardAfter, readCardFor, imageAfter, numbersAfter}
 use Rattle.image.proofs.Exactly.{said-loaded}
 use Rattle.promises.specs.Contracts.{Drives}
 use Rattle.promises.specs.Demand1.{FixedAnswer, RefusalKeeps, One, Both}

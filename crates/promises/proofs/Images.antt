@@ -21,8 +21,8 @@ use Rattle.image.specs.Loading.{loadOf}
 use Rattle.image.specs.Answers.{storedIn}
 use Rattle.image.proofs.ReadsBack.{length-image, loads-back}
 use Rattle.image.proofs.Stored.{stored-is}
-use Rattle.house.specs.Results.{refusedAs}
-use Rattle.house.specs.Tables.{changed, askFor, admittedIn, afterAdmit, ranAs, steppedAs, stepFor, steppedIn, afterStep}
+use Rattle.calls.specs.Results.{refusedAs}
+use Rattle.calls.specs.Tables.{changed, askFor, admittedIn, afterAdmit, ranAs, steppedAs, stepFor, steppedIn, afterStep}
 use Rattle.promises.specs.Demand3.{Unfailing}
 use Rattle.promises.specs.Images.{AllNarrowed, imageBy, imageRun, LeftByContract, EmptyImage, ActsAlike, AnswersAlike, ImageRuns, ImageLoads, UnfailingStep, NeverMissedOnImages}
 use Rattle.promises.proofs.Demand3.{never-missed}

@@ -30,9 +30,9 @@ use Rattle.card.specs.Answers.{lengthOf, unlessWaiting, writeOf}
 use Rattle.image.specs.Loading.{wrongIn, tableIn, unlessWrong, loadWith, loadOf}
 use Rattle.image.specs.Answers.{storeOf}
 use Rattle.reply.specs.Line.{fits}
-use Rattle.house.specs.Results.{resultOf}
-use Rattle.house.specs.Cards.{saidPut, putOf, rewriteFor, rewriteOf, andThen, ticksRun, runAdmitted, runFor, runOf}
-use Rattle.house.specs.Moves.{writeCardFor, readCardFor}
+use Rattle.calls.specs.Results.{resultOf}
+use Rattle.calls.specs.Cards.{saidPut, putOf, rewriteFor, rewriteOf, andThen, ticksRun, runAdmitted, runFor, runOf}
+use Rattle.calls.specs.Moves.{writeCardFor, readCardFor}
 
 -- R63: if it is a refusal, its number is not 0
 abbrev pub Numbered : {A : Type 0} → Said A → Type 0

@@ -9,9 +9,9 @@ use Rattle.table.specs.Words.{Said, gives, refuses}
 use Rattle.table.specs.Ask.{says, askOf}
 use Rattle.table.specs.Step.{saysRan, stepOf}
 use Rattle.image.specs.Loading.{loadOf}
-use Rattle.house.specs.declared.Result.{Result}
-use Rattle.house.specs.Cards.{lineFor}
-use Rattle.house.specs.Tables.{askedAs, askFor, ranAs, stepFor, ReadyFor}
+use Rattle.calls.specs.declared.Result.{Result}
+use Rattle.calls.specs.Cards.{lineFor}
+use Rattle.calls.specs.Tables.{askedAs, askFor, ranAs, stepFor, ReadyFor}
 use Rattle.promises.specs.Demand1.{ToldApart}
 use Rattle.promises.proofs.Numbered.{Numbered, zero-grants, ask-numbered, step-numbered, load-numbered, store-numbered, put-numbered, rewrite-numbered, run-numbered, card-numbered, image-numbered}
 

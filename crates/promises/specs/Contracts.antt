@@ -21,11 +21,11 @@ use Rattle.reply.specs.Line.{answerLine, saidLength, lengthFor, heldAfter}
 use Rattle.image.specs.declared.Loaded.{Loaded}
 use Rattle.image.specs.Loading.{loadOf}
 use Rattle.image.specs.Answers.{handedOut, storeOf, storedIn}
-use Rattle.house.specs.declared.Result.{Result}
-use Rattle.house.specs.Results.{resultOf}
-use Rattle.house.specs.Cards.{lineFor, putOf, rewriteOf, rewrittenOf, runOf}
-use Rattle.house.specs.Tables.{askFor, afterAdmit, stepFor, afterStep, ReadyFor}
-use Rattle.house.specs.Moves.{writeCardFor, cardAfter, readCardFor, imageAfter, numbersAfter}
+use Rattle.calls.specs.declared.Result.{Result}
+use Rattle.calls.specs.Results.{resultOf}
+use Rattle.calls.specs.Cards.{lineFor, putOf, rewriteOf, rewrittenOf, runOf}
+use Rattle.calls.specs.Tables.{askFor, afterAdmit, stepFor, afterStep, ReadyFor}
+use Rattle.calls.specs.Moves.{writeCardFor, cardAfter, readCardFor, imageAfter, numbersAfter}
 
 -- R48: step, and driven, which steps a table of its own
 abbrev pub Steps : Table → Stepped → Type 0

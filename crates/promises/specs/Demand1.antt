@@ -26,9 +26,9 @@ use Rattle.reply.specs.Line.{answerLine, saidLength, Replied}
 use Rattle.image.specs.declared.Loaded.{Loaded}
 use Rattle.image.specs.Loading.{loadOf}
 use Rattle.image.specs.Answers.{saidLoaded, storeOf}
-use Rattle.house.specs.declared.Result.{Result}
-use Rattle.house.specs.Cards.{lineFor, putOf, rewriteOf, runOf}
-use Rattle.house.specs.Moves.{writeCardFor, readCardFor}
+use Rattle.calls.specs.declared.Result.{Result}
+use Rattle.calls.specs.Cards.{lineFor, putOf, rewriteOf, runOf}
+use Rattle.calls.specs.Moves.{writeCardFor, readCardFor}
 use Rattle.promises.specs.Contracts.{Steps, Drives, Reads, Writes, Puts, Loads, Stores, AnswersCard, Rewrites, RunsCard, Empties, AsksImage, AdmitsImage, StepsImage, ReadiesImage, WritesImage, ReadsImage}
 
 -- ---- one fixed answer

@@ -12,9 +12,9 @@ use Rattle.table.specs.Runs.{Act, asking, admitting, stepping, after, run}
 use Rattle.image.specs.Image.{size, imageOf, TableWidths}
 use Rattle.image.specs.Loading.{loadOf}
 use Rattle.image.specs.Answers.{storedIn}
-use Rattle.house.specs.declared.Result.{Result}
-use Rattle.house.specs.Results.{grantedAs, refusedAs, slotNumber}
-use Rattle.house.specs.Tables.{askedAs, askFor, afterAdmit, steppedAs, stepFor, afterStep}
+use Rattle.calls.specs.declared.Result.{Result}
+use Rattle.calls.specs.Results.{grantedAs, refusedAs, slotNumber}
+use Rattle.calls.specs.Tables.{askedAs, askFor, afterAdmit, steppedAs, stepFor, afterStep}
 use Rattle.promises.specs.Contracts.{Empties, AdmitsImage, StepsImage}
 use Rattle.promises.specs.Demand3.{Sixteen}
 

@@ -1,4 +1,4 @@
-// The stored set of cards, answered one after the other as the answering program (R60) answers one card: by `house::cards::answer`.
+// The stored set of cards, answered one after the other as the answering program (R60) answers one card: by `calls::cards::answer`.
 // A card is its length in two bytes, low byte first, and that many bytes; the length 65,535 ends the set.
 ghost use mathlib.Core.Path.{_≡_};
 ghost use Prim.Native.Nat.{_+_, _≤_};
@@ -81,7 +81,7 @@ fn answer_all(out: &mut [u8]) -> usize
         if !fill(&mut card, n) {
             return at;
         }
-        let a = house::cards::answer(&card[..n]);
+        let a = calls::cards::answer(&card[..n]);
         at = add(out, at, a);
         left -= 1;
     }

@@ -3,8 +3,8 @@ use mathlib.Core.Path.{ap, _∙_}
 use Rattle.table.specs.declared.Answer.{Answer}
 use Rattle.table.specs.Ask.{says}
 use Rattle.reply.specs.Line.{answerLine, heldAfter}
-use Rattle.house.specs.Results.{resultOf}
-use Rattle.house.specs.Cards.{putOf}
+use Rattle.calls.specs.Results.{resultOf}
+use Rattle.calls.specs.Cards.{putOf}
 use borrow.Author.Needs.{needs}
 use Rattle.house.proofs.cards.trimthuel_answer.Statement.{statement}
 use Rattle.house.proofs.cards.trimthuel_answer.Tie as tie

@@ -2,9 +2,9 @@
 use mathlib.Core.Path.{sym, ap, _∙_}
 use Rattle.table.specs.Words.{Said}
 use Rattle.card.specs.Card.{Card}
-use Rattle.house.specs.Results.{resultOf}
-use Rattle.house.specs.Cards.{runFor}
-use Rattle.house.proofs.Said.{was-read, was-refused}
+use Rattle.calls.specs.Results.{resultOf}
+use Rattle.calls.specs.Cards.{runFor}
+use Rattle.calls.proofs.Said.{was-read, was-refused}
 use borrow.Author.Needs.{needs}
 use Rattle.house.proofs.cards.trimthuel_run.Statement.{statement}
 use Rattle.house.proofs.cards.trimthuel_run.Tie as tie
@@ -12,7 +12,7 @@ use Rattle.house.proofs.cards.trimthuel_run.Tie as tie
 returns : tie.Need-returns
 returns c =
     let x = c .before .before .before .before .before .args in
-    c .run-admitted .ensures ∙ ap (λ (s : Said Card). resultOf (runFor (x .ticks) s)) (sym (was-read (x .card .now) (c .before .before .before .read .ensures) (c .before .enum-told .given .1)))
+    c .run .ensures ∙ ap (λ (s : Said Card). resultOf (runFor (x .ticks) s)) (sym (was-read (x .card .now) (c .before .before .before .read .ensures) (c .before .enum-told .given .1)))
 
 returns-2 : tie.Need-returns-2
 returns-2 c =

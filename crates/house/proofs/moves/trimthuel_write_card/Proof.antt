@@ -5,10 +5,10 @@ use Rattle.table.specs.Words.{Said}
 use lib.ListN.{length}
 use Rattle.table.specs.declared.Request.{Request}
 use Rattle.card.specs.Answers.{writeOf, bufferOf}
-use Rattle.house.specs.Results.{resultOf}
-use Rattle.house.specs.Tables.{requestOf}
-use Rattle.house.specs.Moves.{writeCardFor, cardAfter}
-use Rattle.house.proofs.Said.{was-loaded, not-loaded}
+use Rattle.calls.specs.Results.{resultOf}
+use Rattle.calls.specs.Tables.{requestOf}
+use Rattle.calls.specs.Moves.{writeCardFor, cardAfter}
+use Rattle.calls.proofs.Said.{was-loaded, not-loaded}
 use borrow.Author.Needs.{needs}
 use Rattle.house.proofs.moves.trimthuel_write_card.Statement.{statement}
 use Rattle.house.proofs.moves.trimthuel_write_card.Tie as tie
@@ -21,7 +21,7 @@ returns c =
     let i = c .before .before .before .before .before .before .before .before .before .load in
     let t = i .result .table in
     let p = c .before .before .before .write .ensures in
-    let e = c .before .before .before .before .before .request .ensures in
+    let e = c .before .before .before .before .before .new .ensures in
     let h = sym (was-loaded (x .table .now) (i .ensures) (c .before .before .before .before .before .before .before .enum-told .given .1)) in (
       c .written .ensures ∙ ap resultOf (p .0 ∙ ap (λ (r : Request). writeOf t r (length l)) e) ∙ ap (λ (s : Said Table). resultOf (writeCardFor s q (length l))) h,
       p .1 ∙ ap (λ (r : Request). bufferOf t r l) e ∙ ap (λ (s : Said Table). cardAfter s q l) h,

@@ -4,8 +4,8 @@ use Rattle.table.specs.declared.Table.{Table}
 use Rattle.table.specs.Words.{Said}
 use Rattle.table.specs.declared.Request.{Request}
 use Rattle.table.specs.Ask.{says, askOf}
-use Rattle.house.specs.Tables.{requestOf, askedAs, askFor, admittedIn, afterAdmit}
-use Rattle.house.proofs.Said.{was-loaded, not-loaded}
+use Rattle.calls.specs.Tables.{requestOf, askedAs, askFor, admittedIn, afterAdmit}
+use Rattle.calls.proofs.Said.{was-loaded, not-loaded}
 use borrow.Author.Needs.{needs}
 use Rattle.house.proofs.tables.trimthuel_admit.Statement.{statement}
 use Rattle.house.proofs.tables.trimthuel_admit.Tie as tie
@@ -17,8 +17,8 @@ returns c =
     let q = requestOf (x .need) (x .period) (x .stretched .now) in
     let i = c .before .before .before .before .before .before .before .before .load in
     let t = i .result .table in
-    let p = c .before .before .admit-into .ensures in
-    let e = c .before .before .before .before .request .ensures in
+    let p = c .before .before .admit .ensures in
+    let e = c .before .before .before .before .new .ensures in
     let h = sym (was-loaded l (i .ensures) (c .before .before .before .before .before .before .enum-told .given .1)) in (
       p .0 ∙ ap (λ (r : Request). askedAs t (says (askOf t r))) e ∙ ap (λ (s : Said Table). askFor s q) h,
       p .1 ∙ ap (λ (r : Request). admittedIn t r l) e ∙ ap (λ (s : Said Table). afterAdmit s q l) h,

@@ -2,7 +2,7 @@
 use mathlib.Core.Path.{ap, _∙_}
 use Rattle.table.specs.declared.Table.{Table}
 use Rattle.image.specs.Answers.{storedIn}
-use Rattle.house.specs.Results.{resultOf}
+use Rattle.calls.specs.Results.{resultOf}
 use borrow.Author.Needs.{needs}
 use Rattle.house.proofs.tables.trimthuel_empty.Statement.{statement}
 use Rattle.house.proofs.tables.trimthuel_empty.Tie as tie

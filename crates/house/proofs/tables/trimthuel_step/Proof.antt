@@ -2,8 +2,8 @@
 use mathlib.Core.Path.{sym, ap, _∙_}
 use Rattle.table.specs.declared.Table.{Table}
 use Rattle.table.specs.Words.{Said}
-use Rattle.house.specs.Tables.{stepFor, afterStep}
-use Rattle.house.proofs.Said.{was-loaded, not-loaded}
+use Rattle.calls.specs.Tables.{stepFor, afterStep}
+use Rattle.calls.proofs.Said.{was-loaded, not-loaded}
 use borrow.Author.Needs.{needs}
 use Rattle.house.proofs.tables.trimthuel_step.Statement.{statement}
 use Rattle.house.proofs.tables.trimthuel_step.Tie as tie
@@ -11,7 +11,7 @@ use Rattle.house.proofs.tables.trimthuel_step.Tie as tie
 returns : tie.Need-returns
 returns c =
     let l = c .before .before .before .before .before .before .before .before .before .args .table .now in
-    let p = c .before .before .step-into .ensures in
+    let p = c .before .before .step .ensures in
     let h = sym (was-loaded l (c .before .before .before .before .before .before .load .ensures) (c .before .before .before .before .enum-told .given .1)) in
     (p .0 ∙ ap stepFor h, p .1 ∙ ap (λ (s : Said Table). afterStep s l) h)
 

@@ -1,0 +1,118 @@
+-- The operations on images at their edges, by computation: what is answered and left for a table that was loaded, and for an image that is refused.
+use Prim.Native.Nat.{ℕ, zero, suc, _/_, _%_, _^_, _<_}
+use mathlib.Core.Path.{_≡_, refl}
+use mathlib.Core.List.{[], _∷_, _++_, map}
+use native.Mathlib.Omega.{arith}
+use lib.ListN.{replicate}
+use Rattle.periods.specs.Multiples.{euclid, gcdOf, lcmOf, frameFrom}
+use Rattle.line.specs.Slots.{at, total, lowest, mapAt}
+use Rattle.line.specs.Tick.{isOwed}
+use Rattle.line.specs.Streams.{due, every, endsBefore}
+use Rattle.line.specs.Demand.{lastEnd}
+use Rattle.line.specs.Shares.{periodsIn}
+use Rattle.line.specs.Ends.{endsOf, slack, bound, greatest, anyOf, start}
+use Rattle.table.specs.declared.Table.{Table}
+use Rattle.table.specs.Words.{tableWith, refusal, Said, gives, refuses}
+use Rattle.table.specs.Ask.{askIn, askOf}
+use Rattle.table.specs.Step.{chosen, advance, stepOf}
+use Rattle.table.specs.Cases.{running, waiting, tableOf, caseA}
+use Rattle.card.specs.Card.{carrying, cardOf}
+use Rattle.card.specs.Answers.{lengthOf}
+use Rattle.board.specs.Board.{bit}
+use Rattle.image.specs.Image.{imageOf}
+use Rattle.image.specs.Answers.{storeOf}
+use Rattle.calls.specs.Results.{grantedAs, refusedAs}
+use Rattle.calls.specs.Tables.{requestOf, changed, askFor, afterAdmit, stepFor, afterStep, ReadyFor}
+use Rattle.calls.specs.Moves.{eighteen, writeCardFor, cardAfter, readCardFor, imageAfter, numbersAfter}
+
+-- an image that is refused
+abbrev broken : Said Table
+broken = refuses (refusal 11 9)
+
+-- R6: need, period and the T' go where they belong
+pub request-edges : (requestOf 1 4 (32 ∷ 16 ∷ []) .stretched ≡ 32 ∷ 16 ∷ []) × (requestOf 1 4 (32 ∷ 16 ∷ []) .need ≡ 1) × (requestOf 1 4 (32 ∷ 16 ∷ []) .period ≡ 4)
+request-edges = (refl, refl, refl)
+
+-- R17: what is given changes the bytes, and a refusal leaves them
+pub changed-edges : (changed {A = ℕ} (gives 0) (1 ∷ []) (2 ∷ []) ≡ 1 ∷ []) × (changed {A = ℕ} (refuses (refusal 8 0)) (1 ∷ []) (2 ∷ []) ≡ 2 ∷ [])
+changed-edges = (refl, refl)
+
+-- R86, R67: case A's start is 13, in slot 2; a refusal is ask's, and an image's comes before it
+pub ask-edges : (askFor (gives (caseA .table)) (caseA .request) ≡ grantedAs 2 13)
+    × (askFor (gives (tableOf 0 (running 8 16 0 8 ∷ []))) (requestOf 9 16 (16 ∷ [])) ≡ refusedAs (refusal 8 0))
+    × (askFor (gives (tableOf 0 (waiting 1 4 3 ∷ []))) (requestOf 0 0 []) ≡ refusedAs (refusal 3 0))
+    × (askFor broken (caseA .request) ≡ refusedAs (refusal 11 9))
+unfolding euclid gcdOf lcmOf frameFrom total lowest due lastEnd mapAt periodsIn every endsBefore endsOf slack bound greatest anyOf start askIn askOf
+ask-edges = (refl, refl, refl, refl)
+
+-- R87: a refused admission and a refused image leave every byte
+pub admit-edges : (afterAdmit (gives (tableOf 0 (waiting 1 4 3 ∷ []))) (requestOf 0 0 []) (7 ∷ 8 ∷ []) ≡ 7 ∷ 8 ∷ [])
+    × (afterAdmit broken (caseA .request) (7 ∷ 8 ∷ []) ≡ 7 ∷ 8 ∷ [])
+unfolding lowest askOf
+admit-edges = (refl, refl)
+
+-- three ticks of need in two, after the first of them
+abbrev crowded : Table
+crowded = tableOf 0 (running 1 2 1 0 ∷ running 2 2 1 2 ∷ [])
+
+-- R88: the slot that ran, none, and each refusal of a step; an image's comes before them
+pub step-edges : map stepFor (
+    gives (tableOf 0 (running 1 4 0 0 ∷ running 1 4 0 1 ∷ [])) ∷ gives (tableOf 0 (running 1 4 0 0 ∷ waiting 1 4 2 ∷ [])) ∷ gives (tableOf (2 ^ 48) []) ∷ gives (tableOf 0 (running 0 4 0 0 ∷ [])) ∷ gives crowded ∷ broken ∷ [])
+    ≡ grantedAs 0 1 ∷ grantedAs 0 255 ∷ refusedAs (refusal 15 0) ∷ refusedAs (refusal 4 0) ∷ refusedAs (refusal 14 1) ∷ refusedAs (refusal 11 9) ∷ []
+unfolding lowest chosen advance stepOf
+step-edges = refl
+
+-- R88: a refused step and a refused image leave every byte
+pub step-leaves-edges : map (λ (s : Said Table). afterStep s (7 ∷ 8 ∷ [])) (gives (tableOf (2 ^ 48) []) ∷ gives crowded ∷ broken ∷ []) ≡ (7 ∷ 8 ∷ []) ∷ (7 ∷ 8 ∷ []) ∷ (7 ∷ 8 ∷ []) ∷ []
+unfolding lowest chosen advance stepOf
+step-leaves-edges = refl
+
+-- R89: an image's refusal is the whole answer
+pub ready-refused : ReadyFor broken (refusedAs (refusal 11 9))
+ready-refused = refl
+
+-- R89, R49: a word is the value, and the place is 0
+pub ready-granted-edges : ReadyFor (gives (tableWith 0 (running 2 4 0 2 ∷ []))) (grantedAs 0 1)
+ready-granted-edges = (refl, record { bits = bits; small = omega arith })
+  where
+    bits : (k : ℕ) → k < 1 → 1 / 2 ^ k % 2 ≡ bit (isOwed (at (running 2 4 0 2 ∷ []) k))
+    bits zero h = refl
+    bits (suc k) h = absurd (omega arith)
+
+-- R91: the image's refusal, then the writer's 3, then its 13
+pub write-edges : map (λ (s : Said Table). writeCardFor s (requestOf 1 4 []) 15) (broken ∷ gives (tableOf 0 (waiting 1 4 3 ∷ [])) ∷ gives (tableOf 0 []) ∷ [])
+    ≡ refuses (refusal 11 9) ∷ refuses (refusal 3 0) ∷ refuses (refusal 13 0) ∷ []
+unfolding lowest lengthOf cardOf
+write-edges = refl
+
+-- R91: the card of the table and the request, and the bytes after it as they were
+pub card-granted : (writeCardFor (gives (tableOf 0 [])) (requestOf 3 5 []) 16 ≡ gives 16)
+    × (cardAfter (gives (tableOf 0 [])) (requestOf 3 5 []) (replicate 17 7) ≡ 0x43 ∷ 0x4B ∷ 0 ∷ 0 ∷ 0 ∷ 0 ∷ 0 ∷ 0 ∷ 0 ∷ 0 ∷ 0x52 ∷ 0x51 ∷ 3 ∷ 0 ∷ 5 ∷ 0 ∷ 7 ∷ [])
+unfolding lowest lengthOf cardOf
+card-granted = (refl, refl)
+
+-- R92: the image of the card's table, and the byte after it as it was
+pub image-granted : imageAfter (gives (carrying (caseA .table) (caseA .request))) (replicate 154 7) ≡ imageOf (caseA .table) ++ (7 ∷ [])
+unfolding storeOf imageOf
+image-granted = refl
+
+-- R91: a refused image leaves every byte
+pub card-edges : cardAfter broken (requestOf 1 4 []) (7 ∷ 8 ∷ []) ≡ 7 ∷ 8 ∷ []
+card-edges = refl
+
+-- R92: the T' come first, then need and period
+pub eighteen-edges : eighteen (requestOf 1 4 (32 ∷ 16 ∷ [])) ≡ 32 ∷ 16 ∷ 1 ∷ 4 ∷ []
+eighteen-edges = refl
+
+-- R92: the reader's refusal comes before the room's; 152 bytes are too few, 153 are enough
+pub read-edges : (map (readCardFor (gives (carrying (caseA .table) (caseA .request)))) (152 ∷ 153 ∷ []) ≡ refuses (refusal 13 0) ∷ gives 153 ∷ [])
+    × (map (readCardFor (refuses (refusal 12 22))) (152 ∷ 153 ∷ []) ≡ refuses (refusal 12 22) ∷ refuses (refusal 12 22) ∷ [])
+unfolding storeOf
+read-edges = (refl, refl)
+
+-- R92: the numbers are written where the image is, and left where anything is refused
+pub numbers-edges : (map (λ (room : ℕ). numbersAfter (gives (carrying (caseA .table) (requestOf 1 4 (32 ∷ [])))) room (7 ∷ [])) (152 ∷ 153 ∷ []) ≡ (7 ∷ []) ∷ (32 ∷ 1 ∷ 4 ∷ []) ∷ [])
+    × (numbersAfter (refuses (refusal 11 0)) 153 (7 ∷ []) ≡ 7 ∷ []) × (imageAfter (refuses (refusal 11 0)) (7 ∷ 8 ∷ []) ≡ 7 ∷ 8 ∷ [])
+    × (imageAfter (gives (carrying (caseA .table) (caseA .request))) (7 ∷ 8 ∷ []) ≡ 7 ∷ 8 ∷ [])
+unfolding storeOf
+numbers-edges = (refl, refl, refl, refl)

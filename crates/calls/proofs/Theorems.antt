@@ -1,0 +1,73 @@
+-- What follows for bytes: 209 of them settle a card's answer, a card that reads is written back byte for byte, and an image that was changed is the new table's.
+use mathlib.Core.Path.{_≡_, ap, _∙_}
+use mathlib.Core.List.{List, _++_, append-nil}
+use mathlib.Core.Option.{Option}
+use mathlib.Core.Bool.{Bool}
+use Prim.Native.Nat.{ℕ, _≤_, _<_}
+use native.Mathlib.Omega.{arith}
+use lib.ListN.{length, take, drop, drop-of-length-le}
+use lib.Dec.{leb}
+use borrow.Author.Tests.{le-leb, lt-leb}
+use Rattle.table.specs.declared.Table.{Table}
+use Rattle.table.specs.declared.Request.{Request}
+use Rattle.table.specs.Words.{refusal, Said, gives}
+use Rattle.table.specs.Ask.{says, askOf}
+use Rattle.table.specs.Admit.{admitOf}
+use Rattle.table.specs.Step.{saysRan, stepOf}
+use Rattle.card.specs.Bytes.{Bytes}
+use Rattle.card.specs.Card.{Card}
+use Rattle.card.specs.Reading.{readOf}
+use Rattle.card.specs.Answers.{filled}
+use Rattle.card.proofs.Rewritten.{fitting, write-is, buffer-is}
+use Rattle.card.proofs.Prefix.{verdict-by-209}
+use Rattle.image.specs.Image.{imageOf}
+use Rattle.image.specs.Loading.{loadOf}
+use Rattle.image.specs.Answers.{storedIn}
+use Rattle.image.proofs.WritesBack.{loaded-length}
+use Rattle.image.proofs.Stored.{stored-is}
+use Rattle.calls.specs.Tables.{changed, afterAdmit, afterStep}
+use Rattle.calls.specs.Results.{grantedAs, refusedAs, resultOf}
+use Rattle.calls.specs.Cards.{answerFor, answerOf, rewriteFor, rewriteOf, rewrittenFor, rewrittenOf}
+
+-- R60: the first 209 bytes settle the answer
+pub answer-by-209 : (l m : List ℕ) → take 209 l ≡ take 209 m → answerOf l ≡ answerOf m
+answer-by-209 l m e = ap answerFor (verdict-by-209 l m e)
+
+-- a card that reads, before a buffer
+module _ (card buffer : List ℕ) (b : Bytes card) (c : Card) (e : readOf card ≡ gives c) where
+  -- what is answered and held once the test of the length has come out
+  answered : {o : Bool} → leb (length card) (length buffer) ≡ o
+      → (rewriteOf card (length buffer) ≡ fitting card o) × (rewrittenOf card buffer ≡ filled card buffer (fitting card o))
+  answered h = (
+    ap (λ (s : Said Card). rewriteFor s (length buffer)) e ∙ write-is 16 card buffer b c e h,
+    ap (λ (s : Said Card). rewrittenFor s buffer) e ∙ buffer-is 16 card buffer b c e h,
+  )
+
+  -- R65, R72: a card that reads is put back byte for byte, and what stands after it in the buffer stays
+  pub rewrites-back : length card ≤ length buffer
+      → (resultOf (rewriteOf card (length buffer)) ≡ grantedAs 0 (length card)) × (rewrittenOf card buffer ≡ card ++ drop (length card) buffer)
+  rewrites-back h = let a = answered (le-leb (length card) (length buffer) h) in (ap resultOf (a .0), a .1)
+
+  -- R33, R65: a buffer that is too short gets refusal 13, and every byte stays
+  pub short-buffer : length buffer < length card → (resultOf (rewriteOf card (length buffer)) ≡ refusedAs (refusal 13 0)) × (rewrittenOf card buffer ≡ buffer)
+  short-buffer h = let a = answered (lt-leb (length card) (length buffer) h) in (ap resultOf (a .0), a .1)
+
+-- R84: a buffer that an image fills holds a stored table's image and nothing else
+pub stored-image : (l : List ℕ) (t u : Table) → loadOf l ≡ gives t → storedIn u l ≡ imageOf u
+stored-image l t u e =
+    let n : length l ≡ 153 = loaded-length 16 l t e in
+    stored-is u l (omega arith) ∙ ap (λ (x : List ℕ). imageOf u ++ x) (drop-of-length-le l {i = 153} (omega arith)) ∙ append-nil (imageOf u)
+
+-- bytes that load as a table
+module _ (l : List ℕ) (t : Table) (e : loadOf l ≡ gives t) where
+  -- R88: where a step is not refused they are the stepped table's image
+  pub step-leaves : (o : Option ℕ) → saysRan (stepOf t .outcome) ≡ gives o → afterStep (loadOf l) l ≡ imageOf (stepOf t .table)
+  step-leaves o h =
+      ap (λ (s : Said Table). afterStep s l) e ∙ ap (λ (s : Said (Option ℕ)). changed s (storedIn (stepOf t .table) l) l) h
+      ∙ stored-image l t (stepOf t .table) e
+
+  -- R87: where a request is granted they are the admitted table's image
+  pub admit-leaves : (q : Request) (r : ℕ) → says (askOf t q) ≡ gives r → afterAdmit (loadOf l) q l ≡ imageOf (admitOf t q .table)
+  admit-leaves q r h =
+      ap (λ (s : Said Table). afterAdmit s q l) e ∙ ap (λ (s : Said ℕ). changed s (storedIn (admitOf t q .table) l) l) h
+      ∙ stored-image l t (admitOf t q .table) e

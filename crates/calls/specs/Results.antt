@@ -1,0 +1,24 @@
+-- The three numbers that a call answers (R63).
+use Prim.Native.Nat.{ℕ}
+use mathlib.Core.Option.{Option, none, some}
+use Rattle.table.specs.declared.Refusal.{Refusal}
+use Rattle.table.specs.Words.{Said, gives, refuses}
+use Rattle.calls.specs.declared.Result.{Result}
+
+-- R63: granted, with a place and a value
+abbrev pub grantedAs : (place value : ℕ) → Result
+grantedAs k v = record { number = 0; place = k; value = v }
+
+-- R63: refused
+abbrev pub refusedAs : Refusal → Result
+refusedAs x = record { number = x .number; place = x .place; value = 0 }
+
+-- R63: what was asked for, or the refusal
+abbrev pub resultOf : Said ℕ → Result
+resultOf (gives v) = grantedAs 0 v
+resultOf (refuses x) = refusedAs x
+
+-- R63: a slot is its number, and none is 255
+abbrev pub slotNumber : Option ℕ → ℕ
+slotNumber none = 255
+slotNumber (some k) = k

@@ -1,0 +1,72 @@
+-- Operations on images: what each answers to what was loaded, and what the lent image holds then.
+use Prim.Native.Nat.{ℕ}
+use mathlib.Core.Path.{_≡_}
+use mathlib.Core.List.{List}
+use mathlib.Core.Option.{Option}
+use Rattle.line.specs.Slots.{isNothing, lowestOf}
+use Rattle.table.specs.declared.Table.{Table}
+use Rattle.table.specs.declared.Request.{Request}
+use Rattle.table.specs.Words.{requestWith, Said, gives, refuses}
+use Rattle.table.specs.Ask.{says, askOf}
+use Rattle.table.specs.Admit.{admitOf}
+use Rattle.table.specs.Step.{saysRan, stepOf}
+use Rattle.board.specs.Board.{ReadyWord}
+use Rattle.image.specs.Answers.{storedIn}
+use Rattle.calls.specs.declared.Result.{Result}
+use Rattle.calls.specs.Results.{grantedAs, refusedAs, slotNumber}
+
+-- R6: the request of a need, a period and the stretched periods
+abbrev pub requestOf : (need period : ℕ) → List ℕ → Request
+requestOf c p ts = requestWith ts c p
+
+-- R17: what the lent bytes hold after an answer; a refusal leaves every one
+abbrev pub changed : {A : Type 0} → Said A → (then before : List ℕ) → List ℕ
+changed (gives x) m l = m
+changed (refuses x) m l = l
+
+-- R86: the start, and the slot that the new line has or would have
+abbrev pub askedAs : Table → Said ℕ → Result
+askedAs t (gives start) = grantedAs (slotNumber (lowestOf isNothing (t .slots))) start
+askedAs t (refuses x) = refusedAs x
+
+-- R86: the image's refusal, or ask's answer
+abbrev pub askFor : Said Table → Request → Result
+askFor (gives t) q = askedAs t (says (askOf t q))
+askFor (refuses x) q = refusedAs x
+
+-- R87: the image of the admitted table
+abbrev pub admittedIn : Table → Request → List ℕ → List ℕ
+admittedIn t q l = changed (says (askOf t q)) (storedIn (admitOf t q .table) l) l
+
+-- R87: the lent image after admit
+abbrev pub afterAdmit : Said Table → Request → List ℕ → List ℕ
+afterAdmit (gives t) q l = admittedIn t q l
+afterAdmit (refuses x) q l = l
+
+-- R88: the slot that ran, or none
+abbrev pub ranAs : Said (Option ℕ) → Result
+ranAs (gives o) = grantedAs 0 (slotNumber o)
+ranAs (refuses x) = refusedAs x
+
+-- R88: a step of a table
+abbrev pub steppedAs : Table → Result
+steppedAs t = ranAs (saysRan (stepOf t .outcome))
+
+-- R88: the image of the stepped table
+abbrev pub steppedIn : Table → List ℕ → List ℕ
+steppedIn t l = changed (saysRan (stepOf t .outcome)) (storedIn (stepOf t .table) l) l
+
+-- R88: the image's refusal, or the step's answer
+abbrev pub stepFor : Said Table → Result
+stepFor (gives t) = steppedAs t
+stepFor (refuses x) = refusedAs x
+
+-- R88: the lent image after a step
+abbrev pub afterStep : Said Table → List ℕ → List ℕ
+afterStep (gives t) l = steppedIn t l
+afterStep (refuses x) l = l
+
+-- R89: the image's refusal, or the ready word
+abbrev pub ReadyFor : Said Table → Result → Type 0
+ReadyFor (gives t) r = (r ≡ grantedAs 0 (r .value)) × ReadyWord (t .slots) (r .value)
+ReadyFor (refuses x) r = r ≡ refusedAs x
