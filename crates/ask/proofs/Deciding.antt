@@ -23,7 +23,8 @@ use Rattle.line.specs.Stretch.{shrunk}
 use Rattle.table.specs.Ask.{askOf}
 use Rattle.line.proofs.Read.{seen}
 use Rattle.line.proofs.Search.{lowest-none, Looking, look-start, look-on, look-stop, look-end}
-use Rattle.ask.specs.Gathered.{Within, AllAllowed, pastFive}
+use Rattle.ask.specs.Asked.{Within}
+use Rattle.ask.specs.Gathered.{AllAllowed, pastFive}
 
 abbrev shrinks : Table → Request → ℕ → Bool
 shrinks t q i = shrunk (entry q i) (at (t .slots) i)

@@ -1,36 +1,25 @@
--- Which requests agree before a table, at an example with each thing that a slot can hold; and which answers and tables are allowed.
+-- Which requests agree before a table, at an example with each thing that a slot can hold; and which answers are allowed.
 use Prim.Native.Nat.{ℕ, zero, suc, _<_}
 use mathlib.Core.Path.{_≡_, refl, ap}
 use mathlib.Core.List.{[], _∷_}
 use native.Mathlib.Omega.{arith}
 use lib.ListN.{length, replicate}
-use Rattle.periods.specs.Multiples.{euclid, gcdOf, lcmOf, frameFrom}
 use Rattle.table.specs.declared.Table.{Table}
 use Rattle.table.specs.declared.Request.{Request}
 use Rattle.table.specs.declared.Answer.{Answer}
 use Rattle.table.specs.declared.Answer.the-variants.{Start, Refused}
-use Rattle.table.specs.declared.Admitted.{Admitted}
-use Rattle.line.specs.Slots.{empty, at, total, mapAt, isNothing, lowest}
-use Rattle.table.specs.Words.{emptyTable, requestWith, refusal}
-use Rattle.line.specs.Streams.{due, every, endsBefore}
-use Rattle.line.specs.Demand.{lastEnd}
+use Rattle.line.specs.Slots.{empty, at, lowest}
+use Rattle.table.specs.Words.{requestWith, refusal}
 use Rattle.table.specs.Grounds.{entry}
-use Rattle.line.specs.Shares.{periodsIn}
-use Rattle.line.specs.Ends.{endsOf, slack, bound, greatest, anyOf, start}
-use Rattle.table.specs.Ask.{askIn, askOf}
+use Rattle.table.specs.Ask.{askOf}
 use Rattle.table.specs.Cases.{running, waiting, tableOf}
-use Rattle.line.proofs.Search.{true-false}
 use Rattle.ask.specs.Agree.{Runs, Agree}
-use Rattle.ask.specs.Asked.{Asked, Admits}
-use Rattle.ask.proofs.Right.{asked, admits}
+use Rattle.ask.specs.Asked.{Asked}
+use Rattle.ask.proofs.Right.{asked}
 
 -- slot 0 runs a line, slot 1 holds nothing, slot 2 holds a waiting line
 abbrev pub mixed : Table
 mixed = tableOf 8 (running 1 4 0 1 ∷ empty ∷ waiting 2 6 3 ∷ [])
-
--- a table whose slot 0 runs a line of 3 in 5, at the beginning of a period
-abbrev pub firstIn : Table
-firstIn = tableOf 0 (running 3 5 0 3 ∷ [])
 
 -- a request with the entries of the first three slots, the need and the period
 abbrev pub asking : (first second third Cn Tn : ℕ) → Request
@@ -71,18 +60,3 @@ asked-elsewhere a = omega (arith, ap placeOf (a .computed))
     placeOf : Answer → ℕ
     placeOf (Start r) = 0
     placeOf (Refused x) = x .place
-
--- R17, R42: a refusal beside another table is not allowed
-pub refused-elsewhere : Admits mixed (asking 4 0 6 1 4) (record { table = emptyTable; answer = Refused (refusal 3 2) }) → ⊥
-unfolding lowest askOf
-refused-elsewhere a = omega (arith, ap (λ (x : Admitted). x .table .clock) (a .computed))
-
--- R42, R43: admitted to the empty table, the line runs in slot 0
-pub admits-first : Admits emptyTable (asking 0 0 0 3 5) (record { table = firstIn; answer = Start 0 })
-unfolding euclid gcdOf lcmOf frameFrom total lowest due lastEnd mapAt periodsIn every endsBefore endsOf slack bound greatest anyOf start askIn askOf
-admits-first = admits emptyTable (asking 0 0 0 3 5) refl
-
--- R42, R43: with the start, the table without the line is not allowed
-pub admits-nothing : Admits emptyTable (asking 0 0 0 3 5) (record { table = emptyTable; answer = Start 0 }) → ⊥
-unfolding euclid gcdOf lcmOf frameFrom total lowest due lastEnd mapAt periodsIn every endsBefore endsOf slack bound greatest anyOf start askIn askOf
-admits-nothing a = true-false refl (ap (λ (x : Admitted). isNothing (at (x .table .slots) 0)) (a .computed))

@@ -40,7 +40,8 @@ use Rattle.decide.specs.Lines.{Line, byPeriod, byGap, gatheredAt, lineOf, lines
 use Rattle.decide.specs.Decided.{refusedBy, decided, decidedIn, Near}
 use Rattle.decide.proofs.Matching.{frame-lines, share-lines, claim-lines, full-lines, any-lines, start-lines}
 use Rattle.ask.specs.declared.gather.Gathered.{Gathered}
-use Rattle.ask.specs.Gathered.{gatheredLines, Room, Gathers, Allowed, AllAllowed, pastFive, answerFrom, Within}
+use Rattle.ask.specs.Asked.{Within}
+use Rattle.ask.specs.Gathered.{gatheredLines, Room, Gathers, Allowed, AllAllowed, pastFive, answerFrom}
 use Rattle.ask.proofs.Packing.{fronts-decided}
 
 -- ---- each line is fit

@@ -1,8 +1,7 @@
--- The laws of the answer, of what is gathered for it, of the table that an admission leaves, and of requests that agree.
+-- The laws of the answer, of what is gathered for it, and of requests that agree.
 pub mod Deciding
 pub mod Packing
 pub mod LastGrounds
-pub mod Placing
 pub mod Agree
 pub mod Right
 pub mod Edges

@@ -57,8 +57,3 @@ pastFive t q =
 abbrev pub answerFrom : (clock : ℕ) → Decision → Answer
 answerFrom clock (decision.Start d) = Start (clock + d)
 answerFrom clock (decision.Refused n) = Refused (refusal n 0)
-
--- a start is at the clock or at most 65,535 ticks after it
-abbrev pub Within : ℕ → Answer → Type 0
-Within clock (Start r) = (clock ≤ r) × (r ≤ clock + 65535)
-Within clock (Refused x) = Unit {0}

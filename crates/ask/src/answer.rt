@@ -10,7 +10,8 @@ ghost use Rattle.table.specs.Words.{slotOf, refusal};
 ghost use Rattle.table.specs.Grounds.{entry};
 ghost use Rattle.table.specs.Ask.{askOf};
 ghost use Rattle.decide.specs.Decided.{decided};
-ghost use Rattle.ask.specs.Gathered.{gatheredLines, Room, answerFrom, Within};
+ghost use Rattle.ask.specs.Asked.{Within};
+ghost use Rattle.ask.specs.Gathered.{gatheredLines, Room, answerFrom};
 use crate::gather::Gathered;
 
 // R7, R21: the last clock that may ask, 2^48 − 65,536

@@ -1,42 +1,12 @@
-// Ask (R41) and admit (R42): the answer to a request, and the table with the new line in it.
+// Ask (R41): the answer to a request.
 mod answer; // the grounds in their order, or the start
 mod gather; // the lines, counted from the clock
-mod place; // the table with the new line in it
 
-ghost use mathlib.Core.Path.{_≡_};
-ghost use Rattle.table.specs.declared.Answer.the-variants.{Refused};
-ghost use Rattle.ask.specs.Asked.{Asked, Admits};
+ghost use Rattle.ask.specs.Asked.{Asked, Within};
 
 // R41: the refusal or the start, and nothing else
 pub fn ask(t: table::Table, q: table::Request) -> table::Answer
-    ensures { λ r. ⌜ Asked t q r ⌝ }
+    ensures { λ r. ⌜ Asked t q r × Within (t .clock) r ⌝ }
 {
     answer::answer(t, q)
-}
-
-// R17: with a refusal the table is handed back as it came
-fn untouched(t: table::Table, x: table::Refusal) -> table::Admitted
-    ensures { λ r. ⌜ r ≡ record { table = t; answer = Refused x } ⌝ }
-{
-    table::Admitted {
-        table: t,
-        answer: table::Answer::Refused(x),
-    }
-}
-
-// R42: ask's answer, and with a start the table that it leads to
-pub fn admit(t: table::Table, q: table::Request) -> table::Admitted
-    ensures { λ r. ⌜ Admits t q r ⌝ }
-{
-    let a = answer::answer(t, q);
-    match a {
-        table::Answer::Start(r) => {
-            let next = place::admitted(t, q, r);
-            table::Admitted {
-                table: next,
-                answer: table::Answer::Start(r),
-            }
-        }
-        table::Answer::Refused(x) => untouched(t, x),
-    }
 }

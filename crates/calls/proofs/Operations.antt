@@ -13,8 +13,9 @@ use Rattle.table.specs.declared.Outcome.{Outcome}
 use Rattle.table.specs.declared.Stepped.{Stepped}
 use Rattle.table.specs.Words.{slotOf, gives}
 use Rattle.table.specs.Ask.{says, askOf}
-use Rattle.table.specs.Admit.{admitWith, admitOf}
+use Rattle.table.specs.Admit.{admitOf}
 use Rattle.table.specs.Step.{saysRan, stepOf}
+use Rattle.admit.proofs.Right.{admitted-answer}
 use Rattle.board.specs.Board.{ReadyWord}
 use Rattle.image.specs.Answers.{storedIn}
 use Rattle.calls.specs.declared.Result.{Result}
@@ -25,14 +26,10 @@ use Rattle.calls.specs.Tables.{changed, askedAs, admittedIn, ranAs, step
 pub ready-granted : (t : Table) {r : Result} {w : ℕ} → r ≡ grantedAs 0 w → ReadyWord (t .slots) w → ReadyFor (gives t) r
 ready-granted t e h = rw e (refl, h)
 
-answer-with : (t : Table) (q : Request) (a : Answer) → admitWith t q a .answer ≡ a
-answer-with t q (Start r) = refl
-answer-with t q (Refused x) = refl
-
 module _ (t : Table) (q : Request) {m : Admitted} (e : m ≡ admitOf t q) where
   -- R42: admit answers what ask answers
   pub admit-answer : m .answer ≡ askOf t q
-  admit-answer = ap (λ (x : Admitted). x .answer) e ∙ answer-with t q (askOf t q)
+  admit-answer = ap (λ (x : Admitted). x .answer) e ∙ admitted-answer t q (askOf t q)
 
   -- R87: with a start the admitted table was stored
   pub admit-granted : {r : ℕ} {o : List ℕ} (l : List ℕ) → m .answer ≡ Start r → o ≡ storedIn (m .table) l → o ≡ admittedIn t q l

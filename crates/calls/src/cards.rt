@@ -77,7 +77,7 @@ fn run_table(start: Table, ticks: u16) -> Result
 pub fn run(t: Table, q: Request, ticks: u16) -> Result
     ensures { λ r. ⌜ r ≡ resultOf (runAdmitted ticks (admitOf t q)) ⌝ }
 {
-    let m = ask::admit(t, q);
+    let m = admit::admit(t, q);
     let a = m.answer;
     match a {
         Answer::Start(_) => run_table(m.table, ticks),

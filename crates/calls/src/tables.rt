@@ -31,7 +31,7 @@ pub fn ask(t: Table, q: Request) -> Result
 pub fn admit(t: Table, q: Request, out: &mut [u8]) -> Result
     ensures { λ r. ⌜ (r ≡ askedAs t (says (askOf t q))) × (now (out .exit) ≡ admittedIn t q (now (out .entry))) ⌝ }
 {
-    let m = ask::admit(t, q);
+    let m = admit::admit(t, q);
     let a = m.answer;
     match a {
         Answer::Start(_) => {

@@ -25,7 +25,8 @@ use Rattle.table.proofs.Step.{refused-keeps}
 use Rattle.board.proofs.Word.{word-unique}
 use Rattle.theory.proofs.Answers.{ask-answers}
 use Rattle.theory.proofs.Unique.{answers-unique}
-use Rattle.ask.proofs.Right.{asked-unique, admits-unique}
+use Rattle.ask.proofs.Right.{asked-unique}
+use Rattle.admit.proofs.Right.{admits-unique}
 use Rattle.card.specs.Card.{Card, cardOf}
 use Rattle.card.specs.Reading.{readOf}
 use Rattle.card.specs.Answers.{handed, saidRead, writeOf, filled}

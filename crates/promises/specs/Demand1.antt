@@ -16,7 +16,8 @@ use Rattle.table.specs.Grounds.{grounds, FirstOf, Answers}
 use Rattle.table.specs.Ask.{says, askOf}
 use Rattle.table.specs.Step.{saysRan, stepOf}
 use Rattle.board.specs.Board.{ReadyWord, blinks}
-use Rattle.ask.specs.Asked.{Asked, Admits}
+use Rattle.ask.specs.Asked.{Asked}
+use Rattle.admit.specs.Admits.{Admits}
 use Rattle.card.specs.declared.ReadCard.{ReadCard}
 use Rattle.card.specs.declared.WriteAnswer.{WriteAnswer}
 use Rattle.card.specs.Reading.{readOf}

@@ -5,7 +5,7 @@ use Rattle.ask.proofs.ask.Statement.{statement}
 use Rattle.ask.proofs.ask.Tie as tie
 
 returns : tie.Need-returns
-returns c = asked (c .before .args .t) (c .before .args .q) (c .answer .ensures .0)
+returns c = (asked (c .before .args .t) (c .before .args .q) (c .answer .ensures .0), c .answer .ensures .1)
 
 pub ask-spec : {M : Type 1} → statement M
 ask-spec =

@@ -7,7 +7,7 @@ use Rattle.calls.proofs.cards.answer.Statement.{statement}
 use Rattle.calls.proofs.cards.answer.Tie as tie
 
 returns : tie.Need-returns
-returns c = c .ask .ensures .computed ∙ ap answerFor (sym (was-read (c .before .before .before .before .before .args .card .now) (c .before .before .before .read .ensures) (c .before .enum-told .given .1)))
+returns c = c .ask .ensures .0 .computed ∙ ap answerFor (sym (was-read (c .before .before .before .before .before .args .card .now) (c .before .before .before .read .ensures) (c .before .enum-told .given .1)))
 
 returns-2 : tie.Need-returns-2
 returns-2 c = ap answerFor (sym (was-refused (c .before .before .before .before .before .args .card .now) (c .before .before .before .read .ensures) _ (c .before .said .given .1)))

@@ -8,7 +8,7 @@ use Rattle.calls.proofs.tables.ask.Statement.{statement}
 use Rattle.calls.proofs.tables.ask.Tie as tie
 
 returns : tie.Need-returns
-returns c = c .asked .ensures ∙ ap (λ (a : Answer). askedAs (c .before .before .args .t) (says a)) (c .before .ask .ensures .computed)
+returns c = c .asked .ensures ∙ ap (λ (a : Answer). askedAs (c .before .before .args .t) (says a)) (c .before .ask .ensures .0 .computed)
 
 pub ask-spec : {M : Type 1} → statement M
 ask-spec = tie.close (tie.spec (λ c κs. search needs) (λ c κs. search needs) returns)

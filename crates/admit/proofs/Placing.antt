@@ -14,8 +14,7 @@ use Rattle.table.specs.declared.Admitted.{Admitted}
 use Rattle.line.specs.Slots.{holding, isNothing, lowestOf}
 use Rattle.table.specs.Words.{withSlots}
 use Rattle.table.specs.Grounds.{asked}
-use Rattle.table.specs.Ask.{askOf}
-use Rattle.table.specs.Admit.{newLine, admittedAt, admitWith, admitOf}
+use Rattle.table.specs.Admit.{newLine, admittedAt, admitWith}
 
 module _ (t : Table) (q : Request) (r : ℕ) {next : Table} (e : next ≡ withSlots t (asked t q)) where
   -- with no empty slot there is no place
@@ -32,12 +31,12 @@ module _ (t : Table) (q : Request) (r : ℕ) {next : Table} (e : next ≡ withSl
       ∙ ap (λ (x : Slot). withSlots t (set (asked t q) k x)) (i ∙ ap holding h)
       )
 
-module _ (t : Table) (q : Request) {a : Answer} (e : a ≡ askOf t q) where
+module _ (t : Table) (q : Request) {a : Answer} where
   -- R42: with a start, the table with the new line in it
-  pub admit-start : {r : ℕ} {u : Table} → a ≡ Start r → u ≡ admittedAt t q r → _≡_ {A = Admitted} (record { table = u; answer = Start r }) (admitOf t q)
+  pub admit-start : {r : ℕ} {u : Table} → a ≡ Start r → u ≡ admittedAt t q r → _≡_ {A = Admitted} (record { table = u; answer = Start r }) (admitWith t q a)
   admit-start {r} g h =
-      ap (λ (x : Table). let y : Admitted = record { table = x; answer = Start r } in y) h ∙ ap (admitWith t q) (sym g ∙ e)
+      ap (λ (x : Table). let y : Admitted = record { table = x; answer = Start r } in y) h ∙ ap (admitWith t q) (sym g)
 
   -- R17, R42: with a refusal, the table as it was
-  pub admit-refused : {x : Refusal} → a ≡ Refused x → _≡_ {A = Admitted} (record { table = t; answer = Refused x }) (admitOf t q)
-  admit-refused g = ap (admitWith t q) (sym g ∙ e)
+  pub admit-refused : {x : Refusal} → a ≡ Refused x → _≡_ {A = Admitted} (record { table = t; answer = Refused x }) (admitWith t q a)
+  admit-refused g = ap (admitWith t q) (sym g)

@@ -3,8 +3,8 @@ use mathlib.Core.Path.{_∙_}
 use native.Mathlib.Omega.{arith}
 use borrow.Author.Needs.{needs}
 use borrow.Author.Tests.{lt-ltb, le-ltb}
-use Rattle.ask.proofs.place.new_line.Statement.{statement}
-use Rattle.ask.proofs.place.new_line.Tie as tie
+use Rattle.admit.proofs.place.new_line.Statement.{statement}
+use Rattle.admit.proofs.place.new_line.Tie as tie
 
 returns : tie.Need-returns
 returns c = let h = c .before .if1 .taken in c .waiting .ensures ∙ simp (lt-ltb 0 (c .before .before .args .wait) (omega arith))

@@ -6,9 +6,9 @@ use borrow.Author.Needs.{needs}
 use Rattle.line.specs.Slots.{at, isNothing}
 use Rattle.table.specs.Words.{slotOf}
 use Rattle.line.proofs.Search.{lowest-below}
-use Rattle.ask.proofs.Placing.{put-nowhere, put-at}
-use Rattle.ask.proofs.place.admitted.Statement.{statement}
-use Rattle.ask.proofs.place.admitted.Tie as tie
+use Rattle.admit.proofs.Placing.{put-nowhere, put-at}
+use Rattle.admit.proofs.place.admitted.Statement.{statement}
+use Rattle.admit.proofs.place.admitted.Tie as tie
 
 put-requires : tie.Need-put-requires
 put-requires c κs =

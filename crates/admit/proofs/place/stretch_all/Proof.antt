@@ -6,8 +6,8 @@ use Rattle.line.specs.Stretch.{stretchSlot}
 use Rattle.line.proofs.Loops.{Mapping, map-start, map-on, map-end}
 use Rattle.table.specs.Grounds.{entry}
 use Rattle.table.proofs.Step.{OnlySlots, only-none, only-on, only-end}
-use Rattle.ask.proofs.place.stretch_all.Statement.{statement}
-use Rattle.ask.proofs.place.stretch_all.Tie as tie
+use Rattle.admit.proofs.place.stretch_all.Statement.{statement}
+use Rattle.admit.proofs.place.stretch_all.Tie as tie
 
 abbrev Inv-loop : tie.InvT-loop
 Inv-loop q next₀ i₀ next i = OnlySlots next₀ next × Mapping (λ k. stretchSlot (entry q k)) 16 (next₀ .slots) (next .slots) i

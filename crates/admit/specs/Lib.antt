@@ -1,0 +1,2 @@
+-- What admit promises.
+pub mod Admits
