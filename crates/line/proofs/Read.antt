@@ -9,7 +9,8 @@ use Rattle.line.specs.declared.Held.{Held}
 use Rattle.line.specs.declared.Slot.{Slot}
 use Rattle.line.specs.Slots.{empty, at}
 
-read-any : (l : List Slot) (i : ℕ) (d : Slot) → i < length l → getD l i d ≡ getD l i empty
+-- what the code would read past the end does not count
+pub read-any : (l : List Slot) (i : ℕ) (d : Slot) → i < length l → getD l i d ≡ getD l i empty
 read-any [] i d h = absurd (omega arith)
 read-any (s ∷ l) zero d h = refl
 read-any (s ∷ l) (suc i) d h = read-any l i d (le-of-suc-le-suc h)

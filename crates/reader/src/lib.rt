@@ -168,10 +168,10 @@ fn records(card: &[u8]) -> ReadCard
         let r = record_at(card, at, 16 - i);
         match r {
             Record::Slot(x) => {
-                table.slots[i] = x.slot();
-                request.stretched[i] = x.stretched;
-                at = at + x.length();
                 gap = x.is_free();
+                at = at + x.length();
+                request.stretched[i] = x.stretched;
+                table.slots[i] = x.slot();
                 i = i + 1;
             }
             Record::Last(need, period) => {

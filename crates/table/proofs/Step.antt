@@ -3,12 +3,13 @@ use Prim.Native.Nat.{ℕ, _+_, _^_, _≤_, _<_}
 use mathlib.Core.Path.{_≡_, refl, ap, ap₂, sym, _∙_}
 use mathlib.Core.Bool.{Bool, true, false, not}
 use mathlib.Core.Option.{Option, none, some}
-use mathlib.Core.List.{List}
+use mathlib.Core.List.{List, [], _∷_, map}
 use native.Mathlib.Omega.{arith}
-use borrow.Author.Tests.{le-leb, lt-leb}
-use lib.Dec.{leb}
+use native.Mathlib.Nat.{suc-inj}
+use borrow.Author.Tests.{le-leb, lt-leb, eqb-true, eqb-false, eq-eqb, ne-eqb}
+use lib.Dec.{leb, eqb}
 use lib.ListN.{length, getD, set, length-set}
-use lib.Seq.{set-out}
+use lib.Seq.{getD-set-same, getD-set-other}
 use Rattle.line.specs.declared.Slot.{Slot}
 use Rattle.table.specs.declared.Table.{Table}
 use Rattle.table.specs.declared.Refusal.{Refusal}
@@ -16,13 +17,13 @@ use Rattle.table.specs.declared.Which.{Which}
 use Rattle.table.specs.declared.Which.the-variants.{None, At}
 use Rattle.table.specs.declared.Outcome.the-variants.{Ran, Refused}
 use Rattle.table.specs.declared.Stepped.{Stepped}
-use Rattle.line.specs.Slots.{pick, slotAt, at, lowestOf}
+use Rattle.line.specs.Slots.{pick, empty, slotAt, at, mapAt, lowestOf}
 use Rattle.table.specs.Words.{withSlots, laterWith, slotOf, whichOf}
 use Rattle.line.specs.Sound.{sound}
-use Rattle.table.specs.Step.{choose, serve, pass, refusedStep, stepUnless, ticked, advance, stepOf}
+use Rattle.table.specs.Step.{choose, serve, servedAt, pass, refusedStep, stepUnless, ticked, advance, stepOf}
 use Rattle.line.specs.Tick.{servedSlot, passedSlot, short}
-use Rattle.line.proofs.Read.{seen}
-use Rattle.line.proofs.Loops.{Mapping, map-start, map-on, map-sees, map-end, map-every}
+use Rattle.line.proofs.Read.{read-any}
+use Rattle.line.proofs.Loops.{Mapping, map-start, map-on, map-end}
 use Rattle.line.proofs.Search.{Looking, look-start, look-on, look-stop, look-end}
 
 -- t is t₀ but for its slots: what a loop over the slots keeps
@@ -42,24 +43,37 @@ module _ {t₀ t : Table} (v : OnlySlots t₀ t) where
   pub only-end : {l : List Slot} → t .slots ≡ l → t ≡ withSlots t₀ l
   only-end e = v .same ∙ ap (withSlots t₀) e
 
--- the slot that the code names, taken for the one that is served
-module _ {w : Which} (l : List Slot) where
-  -- R45: where nobody is named nobody is served
-  pub serve-none : w ≡ None → l ≡ serve (slotOf w) l
-  serve-none e = rw e
-
-  -- R45: a number that is no slot's serves nobody
-  pub serve-out : {k : ℕ} → w ≡ At k → length l ≤ k → l ≡ serve (slotOf w) l
-  serve-out {k} e h = sym (ap (λ (x : Which). serve (slotOf x) l) e ∙ set-out l k (servedSlot (slotAt l k)) h)
-
-  -- R45: the slot named is served
-  pub serve-at : {k : ℕ} {s : Slot} → w ≡ At k → s ≡ servedSlot (slotAt l k) → set l k s ≡ serve (slotOf w) l
-  serve-at {k} e f = ap (λ (x : Slot). set l k x) f ∙ sym (ap (λ (x : Which). serve (slotOf x) l) e)
-
 -- serving leaves the number of slots as it was
 pub length-serve : (o : Option ℕ) (l : List Slot) → length (serve o l) ≡ length l
 length-serve none l = refl
 length-serve (some k) l = length-set l k (servedSlot (slotAt l k))
+
+-- slot i, which holds s, and the slot that the code names
+module _ {w : Which} {k i : ℕ} (s : Slot) (e : w ≡ At k) where
+  -- R45: it is named
+  pub served-here : k ≡ i → servedSlot s ≡ servedAt (slotOf w) i s
+  served-here z = rw (e, eq-eqb k i z)
+
+  -- R45: another is named
+  pub served-other : (k ≡ i → ⊥) → s ≡ servedAt (slotOf w) i s
+  served-other n = rw (e, ne-eqb k i n)
+
+-- R45: slot i of those among which one is served
+at-serve : (o : Option ℕ) (l : List Slot) (i : ℕ) → i < length l → slotAt (serve o l) i ≡ servedAt o i (slotAt l i)
+at-serve none l i h = refl
+at-serve (some k) l i h = go (eqb k i) refl
+  where
+    go : (b : Bool) → eqb k i ≡ b → slotAt (serve (some k) l) i ≡ pick b (servedSlot (slotAt l i)) (slotAt l i)
+    go true e = let z : k ≡ i = eqb-true k i e in rw z (getD-set-same l i (servedSlot (slotAt l i)) empty h)
+    go false e = getD-set-other l k i (servedSlot (slotAt l k)) empty (λ z. eqb-false k i e (sym z))
+
+-- the slots of m, each mapped, put in the place of as many others
+map-from : (f : Slot → Slot) (l m : List Slot) → length l ≡ length m → mapAt (λ k s. f (slotAt m k)) l ≡ map f m
+unfolding mapAt
+map-from f [] [] e = refl
+map-from f [] (y ∷ m) e = absurd (omega arith)
+map-from f (x ∷ l) [] e = absurd (omega arith)
+map-from f (x ∷ l) (y ∷ m) e = ap (λ (r : List Slot). f y ∷ r) (map-from f l m (suc-inj e))
 
 -- a slot named by the code's answer, and back
 which-of : (w : Which) → w ≡ whichOf (slotOf w)
@@ -71,50 +85,58 @@ pub slot-of-which : (o : Option ℕ) → slotOf (whichOf o) ≡ o
 slot-of-which none = refl
 slot-of-which (some k) = refl
 
--- a tick that has come to slot i of u: in v the slots below it are a tick later, and none of their periods ends short
-pub record Ticking (u v : Table) (i : ℕ) : Type 0 where
-  pub later : Mapping (λ k. passedSlot) 16 (u .slots) (v .slots) i
-  pub fine : Looking (λ k. short (at (u .slots) k)) (length (u .slots)) i
+-- a tick of t, with the slot o served, that has come to slot i: in v the slots below it are a tick later, and none of their periods ends short
+pub record Ticking (o : Option ℕ) (t v : Table) (i : ℕ) : Type 0 where
+  pub later : Mapping (λ k s. passedSlot (slotAt (serve o (t .slots)) k)) 16 (t .slots) (v .slots) i
+  pub fine : Looking (λ k. short (at (serve o (t .slots)) k)) (length (serve o (t .slots))) i
 
 -- no slot is passed
-pub tick-start : {u : Table} → length (u .slots) ≡ 16 → Ticking u u 0
-tick-start e = record { later = map-start (λ k. passedSlot) e; fine = look-start _ _ }
+pub tick-start : (o : Option ℕ) {t : Table} → length (t .slots) ≡ 16 → Ticking o t t 0
+tick-start o e = record { later = map-start _ e; fine = look-start _ _ }
 
-module _ {u v : Table} {i : ℕ} (x : Ticking u v i) where
-  -- what slot i was found to be, o, with b for the test's answer
-  module _ {b : Bool} (d : Slot) (h : i < 16) (e : b ≡ short (getD (v .slots) i d .held)) where
-    tick-sees : {o : Bool} → b ≡ o → short (at (u .slots) i) ≡ o
-    tick-sees g = seen short (u .slots) i d (e ∙ ap (λ (s : Slot). short (s .held)) (map-sees (x .later) d)) g (omega (arith, x .later .long))
+module _ {o : Option ℕ} {t v : Table} {i : ℕ} (x : Ticking o t v i) where
+  inside : i < 16 → i < length (serve o (t .slots))
+  inside h = omega (arith, x .later .long, length-serve o (t .slots))
+
+  -- what slot i holds after the slot named got the tick, s, with b for the test's answer
+  module _ (d : Slot) {s : Slot} {b : Bool} (h : i < 16) (g : s ≡ servedAt o i (getD (t .slots) i d)) (e : b ≡ short (s .held)) where
+    tick-here : s ≡ slotAt (serve o (t .slots)) i
+    tick-here =
+        let n : i < length (t .slots) = omega (arith, x .later .long) in
+        g ∙ ap (servedAt o i) (read-any (t .slots) i d n) ∙ sym (at-serve o (t .slots) i n)
+
+    tick-sees : short (at (serve o (t .slots)) i) ≡ b
+    tick-sees = sym (e ∙ ap (λ (y : Slot). short (y .held)) tick-here)
 
     -- R34: its period ends short
-    pub tick-short : b ≡ true → lowestOf short (u .slots) ≡ some i
-    tick-short g = look-stop (x .fine) (omega (arith, x .later .long)) (tick-sees g)
+    pub tick-short : b ≡ true → lowestOf short (serve o (t .slots)) ≡ some i
+    tick-short z = look-stop (x .fine) (inside h) (tick-sees ∙ z)
 
     -- R45 to R47: it does not, and the slot is a tick later
-    pub tick-on : {s : Slot} → b ≡ false → s ≡ passedSlot (getD (v .slots) i d) → Ticking u (withSlots v (set (v .slots) i s)) (i + 1)
-    tick-on g f = record { later = map-on (x .later) d h f; fine = look-on (x .fine) (omega (arith, x .later .long)) (tick-sees g) }
+    pub tick-on : {r : Slot} → b ≡ false → r ≡ passedSlot s → Ticking o t (withSlots v (set (v .slots) i r)) (i + 1)
+    tick-on z f = record { later = map-on (x .later) d h (f ∙ ap passedSlot tick-here); fine = look-on (x .fine) (inside h) (tick-sees ∙ z) }
 
   -- all slots are passed
-  pub tick-end : 16 ≤ i → (lowestOf short (u .slots) ≡ none) × (v .slots ≡ pass (u .slots))
-  tick-end h = (look-end (x .fine) (omega (arith, x .later .long)), map-end (x .later) h ∙ map-every passedSlot (u .slots))
+  pub tick-end : 16 ≤ i → (lowestOf short (serve o (t .slots)) ≡ none) × (v .slots ≡ pass (serve o (t .slots)))
+  tick-end h =
+      let n = length-serve o (t .slots) in
+      (look-end (x .fine) (omega (arith, x .later .long)), map-end (x .later) h ∙ map-from passedSlot (t .slots) (serve o (t .slots)) (sym n))
 
--- u is the table t in which the slot named is served
-module _ (t : Table) (w : Which) {u : Table} (eu : u ≡ withSlots t (serve (slotOf w) (t .slots))) where
-  advance-by : (o : Option ℕ) → lowestOf short (u .slots) ≡ o → stepUnless o 14 t (ticked (slotOf w) t) ≡ advance (slotOf w) t
+module _ (t : Table) (w : Which) where
+  advance-by : (o : Option ℕ) → lowestOf short (serve (slotOf w) (t .slots)) ≡ o → stepUnless o 14 t (ticked (slotOf w) t) ≡ advance (slotOf w) t
   unfolding advance
-  advance-by o e = ap (λ (p : Option ℕ). stepUnless p 14 t (ticked (slotOf w) t)) (sym e ∙ ap (λ (v : Table). lowestOf short (v .slots)) eu)
+  advance-by o e = ap (λ (p : Option ℕ). stepUnless p 14 t (ticked (slotOf w) t)) (sym e)
 
   -- R34: a period ends short
-  pub advance-short : {k : ℕ} → lowestOf short (u .slots) ≡ some k → refusedStep t 14 k ≡ advance (slotOf w) t
+  pub advance-short : {k : ℕ} → lowestOf short (serve (slotOf w) (t .slots)) ≡ some k → refusedStep t 14 k ≡ advance (slotOf w) t
   advance-short {k} e = advance-by (some k) e
 
   -- R45 to R47: none does, and every slot is a tick later
-  pub advance-fine : {l : List Slot} {next : Table} → lowestOf short (u .slots) ≡ none → l ≡ pass (u .slots) → next ≡ laterWith t l
-      → _≡_ {A = Stepped} (record { table = next; outcome = Ran w }) (advance (slotOf w) t)
-  advance-fine e el en =
-      ap₂ (λ (x : Table) (y : Which). let s : Stepped = record { table = x; outcome = Ran y } in s)
-      (en ∙ ap (laterWith t) (el ∙ ap (λ (x : Table). pass (x .slots)) eu)) (which-of w)
-      ∙ advance-by none e
+  pub advance-fine : {l : List Slot} {next : Table} → (lowestOf short (serve (slotOf w) (t .slots)) ≡ none) × (l ≡ pass (serve (slotOf w) (t .slots)))
+      → next ≡ laterWith t l → _≡_ {A = Stepped} (record { table = next; outcome = Ran w }) (advance (slotOf w) t)
+  advance-fine e en =
+      ap₂ (λ (x : Table) (y : Which). let s : Stepped = record { table = x; outcome = Ran y } in s) (en ∙ ap (laterWith t) (e .1)) (which-of w)
+      ∙ advance-by none (e .0)
 
 module _ (t : Table) where
   -- R35: at the last tick the step is refused with 15
@@ -122,18 +144,18 @@ module _ (t : Table) where
   unfolding stepOf
   step-late h = rw (le-leb (2 ^ 48) (t .clock) h)
 
-  module _ (early : t .clock < 2 ^ 48) (bad : Which) (eb : slotOf bad ≡ lowestOf (λ h. not (sound h)) (t .slots)) where
-    step-by : (o : Option ℕ) → slotOf bad ≡ o → stepUnless o 4 t (advance (choose (t .slots)) t) ≡ stepOf t
+  module _ (early : t .clock < 2 ^ 48) where
+    step-by : (o : Option ℕ) → lowestOf (λ h. not (sound h)) (t .slots) ≡ o → stepUnless o 4 t (advance (choose (t .slots)) t) ≡ stepOf t
     unfolding stepOf
-    step-by o e = rw (lt-leb (2 ^ 48) (t .clock) early) (ap (λ (p : Option ℕ). stepUnless p 4 t (advance (choose (t .slots)) t)) (sym e ∙ eb))
+    step-by o e = rw (lt-leb (2 ^ 48) (t .clock) early) (ap (λ (p : Option ℕ). stepUnless p 4 t (advance (choose (t .slots)) t)) (sym e))
 
     -- R24: with an unsound line it is refused with 4 at the lowest
-    pub step-unsound : {k : ℕ} → bad ≡ At k → refusedStep t 4 k ≡ stepOf t
-    step-unsound {k} e = step-by (some k) (ap slotOf e)
+    pub step-unsound : {k : ℕ} → lowestOf (λ h. not (sound h)) (t .slots) ≡ some k → refusedStep t 4 k ≡ stepOf t
+    step-unsound {k} e = step-by (some k) e
 
     -- R44: else the tick goes to the choice
-    pub step-fine : (w : Which) → bad ≡ None → slotOf w ≡ choose (t .slots) → advance (slotOf w) t ≡ stepOf t
-    step-fine w e ew = ap (λ (o : Option ℕ). advance o t) ew ∙ step-by none (ap slotOf e)
+    pub step-fine : (w : Which) → (lowestOf (λ h. not (sound h)) (t .slots) ≡ none) × (slotOf w ≡ choose (t .slots)) → advance (slotOf w) t ≡ stepOf t
+    step-fine w e = ap (λ (o : Option ℕ). advance o t) (e .1) ∙ step-by none (e .0)
 
 module _ (t : Table) (x : Refusal) where
   abbrev Keeps : Stepped → Type 0

@@ -4,6 +4,7 @@ pub mod Grounds
 pub mod Ask
 pub mod Admit
 pub mod Step
+pub mod Turn
 pub mod Runs
 pub mod Cases
 pub mod Faults

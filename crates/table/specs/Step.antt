@@ -3,7 +3,7 @@ use Prim.Native.Nat.{ℕ, zero, suc, _^_, _≤_, _<_}
 use mathlib.Core.Bool.{not}
 use mathlib.Core.List.{List, map}
 use mathlib.Core.Option.{Option, none, some}
-use lib.Dec.{ltb, leb}
+use lib.Dec.{ltb, leb, eqb}
 use lib.ListN.{length}
 use Rattle.line.specs.declared.Slot.{Slot}
 use Rattle.table.specs.declared.Table.{Table}
@@ -51,6 +51,11 @@ choose l = chosen (length l) l
 abbrev pub serve : Option ℕ → List Slot → List Slot
 serve none l = l
 serve (some j) l = putAt (some j) (servedSlot (slotAt l j)) l
+
+-- R45, of slot i alone: s is served where it is the slot named
+abbrev pub servedAt : Option ℕ → (i : ℕ) → Slot → Slot
+servedAt none i s = s
+servedAt (some k) i s = pick (eqb k i) (servedSlot s) s
 
 -- R45 to R47: every slot a tick later
 abbrev pub pass : List Slot → List Slot

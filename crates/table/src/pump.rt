@@ -1,24 +1,51 @@
 // The step of the pump, R44 to R48: who gets the tick, the table a tick later, and the refusals 15, 4, 14.
 ghost use mathlib.Core.Path.{_≡_};
 ghost use Prim.Native.Nat.{_+_, _^_, _<_};
-ghost use Rattle.table.specs.Words.{withSlots, slotOf};
-ghost use Rattle.table.specs.Step.{choose, serve, refusedStep, advance, stepOf};
+ghost use Rattle.table.specs.Words.{slotOf};
+ghost use Rattle.table.specs.Turn.{Turns};
+ghost use Rattle.table.specs.Step.{servedAt, refusedStep, advance, stepOf};
 use crate::Outcome;
 use crate::Refusal;
 use crate::Stepped;
 use crate::Table;
 use crate::Which;
 
+// R24, R44: to whom the tick goes, or the lowest slot whose line is unsound.
+enum Turn {
+    Of(Which),
+    Unsound(usize),
+}
+
+impl Which {
+    // R45: slot `i`, which held `s`, after the slot named has got the tick.
+    fn served(self, i: usize, s: line::Slot) -> line::Slot
+        ensures { λ r. ⌜ r ≡ servedAt (slotOf self) i s ⌝ }
+    {
+        match self {
+            Which::None => s,
+            Which::At(k) => {
+                if k == i {
+                    return s.served();
+                }
+                s
+            }
+        }
+    }
+}
+
 impl Table {
-    // R44: the least end of those owed, the lowest slot among equals.
-    fn choose(self) -> Which
-        ensures { λ r. ⌜ slotOf r ≡ choose (self .slots) ⌝ }
+    // R24, R44: the least end of those owed, the lowest slot among equals, if every line is sound. One loop for both: a table is copied for each.
+    fn choose(self) -> Turn
+        ensures { λ r. ⌜ Turns (self .slots) r ⌝ }
     {
         let mut best: usize = 16;
         let mut least: u32 = 65536;
         let mut i: usize = 0;
         while i < 16 {
             let s = self.slots[i];
+            if s.is(line::Kind::Unsound) {
+                return Turn::Unsound(i);
+            }
             let key = s.key();
             if key < least {
                 least = key;
@@ -27,28 +54,9 @@ impl Table {
             i = i + 1;
         }
         if best < 16 {
-            return Which::At(best);
+            return Turn::Of(Which::At(best));
         }
-        Which::None
-    }
-
-    // R45: the slot named gets the tick; a number that is no slot's serves nobody.
-    fn serve(self, w: Which) -> Table
-        ensures { λ r. ⌜ r ≡ withSlots self (serve (slotOf w) (self .slots)) ⌝ }
-    {
-        match w {
-            Which::None => self,
-            Which::At(k) => {
-                if 15 < k {
-                    return self;
-                }
-                let mut t = self;
-                let s = t.slots[k];
-                let next = s.served();
-                t.slots[k] = next;
-                t
-            }
-        }
+        Turn::Of(Which::None)
     }
 
     // R48, R17: the table as it was, and no slot ran.
@@ -67,11 +75,11 @@ impl Table {
         requires { ⌜ self .clock < 2 ^ 48 ⌝ }
         ensures { λ r. ⌜ r ≡ advance (slotOf w) self ⌝ }
     {
-        let served = self.serve(w);
-        let mut next = served;
+        let mut next = self;
         let mut i: usize = 0;
         while i < 16 {
-            let s = next.slots[i];
+            let old = self.slots[i];
+            let s = w.served(i, old);
             if s.short() {
                 return self.refused(14, i);
             }
@@ -93,13 +101,9 @@ impl Table {
         if 281474976710656 <= self.clock {
             return self.refused(15, 0);
         }
-        let bad = self.lowest(line::Kind::Unsound);
-        match bad {
-            Which::At(k) => self.refused(4, k),
-            Which::None => {
-                let w = self.choose();
-                self.advance(w)
-            }
+        match self.choose() {
+            Turn::Unsound(k) => self.refused(4, k),
+            Turn::Of(w) => self.advance(w),
         }
     }
 }

@@ -2,85 +2,47 @@
 use mathlib.Core.Path.{_≡_, refl, sym, ap, ap₂, _∙_}
 use mathlib.Core.List.{List, [], _∷_, _++_, append-assoc, append-nil}
 use mathlib.Core.Bool.{Bool, true, false}
-use mathlib.Core.Option.{Option, none, some}
+use mathlib.Core.Option.{none, some}
 use Prim.Native.Nat.{ℕ, zero, suc, _+_, _-_, _*_, _≤_, _<_}
 use native.Mathlib.Omega.{arith}
-use native.Mathlib.Decide.{decLt}
 use native.Mathlib.Nat.{le-of-suc-le-suc, add-comm}
 use native.Mathlib.Numerals.{add-one}
 use lib.ListN.{length, take, drop, getD, length-append, length-drop}
-use lib.Seq.{drop-cons, getD-drop}
+use lib.Seq.{take-all, getD-drop}
 use Rattle.line.specs.declared.Held.{Held}
 use Rattle.line.specs.declared.Held.the-variants.{Nothing, Running, Waiting}
 use Rattle.line.specs.declared.Slot.{Slot}
-use Rattle.line.specs.Slots.{pick, empty, isNothing, isWaiting, at, lowest, lowestOf}
-use Rattle.line.proofs.Search.{Found, found, found-unique, Looking, look-start, look-on, look-stop, look-end}
+use Rattle.line.specs.Slots.{pick, empty, isNothing, isWaiting, at, lowestOf}
+use Rattle.line.proofs.Search.{Looking, look-start, look-on, look-stop, look-end}
 use Rattle.card.specs.declared.Mark.{Mark}
 use Rattle.card.specs.declared.SlotRecord.{SlotRecord}
 use Rattle.card.specs.declared.Recorded.{Recorded}
 use Rattle.card.specs.declared.Recorded.the-variants.{As, No}
 use Rattle.card.specs.Layout.{markBytes, isFree, lineLength, recordLength}
 use Rattle.card.specs.Marked.{numbersOf, recordBytes, recordFor, recordedBytes}
-use Rattle.card.specs.Card.{slotRecord, slotRecords, oneMore, usedFrom, used}
+use Rattle.card.specs.Card.{slotRecord, slotRecords, usedFrom, used}
 use Rattle.card.proofs.Records.{bytes-length}
-use Rattle.card.proofs.Slots.{used-none, used-some}
-use Rattle.card.proofs.Length.{records-length, used-slots}
+use Rattle.card.proofs.Slots.{used-some}
+use Rattle.card.proofs.Length.{records-length}
 use Rattle.card.proofs.Parts.{put-at}
-use Rattle.writer.specs.Measured.{waitingIn}
 
-used-drop : (ss : List Slot) (k : ℕ) → k < length ss → isNothing (getD ss k empty .held) ≡ true → used (drop (suc k) ss) ≡ 0
-    → used (drop k ss) ≡ 0
-used-drop ss k h e u =
-    ap used (drop-cons ss k empty h) ∙ ap (λ (o : Bool). pick o (oneMore (used (drop (suc k) ss))) (suc (used (drop (suc k) ss)))) e ∙ ap oneMore u
+-- R55: the used ones of the first i slots, and one slot more, which the test tells to be empty or not
+module _ (ss : List Slot) (i : ℕ) (h : i < length ss) where
+  used-same : isNothing (at ss i) ≡ true → used (take (suc i) ss) ≡ used (take i ss)
+  used-same e = go ss i h e
+    where
+      go : (ss : List Slot) (i : ℕ) → i < length ss → isNothing (at ss i) ≡ true → used (take (suc i) ss) ≡ used (take i ss)
+      go [] i h e = absurd (omega arith)
+      go (s ∷ ss) zero h e = ap (λ (o : Bool). pick o 0 1) e
+      go (s ∷ ss) (suc i) h e = ap (usedFrom (s .held)) (go ss i (le-of-suc-le-suc h) e)
 
-used-last : (ss : List Slot) (k : ℕ) → k < length ss → isNothing (getD ss k empty .held) ≡ false → used (drop (suc k) ss) ≡ 0 → used ss ≡ suc k
-used-last [] k h e u = absurd (omega arith)
-used-last (s ∷ ss) zero h e u = ap (λ (o : Bool). pick o (oneMore (used ss)) (suc (used ss))) e ∙ ap suc u
-used-last (s ∷ ss) (suc k) h e u = ap (usedFrom (s .held)) (used-last ss k (le-of-suc-le-suc h) e u) ∙ used-some (isNothing (s .held)) (suc k) (λ a z. omega arith)
-
--- n slots, and none used after them: what the last of the n says
-module _ (ss : List Slot) (n : ℕ) (p : 0 < n) (h : n ≤ length ss) (u : used (drop n ss) ≡ 0) where
-  back : n ≡ suc (n - 1)
-  back = omega arith
-
-  -- R55: it is empty, and none is used from it on
-  pub used-less : isNothing (getD ss (n - 1) empty .held) ≡ true → used (drop (n - 1) ss) ≡ 0
-  used-less e = used-drop ss (n - 1) (omega arith) e (ap (λ (k : ℕ). used (drop k ss)) (sym back) ∙ u)
-
-  -- R55: it holds something, and is the last that does
-  pub used-at : isNothing (getD ss (n - 1) empty .held) ≡ false → n ≡ used ss
-  used-at e = back ∙ sym (used-last ss (n - 1) (omega arith) e (ap (λ (k : ℕ). used (drop k ss)) (sym back) ∙ u))
-
-behind : (o : Bool) (n i : ℕ) → pick o (oneMore n) (suc n) ≤ suc i → n ≤ i
-behind true zero i h = omega arith
-behind true (suc n) i h = omega arith
-behind false n i h = omega arith
-
--- R55: a slot behind the used ones holds nothing
-unused-holds : (ss : List Slot) (i : ℕ) → used ss ≤ i → isNothing (at ss i) ≡ true
-unused-holds [] i h = refl
-unused-holds (s ∷ ss) zero h = used-none (isNothing (s .held)) (used ss) (omega arith) .0
-unused-holds (s ∷ ss) (suc i) h = unused-holds ss i (behind (isNothing (s .held)) (used ss) i h)
-
-nothing-waits : (h : Held) → isNothing h ≡ true → isWaiting h ≡ false
-nothing-waits Nothing e = refl
-nothing-waits (Running r) e = refl
-nothing-waits (Waiting w) e = sym e
-
--- n of m slots, and the test finds none behind them
-module _ (test : ℕ → Bool) (n m : ℕ) (f : n ≤ m) (e : (i : ℕ) → n ≤ i → test i ≡ false) where
-  found-more : (o : Option ℕ) → Found test n o → Found test m o
-  found-more none v = λ i h. elim (decLt i n) [ yes p ↦ v i p | no q ↦ e i (omega arith) ]
-  found-more (some k) v = (omega arith, v .1, v .2)
-
-  -- a search of the n gives what a search of the m gives
-  lowest-more : lowest test n ≡ lowest test m
-  lowest-more = found-unique test m (lowest test n) (lowest test m) (found-more (lowest test n) (found test n)) (found test m)
-
--- R23, R55: the lowest waiting line of all stands among the used slots
-pub waiting-used : (ss : List Slot) → waitingIn (used ss) ss ≡ lowestOf isWaiting ss
-waiting-used ss =
-    lowest-more (λ i. isWaiting (at ss i)) (used ss) (length ss) (used-slots ss) (λ i h. nothing-waits (at ss i) (unused-holds ss i h))
+  used-all : isNothing (at ss i) ≡ false → used (take (suc i) ss) ≡ suc i
+  used-all e = go ss i h e
+    where
+      go : (ss : List Slot) (i : ℕ) → i < length ss → isNothing (at ss i) ≡ false → used (take (suc i) ss) ≡ suc i
+      go [] i h e = absurd (omega arith)
+      go (s ∷ ss) zero h e = ap (λ (o : Bool). pick o 0 1) e
+      go (s ∷ ss) (suc i) h e = ap (usedFrom (s .held)) (go ss i (le-of-suc-le-suc h) e) ∙ used-some (isNothing (s .held)) (suc i) (λ a z. omega arith)
 
 -- the first record, and then the others
 pub records-first : (n : ℕ) (s : Slot) (ss : List Slot) (ts : List ℕ)
@@ -133,11 +95,26 @@ waiting-lacks Nothing t = refl
 waiting-lacks (Running r) t = refl
 waiting-lacks (Waiting w) t = refl
 
+-- there is one, whose mark stands alone
+abbrev alone : Recorded → Bool
+alone (As r) = isFree (r .mark)
+alone No = false
+
+-- R53: that is the record of a slot that holds nothing
+nothing-alone : (h : Held) (t : ℕ) → isNothing h ≡ alone (recordFor h t)
+nothing-alone Nothing t = refl
+nothing-alone (Running r) t = refl
+nothing-alone (Waiting w) t = refl
+
 -- the slot h has the record r
 module _ (h : Held) (t : ℕ) (r : SlotRecord) (e : recordFor h t ≡ As r) where
   -- how long it is
   pub recorded-length : recordLength (r .mark) ≡ length (slotRecord h t)
   recorded-length = sym (ap (λ (x : Recorded). length (recordedBytes x)) e ∙ bytes-length r)
+
+  -- R55: the slot holds nothing exactly where its mark stands alone
+  recorded-free : isNothing h ≡ isFree (r .mark)
+  recorded-free = nothing-alone h t ∙ ap alone e
 
   -- R23: no line waits there
   recorded-started : isWaiting h ≡ false
@@ -162,42 +139,56 @@ module _ (h : Held) (t : ℕ) (e : recordFor h t ≡ No) where
   pub put-unrecorded : (l : List ℕ) → l ≡ slotRecord h t ++ drop (length (slotRecord h t)) l
   put-unrecorded l = ap (λ (x : Recorded). recordedBytes x ++ drop (length (recordedBytes x)) l) (sym e)
 
--- no line of the first i of n slots waits, and len is the length of their records
-pub record Counted (ss : List Slot) (ts : List ℕ) (n i len : ℕ) : Type 0 where
-  pub looked : Looking (λ k. isWaiting (at ss k)) n i
-  pub slots : n ≤ length ss
-  pub count : len ≡ length (slotRecords i ss ts)
+-- no line of the first i slots waits, and their records have all bytes; n of them are used, whose records have len
+pub record Counted (ss : List Slot) (ts : List ℕ) (i all n len : ℕ) : Type 0 where
+  pub looked : Looking (λ k. isWaiting (at ss k)) (length ss) i
+  pub total : all ≡ length (slotRecords i ss ts)
+  pub last : n ≡ used (take i ss)
+  pub count : len ≡ length (slotRecords n ss ts)
 
 -- no record is counted yet
-pub counted-start : (ss : List Slot) (ts : List ℕ) (n : ℕ) → n ≤ length ss → Counted ss ts n 0 0
-counted-start ss ts n a = record { looked = look-start _ n; slots = a; count = refl }
+pub counted-start : (ss : List Slot) (ts : List ℕ) → Counted ss ts 0 0 0 0
+counted-start ss ts = record { looked = look-start _ (length ss); total = refl; last = refl; count = refl }
 
-module _ {ss : List Slot} {ts : List ℕ} {n i len : ℕ} (m : Counted ss ts n i len) where
+module _ {ss : List Slot} {ts : List ℕ} {i all n len : ℕ} (m : Counted ss ts i all n len) where
   -- R53: no record is longer than a line's
-  pub counted-small : len ≤ lineLength * i
-  counted-small = omega (arith, records-length i ss ts, m .count)
+  pub counted-small : all ≤ lineLength * i
+  counted-small = omega (arith, records-length i ss ts, m .total)
 
-  -- R53: a record more
-  pub counted-on : i < n → (x : SlotRecord) → recordFor (at ss i) (getD ts i 0) ≡ As x → (r : ℕ) → r ≡ recordLength (x .mark)
-      → Counted ss ts n (i + 1) (len + r)
-  counted-on h x e r f = record {
-    looked = look-on (m .looked) h (recorded-started (at ss i) (getD ts i 0) x e);
-    slots = m .slots;
-    count =
-        (let a = length-on ss ts i (omega (arith, m .slots)) in
-        let b = recorded-length (at ss i) (getD ts i 0) x e in
-        omega (arith, m .count));
-  }
+  -- the next slot has the record x, of w bytes
+  module _ (h : i < length ss) (x : SlotRecord) (e : recordFor (at ss i) (getD ts i 0) ≡ As x) (w : ℕ) (f : w ≡ recordLength (x .mark)) where
+    looked-on : Looking (λ k. isWaiting (at ss k)) (length ss) (i + 1)
+    looked-on = look-on (m .looked) h (recorded-started (at ss i) (getD ts i 0) x e)
+
+    total-on : all + w ≡ length (slotRecords (i + 1) ss ts)
+    total-on = let a = length-on ss ts i h in let b = recorded-length (at ss i) (getD ts i 0) x e in omega (arith, m .total)
+
+    -- R55: TF: no slot more is used
+    pub counted-free : isFree (x .mark) ≡ true → Counted ss ts (i + 1) (all + w) n len
+    counted-free g = record {
+      looked = looked-on;
+      total = total-on;
+      last = m .last ∙ sym (ap (λ (k : ℕ). used (take k ss)) (add-one i) ∙ used-same ss i h (recorded-free (at ss i) (getD ts i 0) x e ∙ g));
+      count = m .count;
+    }
+
+    -- R53, R55: a line: all slots up to it are used
+    pub counted-line : isFree (x .mark) ≡ false → Counted ss ts (i + 1) (all + w) (i + 1) (all + w)
+    counted-line g = record {
+      looked = looked-on;
+      total = total-on;
+      last =
+          add-one i ∙ sym (ap (λ (k : ℕ). used (take k ss)) (add-one i) ∙ used-all ss i h (recorded-free (at ss i) (getD ts i 0) x e ∙ g));
+      count = total-on;
+    }
 
   -- R23: the first slot without a record is the lowest whose line waits
-  pub counted-stop : i < n → recordFor (at ss i) (getD ts i 0) ≡ No → waitingIn n ss ≡ some i
+  pub counted-stop : i < length ss → recordFor (at ss i) (getD ts i 0) ≡ No → lowestOf isWaiting ss ≡ some i
   counted-stop h e = look-stop (m .looked) h (unrecorded-waits (at ss i) (getD ts i 0) e)
 
-  -- R23, R53: every record is counted, and no line waits
-  pub counted-end : n ≤ i → (waitingIn n ss ≡ none) × (len ≡ length (slotRecords n ss ts))
-  counted-end h =
-      let j : i ≡ n = omega (arith, m .looked .upto) in
-      (look-end (m .looked) h, m .count ∙ ap (λ (k : ℕ). length (slotRecords k ss ts)) j)
+  -- R23, R53, R55: every slot is looked at, and no line waits
+  pub counted-end : length ss ≤ i → (lowestOf isWaiting ss ≡ none) × (n ≡ used ss) × (len ≡ length (slotRecords n ss ts))
+  counted-end h = (look-end (m .looked) h, m .last ∙ ap used (take-all i ss h), m .count)
 
 -- i of n records stand in the buffer l, which was l₀
 pub record Put (l₀ : List ℕ) (ss : List Slot) (ts : List ℕ) (n : ℕ) (l : List ℕ) (at i : ℕ) : Type 0 where

@@ -19,9 +19,7 @@ use Rattle.card.specs.Card.{clockRecord, slotRecords, requestRecord, used, card
 use Rattle.card.specs.Answers.{lengthOf, filled, writeOf, bufferOf}
 use Rattle.card.proofs.Numbers.{two-of}
 use Rattle.card.proofs.Length.{length-card}
-use Rattle.writer.specs.Measured.{waitingIn}
 use Rattle.writer.specs.Parts.{partsOf}
-use Rattle.writer.proofs.Slots.{waiting-used}
 
 -- the clock's eight bytes, by the numbers that the code makes of it
 pub by-twos : (v : ℕ) → v < 18446744073709551616
@@ -54,10 +52,6 @@ module _ (t : Table) (q : Request) where
 
   -- n slots, where n are used
   module _ (n : ℕ) (e : n ≡ used (t .slots)) where
-    -- R23: the lowest waiting line of these is the lowest of all
-    all-waiting : waitingIn n (t .slots) ≡ lowestOf isWaiting (t .slots)
-    all-waiting = ap (λ (j : ℕ). waitingIn j (t .slots)) e ∙ waiting-used (t .slots)
-
     -- R53: CK and RQ, and the slots' records
     parts-length : clockLength + lastLength + length (slotRecords n (t .slots) (q .stretched)) ≡ length (cardOf t q)
     parts-length = ap (λ (j : ℕ). clockLength + lastLength + length (slotRecords j (t .slots) (q .stretched))) e ∙ sym (length-card t q)
@@ -80,13 +74,13 @@ module _ (t : Table) (q : Request) where
     whole-writing l m len f h w =
         rw (long-enough (length l) h, f) (refl, w ∙ ap₂ (λ (x : List ℕ) (j : ℕ). x ++ drop j l) parts-card parts-length)
 
-    -- R23: a waiting line is refused at its slot, whatever the buffer
-    pub waiting-writing : (k : ℕ) → waitingIn n (t .slots) ≡ some k → (r : Refusal) → r ≡ refusal 3 k → (l : List ℕ)
-        → (refuses r ≡ writeOf t q (length l)) × (l ≡ bufferOf t q l)
-    waiting-writing k w r f l = rw (sym all-waiting, w, f) (refl, refl)
+  -- R23: a waiting line is refused at its slot, whatever the buffer
+  pub waiting-writing : (k : ℕ) → lowestOf isWaiting (t .slots) ≡ some k → (r : Refusal) → r ≡ refusal 3 k → (l : List ℕ)
+      → (refuses r ≡ writeOf t q (length l)) × (l ≡ bufferOf t q l)
+  waiting-writing k w r f l = rw (w, f) (refl, refl)
 
-    -- R59: where none waits the room decides
-    pub other-writing : waitingIn n (t .slots) ≡ none → (l m : List ℕ) (s : Said ℕ)
-        → (s ≡ lengthOf t q (length l)) × (m ≡ filled (cardOf t q) l (lengthOf t q (length l)))
-        → (s ≡ writeOf t q (length l)) × (m ≡ bufferOf t q l)
-    other-writing w l m s p = rw (sym all-waiting, w) p
+  -- R59: where none waits the room decides
+  pub other-writing : lowestOf isWaiting (t .slots) ≡ none → (l m : List ℕ) (s : Said ℕ)
+      → (s ≡ lengthOf t q (length l)) × (m ≡ filled (cardOf t q) l (lengthOf t q (length l)))
+      → (s ≡ writeOf t q (length l)) × (m ≡ bufferOf t q l)
+  other-writing w l m s p = rw w p

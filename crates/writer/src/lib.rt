@@ -20,9 +20,9 @@ use table::Refusal;
 use table::Request;
 use table::Table;
 
-// R23, R53: the length of the first slots' records, or the lowest of these slots that has none: its line waits.
+// R23, R55: how many slots have a record on the card and how long these records are, or the lowest slot that can have none: its line waits.
 enum Measured {
-    Length(usize),
+    Used(usize, usize),
     Without(usize),
 }
 
@@ -120,45 +120,33 @@ fn put_slot(out: &mut [u8], s: Slot, stretched: u16) -> usize
     }
 }
 
-// R55: how many slots there are up to the last that holds something.
-fn used_slots(slots: [Slot; 16]) -> usize
-    ensures { λ r. ⌜ (r ≡ used slots) × (r ≤ 16) ⌝ }
-{
-    let mut n: usize = 16;
-    while 0 < n {
-        let k = n - 1;
-        let s = slots[k];
-        if s.is_empty() {
-            n = k;
-        } else {
-            return n;
-        }
-    }
-    0
-}
-
-// R23, R53: measures the records of the first `n` slots, up to a slot whose line waits.
-fn measure(slots: [Slot; 16], stretched: [u16; 16], n: usize) -> Measured
-    requires { ⌜ n ≤ 16 ⌝ }
-    ensures { λ r. ⌜ MeasuredRecords n slots stretched r ⌝ }
+// R23, R53, R55: one loop for all of it. The first `i` slots' records have `all` bytes; `n` slots and `len` bytes go up to the last that holds something.
+fn measure(slots: [Slot; 16], stretched: [u16; 16]) -> Measured
+    ensures { λ r. ⌜ MeasuredRecords slots stretched r ⌝ }
 {
     let mut i: usize = 0;
+    let mut all: usize = 0;
+    let mut n: usize = 0;
     let mut len: usize = 0;
-    while i < n {
+    while i < 16 {
         let s = slots[i];
         let t = stretched[i];
         let x = SlotRecord::of(s, t);
         match x {
             Recorded::As(r) => {
-                len = len + r.length();
+                i = i + 1;
+                all = all + r.length();
+                if !r.is_free() {
+                    n = i;
+                    len = all;
+                }
             }
             Recorded::No => {
                 return Measured::Without(i);
             }
         }
-        i = i + 1;
     }
-    Measured::Length(len)
+    Measured::Used(n, len)
 }
 
 // R54: writes the records of the first `n` slots, slot 0 first, and answers their length.
@@ -210,9 +198,8 @@ pub fn write(t: Table, q: Request, out: &mut [u8]) -> WriteAnswer
 {
     let slots = t.slots;
     let stretched = q.stretched;
-    let n = used_slots(slots);
-    match measure(slots, stretched, n) {
+    match measure(slots, stretched) {
         Measured::Without(k) => WriteAnswer::Refused(Refusal::new(3, k as u64)),
-        Measured::Length(m) => write_card(t, q, n, m, out),
+        Measured::Used(n, m) => write_card(t, q, n, m, out),
     }
 }

@@ -21,10 +21,10 @@ loop-holds c =
     rw (c .new2 .ensures, c .before .new .ensures, b .clock .ensures, b .before .empty .ensures)
     (kept-start (b .before .before .before .args .card .now) (omega arith))
 
-element-set-from-table : tie.Need-element-set-from-table Inv-loop μ-loop
-element-set-from-table c =
-    let b = c .before .before .before .before in
-    slot-room (b .before .loop .inv .mid) (b .record-at .ensures) (c .before .before .r .given .1) .0
+element-write-request : tie.Need-element-write-request Inv-loop μ-loop
+element-write-request c =
+    let b = c .before .before .before .before .before in
+    slot-room (b .before .loop .inv .mid) (b .record-at .ensures) (c .before .before .before .r .given .1) .0
 
 add-at : tie.Need-add-at Inv-loop μ-loop
 add-at c =
@@ -32,13 +32,13 @@ add-at c =
     omega (arith, slot-room (b .before .loop .inv .mid) (b .record-at .ensures) (c .before .before .before .r .given .1), c .length .ensures .0)
 
 loop-less : tie.Need-loop-less Inv-loop μ-loop
-loop-less c = omega (arith, element-set-from-table (c .before .before))
+loop-less c = omega (arith, element-write-request (c .before))
 
 loop-again : tie.Need-loop-again Inv-loop μ-loop
 loop-again c =
     let f = c .before .before in
     let b = f .before .before .before .before in
-    rw (f .slot .ensures, c .before .length .ensures .0, c .is-free .ensures)
+    rw (c .slot .ensures, c .before .length .ensures .0, f .is-free .ensures)
     (kept-slot (b .before .loop .inv) (b .record-at .ensures) _ (f .before .before .r .given .1))
 
 closed-requires : tie.Need-closed-requires Inv-loop μ-loop
@@ -63,6 +63,6 @@ pub records-spec : {M : Type 1} → statement M
 records-spec =
     tie.close
     (tie.spec Inv-loop μ-loop (λ c κs. tt) (λ c κs. omega arith) (λ c κs. tt) (λ c κs. tt) loop-holds (λ c. omega arith)
-    (λ c κs. omega (arith, c .loop .inv .mid .room)) (λ c. search needs) (λ c κs. tt) (λ c. omega (arith, element-set-from-table c)) element-set-from-table
-    (λ c. omega (arith, element-set-from-table c)) element-set-from-table (λ c κs. tt) add-at (λ c κs. tt) (λ c. omega (arith, loop-less c)) loop-less
+    (λ c κs. omega (arith, c .loop .inv .mid .room)) (λ c. search needs) (λ c κs. tt) (λ c κs. tt) add-at (λ c. omega (arith, element-write-request c))
+    element-write-request (λ c κs. tt) (λ c. omega (arith, loop-less c)) (λ c. element-write-request (c .before)) (λ c. omega (arith, loop-less c)) loop-less
     loop-again (λ c. search needs) closed-requires returns (λ c. search needs) (λ c κs. tt) returns-2)
