@@ -1,5 +1,4 @@
 -- What the step's first loop answers, R24 and R44.
-use Prim.Native.Nat.{ℕ}
 use mathlib.Core.Path.{_≡_}
 use mathlib.Core.Bool.{not}
 use mathlib.Core.List.{List}
