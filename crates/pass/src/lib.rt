@@ -14,16 +14,12 @@ pub struct Pass {
     pub start: u32,
 }
 
-// R10: one line's demand d ticks after the clock; its ends come a gap apart
+// R10: one line's demand d ticks after the clock, from its first end on; its ends come a gap apart
 fn demand_one(end: u32, remaining: u32, need: u32, gap: u32, d: u32) -> u32
-    requires { ⌜ Fit (stream end remaining need gap) × (d ≤ 65535) ⌝ }
+    requires { ⌜ Fit (stream end remaining need gap) × (end ≤ d) × (d ≤ 65535) ⌝ }
     ensures { λ r. ⌜ (r ≡ due end remaining need gap d) × (r ≤ 131071) ⌝ }
 {
-    if d < end {
-        0
-    } else {
-        remaining + need * ((d - end) / gap)
-    }
+    remaining + need * ((d - end) / gap)
 }
 
 // the first `count` terms, added up
@@ -40,8 +36,8 @@ fn add(terms: &[u32; sums::MOST], count: usize) -> u32
     sum
 }
 
-// R10, R12: the demand of the running lines at d: each line's in an array, and their sum. The array stays here, since it would be copied at every
-// end if it were handed on by value.
+// R10, R12: the demand of the running lines at d: each line's in an array, 0 before its first end, and their sum. The array stays here, since it would be
+// copied at every end if it were handed on by value.
 fn demand_sum<'a>(
     ends: &'a [u32],
     remaining: &'a [u32],
@@ -56,8 +52,11 @@ fn demand_sum<'a>(
     let mut i: usize = 0;
     let count = ends.len();
     while i < count {
-        let x = demand_one(ends[i], remaining[i], needs[i], gaps[i], d);
-        terms[i] = x;
+        let end = ends[i];
+        if end <= d {
+            let x = demand_one(end, remaining[i], needs[i], gaps[i], d);
+            terms[i] = x;
+        }
         i = i + 1;
     }
     add(&terms, count)

@@ -1,12 +1,13 @@
 -- `demand_sum` meets its contract: the terms are written by the laws of `Writing`, and added up.
 use Prim.Native.Nat.{_-_}
 use mathlib.Core.Path.{refl}
+use mathlib.Core.Logic.{⊎-elim}
 use native.Mathlib.Omega.{arith}
 use lib.ListN.{length}
 use borrow.Author.Needs.{needs}
 use Rattle.sums.specs.Lines.{lineAt}
 use Rattle.pass.specs.Pass.{dueBy}
-use Rattle.pass.proofs.Terms.{Writing, term-start, term-on, terms-small, terms-sum}
+use Rattle.pass.proofs.Terms.{Writing, term-start, term-on, term-keep, terms-small, terms-sum, none-due}
 use Rattle.pass.proofs.demand_sum.Statement.{statement}
 use Rattle.pass.proofs.demand_sum.Tie as tie
 
@@ -18,13 +19,19 @@ abbrev μ-loop : tie.MeasureT-loop
 
 demand-one-requires : tie.Need-demand-one-requires Inv-loop μ-loop
 demand-one-requires c κs =
-    let at = c .before .before .before .before .before in
-    let pre = at .before .before .before .before .before .pre in
-    (pre .0 .each (at .loop .i) (c .before .before .before .before .loop-test .taken), pre .1)
+    let t = c .before .before .before in
+    let l = t .before .before in
+    let pre = l .before .before .before .before .before .before .pre in
+    (pre .0 .each (l .before .loop .i) (l .loop-test .taken), t .if1 .taken, pre .1)
 
 loop-again : tie.Need-loop-again Inv-loop μ-loop
 loop-again c =
-    term-on (c .before .before .before .before .before .before .loop .inv) (c .before .before .before .before .before .loop-test .taken) (c .demand-one .ensures)
+    let l = c .before .before in
+    let v = l .before .loop .inv in
+    ⊎-elim
+    (λ w. rw (w .5) (term-on v (l .loop-test .taken) (w .4 .ensures)))
+    (λ w. rw (w .1) (term-keep v (l .loop-test .taken) (none-due _ _ (w .0 .left))))
+    (c .if1 .came)
 
 add-requires : tie.Need-add-requires Inv-loop μ-loop
 add-requires c κs = terms-small (c .before .before .loop .inv) (c .before .loop-test .left)
