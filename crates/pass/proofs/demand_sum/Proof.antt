@@ -22,7 +22,7 @@ demand-one-requires c κs =
     let t = c .before .before .before in
     let l = t .before .before in
     let pre = l .before .before .before .before .before .before .pre in
-    (pre .0 .each (l .before .loop .i) (l .loop-test .taken), t .if1 .taken, pre .1)
+    (pre .0 .each (l .before .loop .i) (l .loop-test .taken), omega (arith, t .if1 .taken), pre .1)
 
 loop-again : tie.Need-loop-again Inv-loop μ-loop
 loop-again c =
