@@ -26,23 +26,15 @@ use Rattle.card.proofs.Slots.{used-some}
 use Rattle.card.proofs.Length.{records-length}
 use Rattle.card.proofs.Parts.{put-at}
 
--- R55: the used ones of the first i slots, and one slot more, which the test tells to be empty or not
-module _ (ss : List Slot) (i : ℕ) (h : i < length ss) where
-  used-same : isNothing (at ss i) ≡ true → used (take (suc i) ss) ≡ used (take i ss)
-  used-same e = go ss i h e
-    where
-      go : (ss : List Slot) (i : ℕ) → i < length ss → isNothing (at ss i) ≡ true → used (take (suc i) ss) ≡ used (take i ss)
-      go [] i h e = absurd (omega arith)
-      go (s ∷ ss) zero h e = ap (λ (o : Bool). pick o 0 1) e
-      go (s ∷ ss) (suc i) h e = ap (usedFrom (s .held)) (go ss i (le-of-suc-le-suc h) e)
-
-  used-all : isNothing (at ss i) ≡ false → used (take (suc i) ss) ≡ suc i
-  used-all e = go ss i h e
-    where
-      go : (ss : List Slot) (i : ℕ) → i < length ss → isNothing (at ss i) ≡ false → used (take (suc i) ss) ≡ suc i
-      go [] i h e = absurd (omega arith)
-      go (s ∷ ss) zero h e = ap (λ (o : Bool). pick o 0 1) e
-      go (s ∷ ss) (suc i) h e = ap (usedFrom (s .held)) (go ss i (le-of-suc-le-suc h) e) ∙ used-some (isNothing (s .held)) (suc i) (λ a z. omega arith)
+-- R55: one slot more, and the used ones: all up to it where it holds something, else those before
+used-next : (ss : List Slot) (i : ℕ) → i < length ss → used (take (suc i) ss) ≡ pick (isNothing (at ss i)) (used (take i ss)) (suc i)
+used-next [] i h = absurd (omega arith)
+used-next (s ∷ ss) zero h = refl
+used-next (s ∷ ss) (suc i) h = ap (usedFrom (s .held)) (used-next ss i (le-of-suc-le-suc h)) ∙ go (isNothing (at ss i))
+  where
+    go : (o : Bool) → usedFrom (s .held) (pick o (used (take i ss)) (suc i)) ≡ pick o (usedFrom (s .held) (used (take i ss))) (suc (suc i))
+    go true = refl
+    go false = used-some (isNothing (s .held)) (suc i) (λ a z. omega arith)
 
 -- the first record, and then the others
 pub records-first : (n : ℕ) (s : Slot) (ss : List Slot) (ts : List ℕ)
@@ -163,12 +155,18 @@ module _ {ss : List Slot} {ts : List ℕ} {i all n len : ℕ} (m : Counted ss ts
     total-on : all + w ≡ length (slotRecords (i + 1) ss ts)
     total-on = let a = length-on ss ts i h in let b = recorded-length (at ss i) (getD ts i 0) x e in omega (arith, m .total)
 
+    used-on : {o : Bool} → isFree (x .mark) ≡ o → pick o n (i + 1) ≡ used (take (i + 1) ss)
+    used-on {o} g =
+        ap₂ (pick o) (m .last) (add-one i)
+        ∙ sym (ap (λ (k : ℕ). used (take k ss)) (add-one i) ∙ used-next ss i h
+        ∙ ap (λ (b : Bool). pick b (used (take i ss)) (suc i)) (recorded-free (at ss i) (getD ts i 0) x e ∙ g))
+
     -- R55: TF: no slot more is used
     pub counted-free : isFree (x .mark) ≡ true → Counted ss ts (i + 1) (all + w) n len
     counted-free g = record {
       looked = looked-on;
       total = total-on;
-      last = m .last ∙ sym (ap (λ (k : ℕ). used (take k ss)) (add-one i) ∙ used-same ss i h (recorded-free (at ss i) (getD ts i 0) x e ∙ g));
+      last = used-on g;
       count = m .count;
     }
 
@@ -177,8 +175,7 @@ module _ {ss : List Slot} {ts : List ℕ} {i all n len : ℕ} (m : Counted ss ts
     counted-line g = record {
       looked = looked-on;
       total = total-on;
-      last =
-          add-one i ∙ sym (ap (λ (k : ℕ). used (take k ss)) (add-one i) ∙ used-all ss i h (recorded-free (at ss i) (getD ts i 0) x e ∙ g));
+      last = used-on g;
       count = total-on;
     }
 
