@@ -1,5 +1,5 @@
 /*
- * The pump's boundary for C and C++: numbers and byte buffers only. The rules, R1 to R93, are those of
+ * The pump's boundary for C and C++: numbers and byte buffers only. The rules, R1 to R94, are those of
  * docs/RULES.md.
  *
  * A table of lines stands in 153 bytes that the caller keeps, its image (R81). A card is a table and a
@@ -30,7 +30,7 @@ extern "C" {
 #endif
 
 /* R93: of the boundary that this header declares. The library's own is trimthuel_version(). */
-#define TRIMTHUEL_VERSION 1
+#define TRIMTHUEL_VERSION 2
 
 /* R81: of the layout of an image, its first byte. */
 #define TRIMTHUEL_IMAGE_VERSION 1
@@ -64,7 +64,7 @@ struct trimthuel_result {
     uint64_t value;
 };
 
-/* R21 to R35: why, in words. Refusal n is rule R(20 + n). */
+/* R21 to R35: why, in words. Refusal n is rule R(20 + n). 12 is no longer given; its number stays taken (R32). */
 static inline const char *trimthuel_why(uint64_t number)
 {
     static const char *const why[] = {
@@ -80,7 +80,7 @@ static inline const char *trimthuel_why(uint64_t number)
         /*  9 */ "the lines are behind their shares",
         /* 10 */ "the running lines alone come too late",
         /* 11 */ "a broken card or image",
-        /* 12 */ "an old-order mark on a card",
+        /* 12 */ "an old-order mark, which is no longer refused",
         /* 13 */ "the buffer is too short",
         /* 14 */ "a period ended short",
         /* 15 */ "the clock's last tick",
@@ -134,7 +134,7 @@ struct trimthuel_result trimthuel_write_card(const uint8_t *table, size_t table_
 
 /*
  * R92: reads a card into an image and a request: the sixteen stretched periods, then need and period. The
- * value is 153. Refuses with 11 or 12 at a byte offset of the card, then with 13 where `table` is too short.
+ * value is 153. Refuses with 11 at a byte offset of the card, then with 13 where `table` is too short.
  */
 struct trimthuel_result trimthuel_read_card(const uint8_t *card, size_t card_len, uint8_t *table, size_t table_len,
                                             uint16_t request[TRIMTHUEL_REQUEST_SIZE]);
@@ -145,7 +145,10 @@ struct trimthuel_result trimthuel_read_card(const uint8_t *card, size_t card_len
  */
 struct trimthuel_result trimthuel_answer(const uint8_t *card, size_t card_len, uint8_t *out, size_t out_len);
 
-/* R65: reads a card and writes it anew, byte for byte (R72). The value is its length. Refuses with 11, 12 or 13. */
+/*
+ * R65: reads a card and writes its twin (R72): the card itself, but each TA record made a TB record. The value
+ * is its length, and bit k of the place is 1 where slot k's record was TA. Refuses with 11, then with 13.
+ */
 struct trimthuel_result trimthuel_rewrite(const uint8_t *card, size_t card_len, uint8_t *out, size_t out_len);
 
 /*

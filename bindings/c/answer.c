@@ -64,7 +64,17 @@ static void show_short(const uint8_t *card, size_t len)
     puts(memcmp(line, kept, sizeof line) == 0 ? "" : " and changed");
 }
 
-/* R65, R72: a card that reads comes back the same. */
+/* R65: the slots whose record was TA, lowest first, if there are any. */
+static void show_reordered(uint64_t word)
+{
+    if (word != 0)
+        printf(" reordered");
+    for (int slot = 0; slot < TRIMTHUEL_SLOTS; slot++)
+        if (word >> slot & 1)
+            printf(" %d", slot);
+}
+
+/* R65, R72: a card that reads comes back the same, or as its twin. */
 static void show_rewritten(const uint8_t *card, size_t len)
 {
     uint8_t anew[TRIMTHUEL_CARD_MAX];
@@ -72,7 +82,11 @@ static void show_rewritten(const uint8_t *card, size_t len)
     int same = written.number == 0 && written.value == len && memcmp(anew, card, len) == 0;
 
     show("rewritten", written);
-    puts(same ? " the same" : "");
+    if (same)
+        printf(" the same");
+    if (written.number == 0)
+        show_reordered(written.place);
+    puts("");
 }
 
 /* R66 */

@@ -85,8 +85,8 @@ fn rewrite(fine: &mut bool) -> Row {
     });
     let plain = best(TIMES, || {
         for _ in 0..TIMES {
-            if let Ok((pump, request)) = quick::read(black_box(&bytes)) {
-                let _ = black_box(quick::write(&pump, &request, &mut other));
+            if let Ok((pump, request, turned)) = quick::read(black_box(&bytes)) {
+                let _ = black_box((turned, quick::write(&pump, &request, &mut other)));
             }
         }
     });

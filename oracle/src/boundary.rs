@@ -11,6 +11,7 @@ mod images;
 
 #[cfg(any(test, feature = "house"))]
 pub use act::{should, Act, NewLine, Told, NO_SLOT};
+pub use cards::{reordered, rewrite};
 #[cfg(any(test, feature = "house"))]
 pub use desk::{Desk, Lent, GUARD};
 pub use example::example;

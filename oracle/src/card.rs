@@ -7,10 +7,10 @@ use crate::types::{Content, Refusal, Request, Run, Table, EMPTY, SLOTS, ZEROS};
 const CLOCK: &[u8] = b"CK";
 /// R53: opens a running line's record, five numbers.
 const LINE: &[u8] = b"TB";
+/// R58: opens the same record of the third generation, its two last numbers in the old order.
+const OLD: &[u8] = b"TA";
 /// R53: the whole record of an empty slot.
 const FREE: &[u8] = b"TF";
-/// R58: what a line's record of the third generation opened with.
-const OLD: &[u8] = b"TA";
 /// R53: opens the new line's record.
 const ASKED: &[u8] = b"RQ";
 
@@ -19,6 +19,22 @@ const CLOCK_LENGTH: usize = 10;
 const LINE_LENGTH: usize = 12;
 const FREE_LENGTH: usize = 2;
 const ASKED_LENGTH: usize = 6;
+
+/// R53, R58: which of a line's two last numbers comes first.
+#[derive(Clone, Copy, PartialEq, Eq)]
+enum Order {
+    AgeFirst,
+    RemainingFirst,
+}
+
+/// R56: what stands on a card that is not broken.
+#[derive(Clone, Copy, Debug, PartialEq, Eq)]
+pub struct Parsed {
+    pub table: Table,
+    pub request: Request,
+    /// R65: bit k is 1 where slot k's record was TA.
+    pub turned: u16,
+}
 
 /// R56: what the reader hands out; beside a refusal nothing but zeros.
 #[derive(Clone, Copy, Debug, PartialEq, Eq)]
@@ -31,10 +47,10 @@ pub struct Reading {
 /// R56: reads a card, whatever its numbers.
 pub fn read(card: &[u8]) -> Reading {
     match parse(card) {
-        Ok((table, request)) => Reading {
+        Ok(parsed) => Reading {
             refusal: None,
-            table,
-            request,
+            table: parsed.table,
+            request: parsed.request,
         },
         Err(refusal) => Reading {
             refusal: Some(refusal),
@@ -66,32 +82,42 @@ fn mark(card: &[u8], offset: usize) -> Result<&[u8], Refusal> {
     record(card, offset, 2)
 }
 
+/// The order that a line's mark means; none for any other mark.
+fn order(mark: &[u8]) -> Option<Order> {
+    match mark {
+        LINE => Some(Order::AgeFirst),
+        OLD => Some(Order::RemainingFirst),
+        _ => None,
+    }
+}
+
 /// R54, R57: goes through the records from the front and stops at the first that is refused.
-pub fn parse(card: &[u8]) -> Result<(Table, Request), Refusal> {
-    let (mut table, mut request) = (EMPTY, ZEROS);
-    table.clock = read_clock(card)?;
+pub fn parse(card: &[u8]) -> Result<Parsed, Refusal> {
+    let mut parsed = Parsed {
+        table: EMPTY,
+        request: ZEROS,
+        turned: 0,
+    };
+    parsed.table.clock = read_clock(card)?;
     let mut offset = CLOCK_LENGTH;
     let mut slot = 0;
     let mut free_before = false;
     loop {
         let next = mark(card, offset)?;
         if next == ASKED {
-            read_asked(card, offset, free_before, &mut request)?;
-            return Ok((table, request));
+            read_asked(card, offset, free_before, &mut parsed.request)?;
+            return Ok(parsed);
         }
         // R57: no slot record may stand here; a seventeenth one is broken, whatever its mark.
         if slot == SLOTS {
             return Err(broken(offset));
         }
-        if next == LINE {
+        if let Some(order) = order(next) {
             let bytes = record(card, offset, LINE_LENGTH)?;
-            read_line(bytes, slot, &mut table, &mut request);
+            read_line(bytes, order, slot, &mut parsed);
             offset += LINE_LENGTH;
         } else if next == FREE {
             offset += FREE_LENGTH;
-        } else if next == OLD {
-            // R58: the mark alone decides, so that the record's length is not looked at.
-            return Err(Refusal::at(12, offset));
         } else {
             return Err(broken(offset));
         }
@@ -113,15 +139,21 @@ fn read_clock(card: &[u8]) -> Result<u64, Refusal> {
         .fold(0, |clock, byte| clock << 8 | u64::from(*byte)))
 }
 
-/// R53: a line record into its slot and its entry of the request.
-fn read_line(bytes: &[u8], slot: usize, table: &mut Table, request: &mut Request) {
-    table.slots[slot] = Content::Running(Run {
+/// R53, R58: a line record into its slot, its entry of the request, and its bit of the turned slots.
+fn read_line(bytes: &[u8], order: Order, slot: usize, parsed: &mut Parsed) {
+    let (first, last) = (number(bytes, 8), number(bytes, 10));
+    let (age, remaining) = match order {
+        Order::AgeFirst => (first, last),
+        Order::RemainingFirst => (last, first),
+    };
+    parsed.table.slots[slot] = Content::Running(Run {
         need: number(bytes, 2),
         period: number(bytes, 4),
-        age: number(bytes, 8),
-        remaining: number(bytes, 10),
+        age,
+        remaining,
     });
-    request.stretched[slot] = number(bytes, 6);
+    parsed.request.stretched[slot] = number(bytes, 6);
+    parsed.turned |= u16::from(order == Order::RemainingFirst) << slot;
 }
 
 /// R57: the request record. An empty slot before it is found first, then a cut, then a byte too many.
@@ -145,7 +177,7 @@ fn read_asked(
 }
 
 /// R55: the bytes of the card of a table, with empty slots written up to the last running line
-/// only. A waiting line has no record; the writer refuses it before, and random cards take it as
+/// only, and each line as TB. A waiting line has no record; the writer refuses it before, and random cards take it as
 /// an empty slot.
 pub fn bytes(table: &Table, request: &Request) -> Vec<u8> {
     let mut card = CLOCK.to_vec();
@@ -191,8 +223,8 @@ pub fn put(text: &[u8], buffer: &mut [u8]) -> Result<usize, Refusal> {
 
 /// R60: what the reader refuses is not asked.
 pub fn judge(card: &[u8]) -> Result<u64, Refusal> {
-    let (table, request) = parse(card)?;
-    rules::ask(&table, &request)
+    let parsed = parse(card)?;
+    rules::ask(&parsed.table, &parsed.request)
 }
 
 /// R61: an answer as a line.
@@ -213,6 +245,7 @@ mod tests {
     use super::*;
     use crate::cases::{self, CARD_A};
     use crate::draw;
+    use crate::orders;
     use crate::random::Random;
     use crate::types::{Wait, LONGEST_CARD};
 
@@ -234,6 +267,7 @@ mod tests {
     }
 
     const TB: &[u8] = b"TB0123456789";
+    const TA: &[u8] = b"TA0123456789";
     const RQ: &[u8] = b"RQ0123";
 
     #[test]
@@ -281,22 +315,78 @@ mod tests {
         }
     }
 
+    /// R57, R58: a TA record is broken where a TB record would be.
     #[test]
-    fn old_order_marks() {
+    fn broken_records_of_the_old_order() {
         assert_eq!(refusal(b"TA"), (11, 0));
-        assert_eq!(refusal(&card(&[b"TA"])), (12, 10));
-        assert_eq!(refusal(&card(&[b"TA0123456789", RQ])), (12, 10));
-        assert_eq!(refusal(&card(&[TB, b"TF", b"TA01"])), (12, 24));
+        assert_eq!(refusal(&card(&[b"TA"])), (11, 10));
+        assert_eq!(refusal(&card(&[TB, b"TF", b"TA01"])), (11, 24));
+        assert_eq!(refusal(&card(&[b"TA012345678"])), (11, 10));
+        assert_eq!(refusal(&card(&[TA])), (11, 22));
+        assert_eq!(refusal(&card(&[TA, b"TF", RQ])), (11, 24));
         assert_eq!(refusal(&card(&[b"T"])), (11, 10));
         let full = TB.repeat(16);
         assert_eq!(refusal(&card(&[&full, b"TA"])), (11, 202));
-        assert_eq!(refusal(&card(&[&TB.repeat(15), b"TA"])), (12, 190));
+        assert_eq!(refusal(&card(&[&full, TA, RQ])), (11, 202));
+        assert_eq!(refusal(&card(&[&TB.repeat(15), b"TA"])), (11, 190));
+    }
+
+    /// R58: the same five numbers in either order; in bytes "67" and "89" are the two last ones.
+    #[test]
+    fn remaining_comes_before_age_in_the_old_order() {
+        let parsed = parse(&card(&[TB, b"TF", TA, RQ])).expect("a whole card");
+        let (sixth, eighth) = (u16::from_le_bytes(*b"67"), u16::from_le_bytes(*b"89"));
+        let line = |age, remaining| {
+            Content::Running(Run {
+                need: u16::from_le_bytes(*b"01"),
+                period: u16::from_le_bytes(*b"23"),
+                age,
+                remaining,
+            })
+        };
+        let mut slots = EMPTY.slots;
+        slots[0] = line(sixth, eighth);
+        slots[2] = line(eighth, sixth);
+        assert_eq!(parsed.table.slots, slots);
+        let stretched = u16::from_le_bytes(*b"45");
+        assert_eq!(parsed.request.stretched[..4], [stretched, 0, stretched, 0]);
+        assert_eq!(parsed.turned, 0b100);
+    }
+
+    #[test]
+    fn every_slot_of_the_old_order_is_told() {
+        let turned = |card: &[u8]| parse(card).expect("a whole card").turned;
+        assert_eq!(turned(&card(&[&TA.repeat(16), RQ])), 0xFFFF);
+        assert_eq!(turned(&card(&[&TB.repeat(15), TA, RQ])), 0x8000);
+        assert_eq!(turned(&card(&[&TB.repeat(16), RQ])), 0);
+    }
+
+    #[test]
+    fn a_card_reads_as_its_twin() {
+        let mut random = Random::new(33);
+        let mut mixed = 0;
+        for round in 0..5_000 {
+            let (table, request) = match round % 2 {
+                0 => draw::any(&mut random),
+                _ => draw::near_full(&mut random),
+            };
+            let card = orders::drawn(&mut random, &bytes(&table, &request));
+            let twin = orders::twin(&card);
+            let (parsed, same) = (parse(&card), parse(&twin).expect("a whole card"));
+            let turned = orders::old_slots(&card);
+            assert_eq!(parsed, Ok(Parsed { turned, ..same }));
+            assert_eq!(same.turned, 0);
+            assert_eq!(bytes(&same.table, &same.request), twin);
+            let lines = same.table.running().count() as u32;
+            mixed += u32::from((1..lines).contains(&turned.count_ones()));
+        }
+        assert!(mixed > 1_000, "{mixed}");
     }
 
     #[test]
     fn seventeenth_record_and_bytes_after() {
         let full = TB.repeat(16);
-        for seventeenth in [TB, b"TF", b"TA", b"TB"] {
+        for seventeenth in [TB, TA, b"TF", b"TA", b"TB"] {
             assert_eq!(refusal(&card(&[&full, seventeenth, RQ])), (11, 202));
         }
         let longest = card(&[&full, RQ]);

@@ -30,8 +30,11 @@ const SECOND_SHRUNK: &[u8] = b"TB\x4F\x08\x24\x36\xC7\x26\x82\x03\xF5\x02";
 const ASKED: &[u8] = b"RQ\xEB\x01\x38\x07";
 const ASKED_BACK: &[u8] = b"RQ\x38\x07\xEB\x01";
 const FREE: &[u8] = b"TF";
-/// R58: the first line as the third generation wrote it.
+/// R58: both lines as the third generation wrote them, remaining before age; and merely marked so.
 const OLD: &[u8] = b"TA\xB6\x0C\x72\x0D\x58\x16\xCD\x0B\xD9\x09";
+const SECOND_OLD: &[u8] = b"TA\x4F\x08\xC7\x26\x24\x36\xF5\x02\x82\x03";
+const MARKED: &[u8] = b"TA\xB6\x0C\x72\x0D\x58\x16\xD9\x09\xCD\x0B";
+const SECOND_MARKED: &[u8] = b"TA\x4F\x08\xC7\x26\x24\x36\x82\x03\xF5\x02";
 
 /// R52, R53: every number in its place, its lower byte first.
 ///
@@ -58,26 +61,29 @@ fn numbers() -> Vec<EdgeCard> {
     ]
 }
 
-/// R58, and R57 where no slot's record may stand.
+/// R57, R58: the mark TA in each place, whole and cut.
+///
+/// The first line alone is behind its share: 3021 − 3254 + 3254 × 2521 / 5720 is above 0 (R29). Of sixteen
+/// lines none leaves a slot (R22).
 fn old_marks() -> Vec<EdgeCard> {
     let fifteen = FIRST.repeat(15);
     let sixteen = FIRST.repeat(16);
     let no_clock = [b"TA", &CLOCK[2..], FIRST, ASKED];
     vec![
-        edge("TA, whole", &[CLOCK, OLD, ASKED], "refused 12 10\n"),
-        edge("TA, its mark only", &[CLOCK, b"TA"], "refused 12 10\n"),
+        edge("TA, whole", &[CLOCK, OLD, ASKED], "refused 9 0\n"),
+        edge("TA, its mark only", &[CLOCK, b"TA"], "refused 11 10\n"),
         edge("TA, half its mark", &[CLOCK, b"T"], "refused 11 10\n"),
         edge(
             "TA after TB, cut",
             &[CLOCK, FIRST, &OLD[..11]],
-            "refused 12 22\n",
+            "refused 11 22\n",
         ),
         edge("TA for CK", &no_clock, "refused 11 0\n"),
         edge("TA alone", &[OLD], "refused 11 0\n"),
         edge(
             "sixteenth TA",
             &[CLOCK, &fifteen, OLD, ASKED],
-            "refused 12 190\n",
+            "refused 2 0\n",
         ),
         edge(
             "seventeenth TA",
@@ -126,12 +132,79 @@ fn lengths() -> Vec<EdgeCard> {
     ]
 }
 
+/// R58: the card of `numbers` with lines of either order. Each says the same, or, its records merely marked,
+/// what it says there with age and remaining exchanged. Were the first of two TA records alone read in the
+/// old order, the sum of R29 would be 1201 − 1113 and the card refused.
+fn mixed_orders() -> Vec<EdgeCard> {
+    let card =
+        |name, first, second, line| edge(name, &[CLOCK, FREE, first, FREE, second, ASKED], line);
+    let (said, exchanged) = ("release 116940353647775\n", "release 116940353647275\n");
+    vec![
+        card("TA and TB", OLD, SECOND, said),
+        card("TB and TA", FIRST, SECOND_OLD, said),
+        card("TA and TA", OLD, SECOND_OLD, said),
+        card("TA and TA, marks only", MARKED, SECOND_MARKED, exchanged),
+        card("TA as TB", FIRST_BACK, SECOND_MARKED, exchanged),
+    ]
+}
+
+/// R57, R58: cards with TA, whole and broken where TB would be.
+fn old_forms() -> Vec<EdgeCard> {
+    // (1, 64, 64, 5, 0) and (1, 4): no start is later than the clock. With 0 for its age and 5 remaining the
+    // line would be unsound (R24).
+    let light = b"TA\x01\x00\x40\x00\x40\x00\x00\x00\x05\x00";
+    let quarter = b"RQ\x01\x00\x04\x00";
+    let eight = b"CK\x08\x00\x00\x00\x00\x00\x00\x00";
+    // R67: case A's lines, (8, 16, 32, 8, 0) and (8, 16, 16, 8, 8).
+    let first = b"TB\x08\x00\x10\x00\x20\x00\x08\x00\x00\x00";
+    let equal = b"TA\x08\x00\x10\x00\x10\x00\x08\x00\x08\x00";
+    let (fifteen, sixteen) = (light.repeat(15), light.repeat(16));
+    vec![
+        edge(
+            "TA, age and remaining equal",
+            &[eight, first, equal, quarter],
+            "release 13\n",
+        ),
+        edge("fifteen TA", &[eight, &fifteen, quarter], "release 8\n"),
+        edge("sixteen TA", &[eight, &sixteen, quarter], "refused 2 0\n"),
+        edge(
+            "seventeen TA",
+            &[eight, &sixteen, light, quarter],
+            "refused 11 202\n",
+        ),
+        edge("TA after TF", &[eight, FREE, light, quarter], "release 8\n"),
+        edge(
+            "TF after TA",
+            &[eight, light, FREE, quarter],
+            "refused 11 24\n",
+        ),
+        edge("TA, then nothing", &[eight, light], "refused 11 22\n"),
+        edge(
+            "TA after TA, a byte short",
+            &[eight, light, &light[..11]],
+            "refused 11 22\n",
+        ),
+        // The R of RQ is taken for the record's last byte, and no mark begins with Q.
+        edge(
+            "TA a byte short, then RQ",
+            &[eight, light, &light[..11], quarter],
+            "refused 11 34\n",
+        ),
+    ]
+}
+
 /// Every card with its line.
 pub fn all() -> Vec<EdgeCard> {
-    [numbers(), old_marks(), lengths()]
-        .into_iter()
-        .flatten()
-        .collect()
+    [
+        numbers(),
+        old_marks(),
+        lengths(),
+        mixed_orders(),
+        old_forms(),
+    ]
+    .into_iter()
+    .flatten()
+    .collect()
 }
 
 #[cfg(test)]

@@ -42,7 +42,7 @@ fn compared(library: Doer, calls: u64, seed: u64, tally: &mut Tally) -> Option<S
     None
 }
 
-/// Compares at least so many calls; true when none differs and each refusal was met.
+/// Compares at least so many calls; true when none differs and each refusal was met that is given at all.
 #[cfg(feature = "house")]
 pub fn compare(calls: u64, seed: u64) -> bool {
     let begun = std::time::Instant::now();
@@ -57,11 +57,11 @@ pub fn compare(calls: u64, seed: u64) -> bool {
     let (done, histories) = (tally.compared(), tally.histories);
     let seconds = begun.elapsed().as_secs_f64();
     println!("histories {histories} calls {done} no difference, seconds {seconds:.1}");
-    let unmet = tally.unmet();
-    if !unmet.is_empty() {
-        println!("refusals that were not met: {unmet:?}");
+    let amiss = tally.amiss();
+    if !amiss.is_empty() {
+        println!("refusals that were not met, or met though they are not given: {amiss:?}");
     }
-    unmet.is_empty()
+    amiss.is_empty()
 }
 
 /// A seed that no run had before.

@@ -14,6 +14,7 @@ mod esit;
 mod history;
 #[cfg(any(test, feature = "house"))]
 mod image;
+mod orders;
 mod published;
 mod random;
 mod rules;
@@ -30,6 +31,7 @@ use std::path::Path;
 use std::process::ExitCode;
 
 const USAGE: &str = "oracle answer < CARD
+oracle rewrite < CARD
 oracle example < CARD
 oracle stored OUT_DIR
 oracle sweep [FROM TO]
@@ -46,12 +48,30 @@ fn given_card() -> io::Result<Vec<u8>> {
     Ok(bytes)
 }
 
-/// A text to standard output, flushed, so that what could not be written is an error.
-fn say(text: &str) -> io::Result<bool> {
+/// A text or a card to standard output, flushed, so that what could not be written is an error.
+fn say(bytes: impl AsRef<[u8]>) -> io::Result<bool> {
     let mut out = io::stdout().lock();
-    out.write_all(text.as_bytes())?;
+    out.write_all(bytes.as_ref())?;
     out.flush()?;
     Ok(true)
+}
+
+/// R94: a card's twin to standard output and the slots that are reordered to standard error, or the refusal there.
+fn rewrite(card: &[u8]) -> io::Result<bool> {
+    let mut anew = [0; types::LONGEST_CARD];
+    match boundary::rewrite(card, &mut anew) {
+        Ok((length, turned)) => {
+            say(&anew[..length])?;
+            if turned != 0 {
+                eprintln!("{}", boundary::reordered(turned.into()).trim_start());
+            }
+            Ok(true)
+        }
+        Err(refusal) => {
+            eprintln!("{refusal}");
+            Ok(false)
+        }
+    }
 }
 
 /// The text of a history; an error names its file.
@@ -85,7 +105,7 @@ fn beside_the_house(words: &[&str]) -> io::Result<bool> {
         },
         ["replay", file] => {
             let (replayed, same) = history::replay(&written_history(file)?)?;
-            say(&replayed).map(|_| same)
+            say(replayed).map(|_| same)
         }
         _ => usage(),
     }
@@ -99,8 +119,9 @@ fn beside_the_house(_words: &[&str]) -> io::Result<bool> {
 /// Runs a command; false when it failed or is not known.
 fn command(words: &[&str]) -> io::Result<bool> {
     match words {
-        ["answer"] => say(&card::answer(&given_card()?)),
-        ["example"] => say(&boundary::example(&given_card()?)),
+        ["answer"] => say(card::answer(&given_card()?)),
+        ["rewrite"] => rewrite(&given_card()?),
+        ["example"] => say(boundary::example(&given_card()?)),
         ["stored", folder] => stored::write(Path::new(folder)).map(|()| true),
         ["sweep"] => {
             published::sweep(0, u64::MAX);

@@ -1,8 +1,9 @@
-//! The sample cards: cases A to M, a broken card of each kind, and a card for each refusal of ask that no
-//! case has. Refusal 3 has none, as a card carries no waiting line.
+//! The sample cards: cases A to M, cards of the old order, a broken card of each kind, and a card for each
+//! refusal of ask that no case has. Refusal 3 has none, as a card carries no waiting line.
 
 use crate::card;
 use crate::cases::{letters, refused, row, Case, Line, CARD_A, LAST_CLOCK};
+use crate::orders;
 use crate::spoil::with_mark;
 use crate::types::Refusal;
 
@@ -37,12 +38,24 @@ fn cases() -> Vec<Sample> {
     letters().into_iter().map(of).collect()
 }
 
+/// R58: case A's card as the third generation wrote it, and with its second line alone written so.
+fn old_orders() -> Vec<Sample> {
+    let old = orders::old(&CARD_A);
+    let mixed = [&CARD_A[..22], &old[22..]].concat();
+    let of = |(name, bytes)| Sample {
+        name,
+        bytes,
+        answer: Ok(13),
+    };
+    [("mixed-order", mixed), ("old-order", old)].map(of).into()
+}
+
 /// Equal lines with time to spare; R55: sixteen make the longest card.
 fn equal_lines(lines: usize) -> Vec<u8> {
     card_of(0, &[(1, 64, 64, 0, 1); 16][..lines], (1, 64))
 }
 
-/// R57, R58: case A's card with one fault of its form, its records at 0, 10, 22 and 34; and the full
+/// R57: case A's card with one fault of its form, its records at 0, 10, 22 and 34; and the full
 /// card with its last line, of 12 bytes before the new line's 6, a second time.
 fn broken() -> Vec<Sample> {
     let a = &CARD_A;
@@ -52,14 +65,15 @@ fn broken() -> Vec<Sample> {
     let seventeenth = [&full[..202], &full[190..]].concat();
     let free = [before, b"TF", asked].concat();
     let misplaced = [first, &a[..10], second, asked].concat();
+    let cut_old = with_mark(&a[..30], 22, b"TA");
     vec![
         sample("broken-byte-after", [a, &b"\0"[..]].concat(), 11, 40),
+        sample("broken-cut-old-record", cut_old, 11, 22),
         sample("broken-cut-record", a[..30].to_vec(), 11, 22),
         sample("broken-empty", Vec::new(), 11, 0),
         sample("broken-free-before-request", free, 11, 36),
         sample("broken-misplaced-mark", misplaced, 11, 22),
         sample("broken-no-clock", a[10..].to_vec(), 11, 0),
-        sample("broken-old-order", with_mark(a, 22, b"TA"), 12, 22),
         sample("broken-seventeenth", seventeenth, 11, 202),
         sample("broken-unknown-mark", with_mark(a, 22, b"XX"), 11, 22),
     ]
@@ -89,7 +103,7 @@ fn one_fault() -> Vec<Sample> {
 
 /// Every sample card.
 pub fn all() -> Vec<Sample> {
-    [cases(), broken(), one_fault()]
+    [cases(), old_orders(), broken(), one_fault()]
         .into_iter()
         .flatten()
         .collect()
@@ -121,13 +135,22 @@ mod tests {
         for sample in all() {
             let number = sample.answer.map_or_else(|refusal| refusal.number, |_| 0);
             let said = match sample.name.split('-').collect::<Vec<_>>()[..] {
-                ["broken", "old", "order"] => number == 12,
                 ["broken", ..] => number == 11,
                 ["refused", said, ..] => said == number.to_string(),
+                [_, "order"] => number == 0,
                 _ => sample.name.len() == 1,
             };
             assert!(said, "{}", sample.name);
         }
+    }
+
+    #[test]
+    fn the_cards_of_the_old_order_are_twins_of_card_a() {
+        let slots = old_orders().into_iter().map(|sample| {
+            assert_eq!(orders::twin(&sample.bytes), CARD_A, "{}", sample.name);
+            orders::old_slots(&sample.bytes)
+        });
+        assert_eq!(slots.collect::<Vec<_>>(), [0b10, 0b11]);
     }
 
     #[test]

@@ -1,4 +1,4 @@
-//! Broken cards: every kind that R57 and R58 name, and random ones.
+//! Broken cards: every kind that R57 names, each beside cards that read, and random ones.
 
 use crate::card;
 use crate::cases;
@@ -57,7 +57,7 @@ fn replaced_marks() -> Vec<Vec<u8>> {
     cards
 }
 
-/// R58: TA in every place, cut to every length and whole, with and without more records after it.
+/// R57, R58: TA in every place, cut to every length and whole, with and without more records after it.
 fn old_marks() -> Vec<Vec<u8>> {
     let mut cards = vec![OLD.to_vec(), b"TA".to_vec(), b"T".to_vec(), b"C".to_vec()];
     for lines in 0..=SLOTS {
@@ -133,7 +133,7 @@ fn swapped() -> Vec<Vec<u8>> {
     cards
 }
 
-/// Every broken card of the stored set that is not random.
+/// Every broken card of the stored set that is not random, and what stands beside it.
 pub fn named() -> Vec<Vec<u8>> {
     [
         prefixes(),

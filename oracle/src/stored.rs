@@ -4,6 +4,7 @@ use crate::card;
 use crate::cases;
 use crate::edge_cards;
 use crate::edges;
+use crate::orders;
 use crate::samples;
 use crate::vectors;
 use std::fs;
@@ -47,6 +48,8 @@ pub fn write(folder: &Path) -> io::Result<()> {
     let line = card::answer(&cases::CARD_A);
     put(folder, "crates/answer/stdin", &cases::CARD_A)?;
     put(folder, "crates/answer/stdout", line.as_bytes())?;
+    put(folder, "crates/rewrite/stdin", &orders::old(&cases::CARD_A))?;
+    put(folder, "crates/rewrite/stdout", &cases::CARD_A)?;
     put(folder, "crates/vectors/stdin", &input)?;
     put(folder, "crates/vectors/stdout", output.as_bytes())?;
     for sample in samples::all() {

@@ -5,6 +5,7 @@ use crate::cases;
 use crate::draw;
 use crate::edge_cards;
 use crate::edges;
+use crate::orders;
 use crate::published;
 use crate::random::Random;
 use crate::spoil;
@@ -22,6 +23,7 @@ const ANY: usize = 150;
 const BROKEN: usize = 600;
 const MANY_LINES: usize = 60;
 const SAMPLES: u64 = 4;
+const OLD_ORDERS: usize = 250;
 
 fn of(drawn: (Table, Request)) -> Vec<u8> {
     card::bytes(&drawn.0, &drawn.1)
@@ -133,11 +135,17 @@ fn small_grid() -> Vec<Vec<u8>> {
     cards
 }
 
+/// R58: near full load, with lines of either order.
+fn either_order(random: &mut Random) -> Vec<u8> {
+    let card = of(draw::near_full(random));
+    orders::drawn(random, &card)
+}
+
 fn repeat(count: usize, mut card: impl FnMut() -> Vec<u8>) -> Vec<Vec<u8>> {
     (0..count).map(|_| card()).collect()
 }
 
-/// All cards in their order; what is not drawn may be added at the end.
+/// All cards in their order; whatever is added stands at the end, so that no card before it moves.
 fn cards() -> Vec<Vec<u8>> {
     let mut random = Random::new(SEED);
     let random = &mut random;
@@ -156,6 +164,7 @@ fn cards() -> Vec<Vec<u8>> {
         published_cards(random),
         of_rows(&edges::rows()),
         of_edge_cards(),
+        repeat(OLD_ORDERS, || either_order(random)),
     ]
     .concat()
 }
@@ -222,5 +231,12 @@ mod tests {
         assert!(cards.len() <= 8_000, "{}", cards.len());
         assert!(bytes <= 1_500_000, "{bytes}");
         assert!(cards.iter().all(|card| card.len() < usize::from(END)));
+    }
+
+    /// R32
+    #[test]
+    fn no_card_is_refused_by_12() {
+        let refusals = cards().into_iter().map(|card| card::read(&card).refusal);
+        assert!(refusals.flatten().all(|refusal| refusal.number == 11));
     }
 }

@@ -166,7 +166,7 @@ pub(crate) fn tested(pump: &Pump, request: &Request) -> Result<Lines, (u16, u64)
 #[must_use]
 #[inline]
 pub fn passes(card: &[u8]) -> bool {
-    read(card).is_ok_and(|(pump, request)| tested(&pump, &request).is_ok())
+    read(card).is_ok_and(|(pump, request, _)| tested(&pump, &request).is_ok())
 }
 
 /// R41: the start that is so many ticks from the clock; none is R30.
@@ -192,7 +192,7 @@ pub fn ask(pump: &Pump, request: &Request) -> Result<u64, (u16, u64)> {
 /// The refusal's number and place.
 #[inline]
 pub fn answer(card: &[u8]) -> Result<u64, (u16, u64)> {
-    let (pump, request) = read(card)?;
+    let (pump, request, _) = read(card)?;
     ask(&pump, &request)
 }
 
@@ -207,7 +207,7 @@ mod tests {
     #[test]
     fn case_a() {
         assert_eq!(answer(CASE_A), Ok(13));
-        let (pump, request) = read(CASE_A).unwrap_or_else(|_| unreachable!());
+        let (pump, request, _) = read(CASE_A).unwrap_or_else(|_| unreachable!());
         let mut out = [0; 208];
         assert_eq!(write(&pump, &request, &mut out), Ok(40));
         assert_eq!(&out[..40], CASE_A);

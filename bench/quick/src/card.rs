@@ -8,12 +8,12 @@ fn two(card: &[u8], at: usize) -> u16 {
     u16::from_le_bytes([card[at], card[at + 1]])
 }
 
-/// R56: the table and request of a card.
+/// R56, R58: the table and request of a card, and a bit for each slot whose record is TA.
 ///
 /// # Errors
-/// R31 and R32, 11 and 12 with the byte offset.
+/// R31, 11 with the byte offset.
 #[inline]
-pub fn read(card: &[u8]) -> Result<(Pump, Request), (u16, u64)> {
+pub fn read(card: &[u8]) -> Result<(Pump, Request, u16), (u16, u64)> {
     let Some(Ok(clock)) = card.get(2..10).map(<[u8; 8]>::try_from) else {
         return Err((11, 0));
     };
@@ -29,7 +29,7 @@ pub fn read(card: &[u8]) -> Result<(Pump, Request), (u16, u64)> {
         need: 0,
         period: 0,
     };
-    let (mut at, mut slot, mut gap) = (10, 0, false);
+    let (mut at, mut slot, mut gap, mut turned) = (10, 0, false, 0);
     loop {
         let rest = &card[at..];
         if rest.starts_with(b"RQ") {
@@ -40,26 +40,24 @@ pub fn read(card: &[u8]) -> Result<(Pump, Request), (u16, u64)> {
                 return Err((11, at as u64 + 6));
             }
             (request.need, request.period) = (two(rest, 2), two(rest, 4));
-            return Ok((pump, request));
+            return Ok((pump, request, turned));
         }
-        if slot < SLOTS && rest.starts_with(b"TB") && rest.len() >= 12 {
+        let old = rest.starts_with(b"TA");
+        if slot < SLOTS && (old || rest.starts_with(b"TB")) && rest.len() >= 12 {
+            let (age, remaining) = if old { (10, 8) } else { (8, 10) };
             pump.slots[slot] = Held::Running {
                 need: two(rest, 2),
                 period: two(rest, 4),
-                age: two(rest, 8),
-                remaining: two(rest, 10),
+                age: two(rest, age),
+                remaining: two(rest, remaining),
             };
+            turned |= u16::from(old) << slot;
             request.stretched[slot] = two(rest, 6);
             (at, slot, gap) = (at + 12, slot + 1, false);
         } else if slot < SLOTS && rest.starts_with(b"TF") {
             (at, slot, gap) = (at + 2, slot + 1, true);
         } else {
-            let number = if slot < SLOTS && rest.starts_with(b"TA") {
-                12
-            } else {
-                11
-            };
-            return Err((number, at as u64));
+            return Err((11, at as u64));
         }
     }
 }
@@ -112,4 +110,31 @@ pub fn write(pump: &Pump, request: &Request, out: &mut [u8]) -> Result<usize, (u
     out[at + 2..at + 4].copy_from_slice(&request.need.to_le_bytes());
     out[at + 4..at + 6].copy_from_slice(&request.period.to_le_bytes());
     Ok(length)
+}
+
+#[cfg(test)]
+mod tests {
+    use super::*;
+
+    const NEW: &[u8] = b"CK\x08\0\0\0\0\0\0\0TB\x08\0\x10\0\x20\0\x08\0\x03\0TB\x08\0\x10\0\x10\0\x08\0\x08\0RQ\x01\0\x04\0";
+    const OLD: &[u8] = b"CK\x08\0\0\0\0\0\0\0TB\x08\0\x10\0\x20\0\x08\0\x03\0TA\x08\0\x10\0\x10\0\x08\0\x08\0RQ\x01\0\x04\0";
+
+    /// R65, R72: a card, rewritten, and the word of its slots.
+    fn rewritten(card: &[u8]) -> (Vec<u8>, u16) {
+        let (pump, request, turned) = read(card).unwrap_or_else(|_| unreachable!());
+        let mut out = vec![0; card.len()];
+        assert_eq!(write(&pump, &request, &mut out), Ok(card.len()));
+        (out, turned)
+    }
+
+    #[test]
+    fn reads_either_order() {
+        let mut both = OLD.to_vec();
+        both[11] = b'A';
+        both.swap(18, 20);
+        assert_eq!(rewritten(NEW), (NEW.to_vec(), 0));
+        assert_eq!(rewritten(OLD), (NEW.to_vec(), 2));
+        assert_eq!(rewritten(&both), (NEW.to_vec(), 3));
+        assert_eq!(read(&OLD[..33]).err(), Some((11, 22)));
+    }
 }

@@ -199,7 +199,7 @@ fn start(lines: &[Line], need: u32, period: u32) -> Option<u32> {
 /// The refusal's number and place.
 #[inline]
 pub fn answer_in_order(card: &[u8]) -> Result<u64, (u16, u64)> {
-    let (pump, request) = read(card)?;
+    let (pump, request, _) = read(card)?;
     let (lines, count) = tested(&pump, &request)?;
     let (need, period) = (request.need.into(), request.period.into());
     from_clock(&pump, start(&lines[..count], need, period))

@@ -7,7 +7,7 @@ use std::fmt::Display;
 use std::fs::File;
 use std::io::{self, Read, Write};
 use std::process::ExitCode;
-use trimthuel::{Refusal, CARD_MAX, LINE_MAX};
+use trimthuel::{Refusal, Rewritten, CARD_MAX, LINE_MAX};
 
 /// R55: one byte more than the longest card, so that a longer file is seen to be too long.
 fn card_of(path: &str) -> io::Result<Vec<u8>> {
@@ -28,6 +28,25 @@ fn shown(told: Result<impl Display, Refusal>) -> String {
     }
 }
 
+/// R65: the slots whose record was TA, lowest first, if there are any.
+fn reordered(rewritten: Rewritten) -> String {
+    let slots: String = rewritten.slots().map(|slot| format!(" {slot}")).collect();
+    if slots.is_empty() {
+        return slots;
+    }
+    format!(" reordered{slots}")
+}
+
+/// R65, R72: a card that reads comes back the same, or as its twin.
+fn shown_rewritten(card: &[u8]) -> String {
+    let mut anew = [0; CARD_MAX];
+    shown(trimthuel::rewrite(card, &mut anew).map(|rewritten| {
+        let same = &anew[..rewritten.length] == card;
+        let remark = if same { " the same" } else { "" };
+        format!("{}{remark}{}", rewritten.length, reordered(rewritten))
+    }))
+}
+
 /// Writes all that is said of a card; true if the bench is released.
 fn show(card: &[u8], out: &mut impl Write) -> io::Result<bool> {
     let mut line = [0; LINE_MAX];
@@ -36,11 +55,7 @@ fn show(card: &[u8], out: &mut impl Write) -> io::Result<bool> {
     let released = line.starts_with(b"release ");
     let short = trimthuel::answer(card, &mut line[..length - 1]);
     writeln!(out, "short {}", shown(short))?;
-    let mut anew = [0; CARD_MAX];
-    let rewritten = trimthuel::rewrite(card, &mut anew);
-    let same = rewritten.is_ok_and(|length| &anew[..length] == card);
-    let remark = if same { " the same" } else { "" };
-    writeln!(out, "rewritten {}{remark}", shown(rewritten))?;
+    writeln!(out, "rewritten {}", shown_rewritten(card))?;
     let ran = trimthuel::run(card, TICKS);
     writeln!(out, "ran {} of {TICKS}", shown(ran))?;
     out.flush()?;

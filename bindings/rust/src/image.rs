@@ -59,7 +59,7 @@ pub fn write_card(table: &[u8], request: &Request, card: &mut [u8]) -> Result<us
 /// the image's length.
 ///
 /// # Errors
-/// Refusal 11 or 12 of the reader, or 13 if `table` is too short.
+/// Refusal 11 of the reader, or 13 if `table` is too short.
 pub fn read_card(
     card: &[u8],
     table: &mut [u8],

@@ -1,5 +1,5 @@
 //! A greenhouse pump's admission and scheduling core, proved down to the code: safe functions over `libhouse.a`, whose C
-//! side is `include/trimthuel.h`. The rules, R1 to R93, are those of docs/RULES.md.
+//! side is `include/trimthuel.h`. The rules, R1 to R94, are those of docs/RULES.md.
 //!
 //! ```
 //! use trimthuel::{Answer, Pump, Refusal};
@@ -41,14 +41,14 @@ mod refusal;
 mod request;
 mod result;
 
-pub use card::{answer, rewrite, run};
+pub use card::{answer, rewrite, run, Rewritten};
 pub use numbers::{lamp, version};
 pub use pump::Pump;
 pub use refusal::Refusal;
 pub use request::{Answer, Request};
 
 /// R93: of the boundary that this crate declares; the library's own is [`version()`].
-pub const VERSION: u32 = 1;
+pub const VERSION: u32 = 2;
 
 /// R81: of the layout of an image, its first byte.
 pub const IMAGE_VERSION: u8 = 1;

@@ -14,7 +14,7 @@ use crate::{REQUEST_SIZE, SLOTS};
 pub struct Numbers {
     /// 0 where it is granted, else the refusal's.
     pub number: u64,
-    /// The refusal's; where it is granted 0, or the new line's slot (R86).
+    /// The refusal's; where it is granted 0, the new line's slot (R86), or a word of the slots whose record was TA (R65).
     pub place: u64,
     /// What was asked for; 0 with a refusal.
     pub value: u64,

@@ -32,7 +32,7 @@ impl Pump {
     /// R92: the table and the request of a card.
     ///
     /// # Errors
-    /// Refusal 11 or 12, of the reader.
+    /// Refusal 11, of the reader.
     pub fn from_card(card: &[u8]) -> Result<(Pump, Request), Refusal> {
         let mut pump = Pump::new();
         let mut numbers = [0; REQUEST_SIZE];

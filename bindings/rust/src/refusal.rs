@@ -11,7 +11,8 @@ pub struct Refusal {
     pub place: u64,
 }
 
-/// R21 to R35: why, by the refusal's number. The header has the same words.
+/// R21 to R35: why, by the refusal's number. The header has the same words. 12 is no longer given; its number stays
+/// taken (R32).
 const WHY: [&str; 16] = [
     "no refusal has this number",
     "the clock is too late to ask",
@@ -25,7 +26,7 @@ const WHY: [&str; 16] = [
     "the lines are behind their shares",
     "the running lines alone come too late",
     "a broken card or image",
-    "an old-order mark on a card",
+    "an old-order mark, which is no longer refused",
     "the buffer is too short",
     "a period ended short",
     "the clock's last tick",

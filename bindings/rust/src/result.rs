@@ -1,7 +1,7 @@
 //! R63: what the three numbers of a result mean.
 
 use crate::numbers::{Numbers, NO_SLOT};
-use crate::{Answer, Refusal};
+use crate::{Answer, Refusal, Rewritten};
 
 impl Numbers {
     /// What is granted, or the refusal.
@@ -30,6 +30,14 @@ impl Numbers {
         Answer {
             start: self.value,
             slot: self.place as usize,
+        }
+    }
+
+    /// R65: the value is the card's length, the place a word of sixteen bits.
+    pub(crate) fn rewritten(self) -> Rewritten {
+        Rewritten {
+            length: self.length(),
+            turned: self.place as u16,
         }
     }
 

@@ -6,13 +6,14 @@ use mathlib.Core.List.{List}
 use native.Mathlib.Omega.{arith}
 use native.Mathlib.Decide.{decLt}
 use native.Mathlib.Numerals.{add-one}
-use native.Mathlib.Nat.{mod-eq-of-lt, pow-succ', div-div-eq-div-mul, add-mul-div-right}
-use lib.Bits.{bitOr, or-shifted-r, block-odd}
+use native.Mathlib.Nat.{pow-succ', div-div-eq-div-mul, add-mul-div-right}
+use lib.Bits.{bitOr, block-odd}
 use lib.ListN.{length}
-use lib.Pow.{pow-add, pow-mono, pow-pos, high}
+use lib.Pow.{pow-add, pow-pos, high}
 use Rattle.line.specs.declared.Slot.{Slot}
 use Rattle.line.specs.Slots.{at}
 use Rattle.line.specs.Tick.{isOwed}
+use Rattle.line.proofs.Bits.{or-bit}
 use Rattle.board.specs.Board.{bit, ReadyWord}
 
 -- what is added from bit i on leaves the bits below
@@ -81,10 +82,7 @@ module _ {l : List Slot} {i w : ℕ} (v : Wording l i w) where
 
   -- R49: a slot that is owed sets its bit
   pub word-set : length l ≤ 16 → i < length l → isOwed (at l i) ≡ true → Wording l (i + 1) (bitOr w (1 * 2 ^ i % 65536))
-  word-set n h e =
-      let o : 2 ^ i < 65536 = omega (arith, pow-mono {i = i} {j = 15} (omega arith)) in
-      let r : 1 * 2 ^ i % 65536 ≡ 1 * 2 ^ i = mod-eq-of-lt (omega arith) in
-      rw (r, or-shifted-r 1 i w (v .small)) (word-on true h e)
+  word-set n h e = rw (or-bit i w (omega arith) (v .small)) (word-on true h e)
 
   -- R49: after all slots it is the ready word
   pub word-end : length l ≤ i → ReadyWord l w

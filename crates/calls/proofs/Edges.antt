@@ -1,8 +1,9 @@
 -- The calls at their edges, by computation: results, short buffers, refused cards, and runs that stop.
 use Prim.Native.Nat.{ℕ, _-_, _^_}
 use mathlib.Core.Path.{_≡_, refl}
-use mathlib.Core.List.{List, [], _∷_, map}
+use mathlib.Core.List.{List, [], _∷_, _++_, map}
 use mathlib.Core.Option.{none, some}
+use lib.ListN.{take, replicate}
 use Rattle.periods.specs.Multiples.{euclid, gcdOf, lcmOf, frameFrom}
 use Rattle.table.specs.declared.Table.{Table}
 use Rattle.table.specs.declared.Answer.the-variants.{Start, Refused}
@@ -16,9 +17,12 @@ use Rattle.table.specs.Ask.{askIn, askOf}
 use Rattle.table.specs.Step.{chosen, advance, stepOf}
 use Rattle.table.specs.Cases.{running, tableOf}
 use Rattle.card.specs.Bytes.{marked}
+use Rattle.card.specs.Card.{cardOf}
 use Rattle.card.specs.Reading.{recordOf, recordsOf, readWith}
+use Rattle.card.specs.Twin.{turnedWith}
+use Rattle.card.specs.Answers.{lengthOf}
 use Rattle.calls.specs.Results.{grantedAs, resultOf, slotNumber}
-use Rattle.calls.specs.Cards.{answerOf, saidPut, putOf, rewriteOf, rewrittenOf, counted, ticksRun, runAdmitted, runOf}
+use Rattle.calls.specs.Cards.{answerOf, saidPut, putOf, rewriteAs, rewrittenOf, counted, ticksRun, runAdmitted, runOf}
 
 -- R63: what is given is the value, 0 too, and a refusal its number and place
 pub result-edges : map resultOf (gives 0 ∷ gives 208 ∷ refuses (refusal 1 0) ∷ refuses (refusal 14 7) ∷ [])
@@ -51,9 +55,32 @@ unfolding readWith recordsOf recordOf marked euclid gcdOf lcmOf frameFrom total 
 answer-edges = refl
 
 -- R65: a card that does not read is not written, and the buffer stays
-pub refused-rewrite-keeps : (rewriteOf [] 40 ≡ refuses (refusal 11 0)) × (rewrittenOf [] (7 ∷ 8 ∷ []) ≡ 7 ∷ 8 ∷ [])
+pub refused-rewrite-keeps : (rewriteAs [] 40 ≡ record { number = 11; place = 0; value = 0 }) × (rewrittenOf [] (7 ∷ 8 ∷ []) ≡ 7 ∷ 8 ∷ [])
 unfolding readWith
 refused-rewrite-keeps = (refl, refl)
+
+-- a card of 28 bytes with one line, under TA, whose age and remaining are equal; and its twin
+abbrev oldCard : List ℕ
+oldCard = 0x43 ∷ 0x4B ∷ 0 ∷ 0 ∷ 0 ∷ 0 ∷ 0 ∷ 0 ∷ 0 ∷ 0 ∷ 0x54 ∷ 0x41 ∷ 5 ∷ 0 ∷ 9 ∷ 0 ∷ 9 ∷ 0 ∷ 4 ∷ 0 ∷ 4 ∷ 0 ∷ 0x52 ∷ 0x51 ∷ 3 ∷ 0 ∷ 5 ∷ 0 ∷ []
+
+abbrev newCard : List ℕ
+newCard = 0x43 ∷ 0x4B ∷ 0 ∷ 0 ∷ 0 ∷ 0 ∷ 0 ∷ 0 ∷ 0 ∷ 0 ∷ 0x54 ∷ 0x42 ∷ 5 ∷ 0 ∷ 9 ∷ 0 ∷ 9 ∷ 0 ∷ 4 ∷ 0 ∷ 4 ∷ 0 ∷ 0x52 ∷ 0x51 ∷ 3 ∷ 0 ∷ 5 ∷ 0 ∷ []
+
+-- R65: its slot is named where there is room for it, and a refusal, 13 or 11, names its place alone
+pub rewrite-edges : map (rewriteAs oldCard) (27 ∷ 28 ∷ 29 ∷ []) ≡ record { number = 13; place = 0; value = 0 } ∷ grantedAs 1 28 ∷ grantedAs 1 28 ∷ []
+unfolding readWith turnedWith recordsOf recordOf marked lowest cardOf lengthOf
+rewrite-edges = refl
+
+-- R65: a card without TA names no slot; cut by a byte, either is refused where its last record begins
+pub rewrite-new-edges : map (λ (l : List ℕ). rewriteAs l 40) (newCard ∷ take 27 newCard ∷ take 27 oldCard ∷ take 21 oldCard ∷ [])
+    ≡ grantedAs 0 28 ∷ record { number = 11; place = 22; value = 0 } ∷ record { number = 11; place = 22; value = 0 } ∷ record { number = 11; place = 10; value = 0 } ∷ []
+unfolding readWith turnedWith recordsOf recordOf marked lowest cardOf lengthOf
+rewrite-new-edges = refl
+
+-- R65, R72: what the buffer holds then
+pub rewritten-edges : (rewrittenOf oldCard (replicate 27 7) ≡ replicate 27 7) × (rewrittenOf oldCard (replicate 30 7) ≡ newCard ++ (7 ∷ 7 ∷ []))
+unfolding readWith recordsOf recordOf marked lowest cardOf lengthOf
+rewritten-edges = (refl, refl)
 
 -- R66: no tick, one, a whole period, and two ticks of the next
 pub run-edges : map (runOf (emptyCard 3)) (0 ∷ 1 ∷ 5 ∷ 7 ∷ []) ≡ gives 0 ∷ gives 1 ∷ gives 3 ∷ gives 5 ∷ []

@@ -3,11 +3,12 @@ use mathlib.Core.Path.{_≡_, sym, ap, _∙_}
 use mathlib.Core.List.{List}
 use Prim.Native.Nat.{ℕ}
 use Rattle.table.specs.declared.Refusal.{Refusal}
-use Rattle.table.specs.Words.{gives, refuses}
+use Rattle.table.specs.Words.{Said, gives, refuses}
 use Rattle.card.specs.declared.CardAnswer.the-variants.{Read, Refused}
 use Rattle.card.specs.declared.ReadCard.{ReadCard}
-use Rattle.card.specs.Card.{carrying}
+use Rattle.card.specs.Card.{Card, carrying}
 use Rattle.card.specs.Reading.{readOf}
+use Rattle.card.specs.Twin.{turnedOf}
 use Rattle.card.specs.Answers.{handed, saidRead, saidWith}
 use Rattle.card.proofs.Answers.{said-handed}
 use Rattle.image.specs.declared.LoadAnswer.{LoadAnswer}
@@ -16,13 +17,17 @@ use Rattle.image.specs.Loading.{loadOf}
 use Rattle.image.specs.Answers.{handedOut, saidBeside, saidLoaded}
 use Rattle.image.proofs.Exactly.{said-loaded}
 
-module _ (card : List ℕ) {c : ReadCard} (e : c ≡ handed (readOf card)) where
+module _ (card : List ℕ) {c : ReadCard} (e : c ≡ handed (turnedOf card) (readOf card)) where
   said : readOf card ≡ saidRead c
-  said = sym (said-handed (readOf card)) ∙ ap saidRead (sym e)
+  said = sym (said-handed (turnedOf card) (readOf card)) ∙ ap saidRead (sym e)
 
   -- R56: where the answer is that the card was read, it reads as the table and the request beside it
   pub was-read : c .answer ≡ Read → readOf card ≡ gives (carrying (c .table) (c .request))
   was-read h = said ∙ ap (saidWith (c .table) (c .request)) h
+
+  -- R58: and the word beside it has the slots whose records were TA
+  pub was-turned : c .answer ≡ Read → c .turned ≡ turnedOf card
+  was-turned h = ap (λ (x : ReadCard). x .turned) e ∙ ap (λ (s : Said Card). handed (turnedOf card) s .turned) (was-read h)
 
   -- R56: where the answer is a refusal, the card is refused by it
   pub was-refused : (x : Refusal) → c .answer ≡ Refused x → readOf card ≡ refuses x

@@ -12,8 +12,11 @@ use Rattle.table.specs.Admit.{admitOf}
 use Rattle.table.specs.Step.{saysRan, stepOf}
 use Rattle.card.specs.Card.{Card}
 use Rattle.card.specs.Reading.{readOf}
+use Rattle.card.specs.Twin.{turnedOf}
 use Rattle.card.specs.Answers.{writeOf, bufferOf}
 use Rattle.reply.specs.Line.{answerLine, lengthFor}
+use Rattle.calls.specs.declared.Result.{Result}
+use Rattle.calls.specs.Results.{resultAt}
 
 -- R60: the reader's refusal, or what ask answers
 abbrev pub answerFor : Said Card → Answer
@@ -46,12 +49,16 @@ rewriteFor (refuses x) room = refuses x
 abbrev pub rewriteOf : (card : List ℕ) (room : ℕ) → Said ℕ
 rewriteOf card room = rewriteFor (readOf card) room
 
+-- R65, R94: the result of it, whose place is the word of the slots whose records were TA
+abbrev pub rewriteAs : (card : List ℕ) (room : ℕ) → Result
+rewriteAs card room = resultAt (turnedOf card) (rewriteOf card room)
+
 -- R65: what the buffer holds then; a refusal leaves every byte
 abbrev pub rewrittenFor : Said Card → List ℕ → List ℕ
 rewrittenFor (gives c) buffer = bufferOf (c .table) (c .request) buffer
 rewrittenFor (refuses x) buffer = buffer
 
--- R65: the same of the card's bytes
+-- R65, R94: the same of the card's bytes
 abbrev pub rewrittenOf : (card buffer : List ℕ) → List ℕ
 rewrittenOf card buffer = rewrittenFor (readOf card) buffer
 

@@ -13,10 +13,14 @@ grantedAs k v = record { number = 0; place = k; value = v }
 abbrev pub refusedAs : Refusal → Result
 refusedAs x = record { number = x .number; place = x .place; value = 0 }
 
+-- R63: what was asked for with a place, or the refusal
+abbrev pub resultAt : (place : ℕ) → Said ℕ → Result
+resultAt k (gives v) = grantedAs k v
+resultAt k (refuses x) = refusedAs x
+
 -- R63: what was asked for, or the refusal
 abbrev pub resultOf : Said ℕ → Result
-resultOf (gives v) = grantedAs 0 v
-resultOf (refuses x) = refusedAs x
+resultOf s = resultAt 0 s
 
 -- R63: a slot is its number, and none is 255
 abbrev pub slotNumber : Option ℕ → ℕ

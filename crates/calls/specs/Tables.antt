@@ -13,7 +13,7 @@ use Rattle.table.specs.Step.{saysRan, stepOf}
 use Rattle.board.specs.Board.{ReadyWord}
 use Rattle.image.specs.Answers.{storedIn}
 use Rattle.calls.specs.declared.Result.{Result}
-use Rattle.calls.specs.Results.{grantedAs, refusedAs, slotNumber}
+use Rattle.calls.specs.Results.{grantedAs, refusedAs, resultAt, slotNumber}
 
 -- R6: the request of a need, a period and the stretched periods
 abbrev pub requestOf : (need period : ℕ) → List ℕ → Request
@@ -26,8 +26,7 @@ changed (refuses x) m l = l
 
 -- R86: the start, and the slot that the new line has or would have
 abbrev pub askedAs : Table → Said ℕ → Result
-askedAs t (gives start) = grantedAs (slotNumber (lowestOf isNothing (t .slots))) start
-askedAs t (refuses x) = refusedAs x
+askedAs t s = resultAt (slotNumber (lowestOf isNothing (t .slots))) s
 
 -- R86: the image's refusal, or ask's answer
 abbrev pub askFor : Said Table → Request → Result

@@ -1,12 +1,13 @@
-// A card's answer and its line, and the run of its table with its request admitted.
+// A card's answer and its line, the card written anew, and the run of its table with its request admitted.
 ghost use mathlib.Core.Path.{_≡_};
 ghost use Prim.Native.Nat.{_≤_};
+ghost use lib.ListN.{length};
 ghost use Rattle.table.specs.Words.{slotOf};
 ghost use Rattle.table.specs.Ask.{says};
 ghost use Rattle.table.specs.Admit.{admitOf};
 ghost use Rattle.reply.specs.Line.{answerLine, heldAfter};
 ghost use Rattle.calls.specs.Results.{resultOf};
-ghost use Rattle.calls.specs.Cards.{answerOf, putOf, counted, ticksRun, runAdmitted};
+ghost use Rattle.calls.specs.Cards.{answerOf, putOf, rewriteAs, rewrittenOf, counted, ticksRun, runAdmitted};
 use crate::Result;
 use card::CardAnswer;
 use reply::Written;
@@ -36,6 +37,20 @@ pub fn put_line(a: Answer, out: &mut [u8]) -> Result
     match reply::put_reply(a, out) {
         Written::Length(n) => Result::granted(0, n as u64),
         Written::Short => Result::refused(Refusal::new(13, 0)),
+    }
+}
+
+// R65: the card's twin goes into the lent buffer, or the card is refused, or the buffer is too short, and then every byte of it stays.
+pub fn rewrite(card: &[u8], out: &mut [u8]) -> Result
+    ensures { λ r. ⌜ (r ≡ rewriteAs (now (card .entry)) (length (now (out .entry)))) × (now (out .exit) ≡ rewrittenOf (now (card .entry)) (now (out .entry))) ⌝ }
+{
+    let c = reader::read(card);
+    let said = c.answer;
+    match said {
+        CardAnswer::Read => {
+            crate::written(c.turned as u64, writer::write(c.table, c.request, out))
+        }
+        CardAnswer::Refused(x) => Result::refused(x),
     }
 }
 

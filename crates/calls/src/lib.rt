@@ -3,7 +3,7 @@
 ghost use mathlib.Core.Path.{_≡_};
 ghost use Rattle.table.specs.Words.{slotOf};
 ghost use Rattle.card.specs.Answers.{saidWritten};
-ghost use Rattle.calls.specs.Results.{grantedAs, refusedAs, resultOf, slotNumber};
+ghost use Rattle.calls.specs.Results.{grantedAs, refusedAs, resultAt, slotNumber};
 use card::WriteAnswer;
 use table::Refusal;
 use table::Which;
@@ -54,12 +54,12 @@ fn slot_number(w: Which) -> u64
     }
 }
 
-// R59, R84: what was written, by a writer's answer.
-pub fn written(w: WriteAnswer) -> Result
-    ensures { λ r. ⌜ r ≡ resultOf (saidWritten w) ⌝ }
+// R59, R84: what was written, by a writer's answer, with the place that a grant has.
+pub fn written(place: u64, w: WriteAnswer) -> Result
+    ensures { λ r. ⌜ r ≡ resultAt place (saidWritten w) ⌝ }
 {
     match w {
-        WriteAnswer::Length(n) => Result::granted(0, n as u64),
+        WriteAnswer::Length(n) => Result::granted(place, n as u64),
         WriteAnswer::Refused(x) => Result::refused(x),
     }
 }

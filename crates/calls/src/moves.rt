@@ -34,8 +34,8 @@ pub fn move_in(t: Table, q: Request, table: &mut [u8], numbers: &mut [u16; 18]) 
     match w {
         WriteAnswer::Length(_) => {
             *numbers = numbers_of(q);
-            written(w)
+            written(0, w)
         }
-        WriteAnswer::Refused(_) => written(w),
+        WriteAnswer::Refused(_) => written(0, w),
     }
 }

@@ -10,15 +10,16 @@ use Rattle.card.specs.declared.ReadCard.{ReadCard}
 use Rattle.card.specs.declared.WriteAnswer.{WriteAnswer}
 use Rattle.card.specs.Card.{Card}
 use Rattle.card.specs.Reading.{readOf}
+use Rattle.card.specs.Twin.{turnedOf}
 use Rattle.card.specs.Answers.{handed, saidRead, saidWritten, writeOf, bufferOf}
 
 -- R56: what is handed out says what was read
-pub said-handed : (s : Said Card) → saidRead (handed s) ≡ s
-said-handed (gives c) = refl
-said-handed (refuses r) = refl
+pub said-handed : (w : ℕ) (s : Said Card) → saidRead (handed w s) ≡ s
+said-handed w (gives c) = refl
+said-handed w (refuses r) = refl
 
 -- R71: what the reader's contract allows is one thing
-pub one-reading : (l : List ℕ) (a b : ReadCard) → a ≡ handed (readOf l) → b ≡ handed (readOf l) → a ≡ b
+pub one-reading : (l : List ℕ) (a b : ReadCard) → a ≡ handed (turnedOf l) (readOf l) → b ≡ handed (turnedOf l) (readOf l) → a ≡ b
 one-reading l a b p q = p ∙ sym q
 
 answer-with : Said ℕ → WriteAnswer

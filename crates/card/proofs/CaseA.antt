@@ -10,6 +10,7 @@ use Rattle.card.specs.Bytes.{marked}
 use Rattle.card.specs.Layout.{TA}
 use Rattle.card.specs.Card.{cardOf, carrying}
 use Rattle.card.specs.Reading.{recordOf, recordsOf, readWith, readOf}
+use Rattle.card.specs.Twin.{turnedWith, turnedOf, twinFrom, twinWith, twinOf}
 use Rattle.card.specs.Answers.{lengthOf, writeOf}
 
 abbrev printed : List ℕ
@@ -29,10 +30,23 @@ pub case-A-read : readOf printed ≡ gives (carrying (caseA .table) (caseA .requ
 unfolding readWith recordsOf recordOf marked
 case-A-read = refl
 
--- R58: an old record where the second slot's may stand, cut to its mark
-pub case-A-old : readOf (take 22 printed ++ TA) ≡ refuses (refusal 12 22)
+-- R58, R72: case A as the third generation wrote it, and what the tool makes of it
+abbrev printedOld : List ℕ
+printedOld =
+    0x43 ∷ 0x4B ∷ 0x08 ∷ 0x00 ∷ 0x00 ∷ 0x00 ∷ 0x00 ∷ 0x00 ∷ 0x00 ∷ 0x00 ∷
+    0x54 ∷ 0x41 ∷ 0x08 ∷ 0x00 ∷ 0x10 ∷ 0x00 ∷ 0x20 ∷ 0x00 ∷ 0x00 ∷ 0x00 ∷ 0x08 ∷ 0x00 ∷
+    0x54 ∷ 0x41 ∷ 0x08 ∷ 0x00 ∷ 0x10 ∷ 0x00 ∷ 0x10 ∷ 0x00 ∷ 0x08 ∷ 0x00 ∷ 0x08 ∷ 0x00 ∷
+    0x52 ∷ 0x51 ∷ 0x01 ∷ 0x00 ∷ 0x04 ∷ 0x00 ∷ []
+
+-- R58, R72: it reads as case A, names both slots, the second too, whose age and remaining are equal, and its twin is the card as printed
+pub case-A-old : (readOf printedOld ≡ gives (carrying (caseA .table) (caseA .request))) × (turnedOf printedOld ≡ 3) × (twinOf printedOld ≡ printed)
+unfolding readWith turnedWith twinWith twinFrom recordsOf recordOf marked
+case-A-old = (refl, refl, refl)
+
+-- R57: an old record where the second slot's may stand, cut to its mark
+pub case-A-cut : readOf (take 22 printed ++ TA) ≡ refuses (refusal 11 22)
 unfolding readWith recordsOf recordOf marked
-case-A-old = refl
+case-A-cut = refl
 
 -- R59: 40 bytes are room enough
 pub case-A-in-forty : writeOf (caseA .table) (caseA .request) 40 ≡ gives 40

@@ -19,12 +19,12 @@ use Rattle.card.specs.Reading.{recordOf, recordsOf, readWith, readOf}
 use Rattle.card.specs.Answers.{handed, saidRead, saidWritten, lengthOf, writeOf, bufferOf}
 
 -- the bytes l so many times
-abbrev times : ℕ → List ℕ → List ℕ
+abbrev pub times : ℕ → List ℕ → List ℕ
 times zero l = []
 times (suc n) l = l ++ times n l
 
 -- a card of 30 bytes: the clock, slot 0 that holds nothing, slot 1 with a line, the new line
-abbrev whole : List ℕ
+abbrev pub whole : List ℕ
 whole =
     0x43 ∷ 0x4B ∷ 0x01 ∷ 0x02 ∷ 0x03 ∷ 0x04 ∷ 0x05 ∷ 0x06 ∷ 0x07 ∷ 0x08 ∷
     0x54 ∷ 0x46 ∷
@@ -39,20 +39,20 @@ abbrev wholeRequest : Request
 wholeRequest = requestWith (0 ∷ 0x3231 ∷ replicate 14 0) 0x8281 0x9291
 
 -- its records one by one
-abbrev clock : List ℕ
+abbrev pub clock : List ℕ
 clock = 0x43 ∷ 0x4B ∷ 0x01 ∷ 0x02 ∷ 0x03 ∷ 0x04 ∷ 0x05 ∷ 0x06 ∷ 0x07 ∷ 0x08 ∷ []
 
-abbrev free : List ℕ
+abbrev pub free : List ℕ
 free = 0x54 ∷ 0x46 ∷ []
 
-abbrev line : List ℕ
+abbrev pub line : List ℕ
 line = 0x54 ∷ 0x42 ∷ 0x11 ∷ 0x12 ∷ 0x21 ∷ 0x22 ∷ 0x31 ∷ 0x32 ∷ 0x61 ∷ 0x62 ∷ 0x71 ∷ 0x72 ∷ []
 
-abbrev request : List ℕ
+abbrev pub request : List ℕ
 request = 0x52 ∷ 0x51 ∷ 0x81 ∷ 0x82 ∷ 0x91 ∷ 0x92 ∷ []
 
 -- a whole record of the third generation
-abbrev old : List ℕ
+abbrev pub old : List ℕ
 old = 0x54 ∷ 0x41 ∷ 0x11 ∷ 0x12 ∷ 0x21 ∷ 0x22 ∷ 0x31 ∷ 0x32 ∷ 0x71 ∷ 0x72 ∷ 0x61 ∷ 0x62 ∷ []
 
 abbrev lineSlot : Slot
@@ -64,9 +64,6 @@ reads ss ts = gives (record { table = tableOf 0x0807060504030201 ss; request = r
 
 abbrev breaks : (place : ℕ) → Said Card
 breaks at = refuses (refusal 11 at)
-
-abbrev isOld : (place : ℕ) → Said Card
-isOld at = refuses (refusal 12 at)
 
 -- some bytes and what the reader says of them
 pub record CardEdge : Type 0 where
@@ -141,16 +138,20 @@ sixteenEdges =
     ∷ edge (clock ++ times 16 line ++ take 2 old) (breaks 202)
     ∷ []
 
--- R58: the old mark where a slot's record may stand, its record whole and cut
+-- R58: a record of the third generation where a slot's may stand, whole and cut
 abbrev oldEdges : List CardEdge
 oldEdges =
-    edge (clock ++ old ++ request) (isOld 10)
-    ∷ edge (clock ++ old) (isOld 10)
-    ∷ edge (clock ++ take 2 old) (isOld 10)
+    edge (clock ++ old ++ request) (reads (lineSlot ∷ replicate 15 empty) (0x3231 ∷ replicate 15 0))
+    ∷ edge (clock ++ old ++ line ++ old ++ request) (reads (lineSlot ∷ lineSlot ∷ lineSlot ∷ replicate 13 empty) (0x3231 ∷ 0x3231 ∷ 0x3231 ∷ replicate 13 0))
+    ∷ edge (clock ++ free ++ old ++ request) (reads (empty ∷ lineSlot ∷ replicate 14 empty) (0 ∷ 0x3231 ∷ replicate 14 0))
+    ∷ edge (clock ++ times 16 old ++ request) (reads (replicate 16 lineSlot) (replicate 16 0x3231))
+    ∷ edge (clock ++ times 17 old ++ request) (breaks 202)
+    ∷ edge (clock ++ old ++ free ++ request) (breaks 24)
+    ∷ edge (clock ++ old) (breaks 22)
+    ∷ edge (clock ++ take 2 old) (breaks 10)
     ∷ edge (clock ++ take 1 old) (breaks 10)
-    ∷ edge (clock ++ free ++ old ++ request) (isOld 12)
-    ∷ edge (clock ++ line ++ take 11 old) (isOld 22)
-    ∷ edge (clock ++ times 15 line ++ take 2 old) (isOld 190)
+    ∷ edge (clock ++ line ++ take 11 old) (breaks 22)
+    ∷ edge (clock ++ times 15 line ++ take 2 old) (breaks 190)
     ∷ []
 
 -- R56, R3: any numbers are taken, unsound lines too, up to the greatest of sixteen and of 64 bits
@@ -170,7 +171,7 @@ numberEdges =
 unfoldable pub cardEdges : List CardEdge
 cardEdges = numberEdges ++ clockEdges ++ markEdges ++ requestEdges ++ sixteenEdges ++ oldEdges
 
--- R31, R32, R57, R58: what the reader says of each
+-- R31, R57, R58: what the reader says of each
 pub card-edges : map (λ (c : CardEdge). readOf (c .bytes)) cardEdges ≡ map (λ (c : CardEdge). c .says) cardEdges
 unfolding marked recordOf recordsOf readWith cardEdges
 card-edges = refl
@@ -269,20 +270,21 @@ cleared-edge = refl
 
 -- R56: what is handed out with a refusal, and with a card that reads
 pub handed-edges :
-    map (λ (l : List ℕ). handed (readOf l)) (clock ∷ whole ∷ [])
+    map (λ (l : List ℕ). handed 5 (readOf l)) (clock ∷ whole ∷ [])
     ≡ record {
       table = tableOf 0 (replicate 16 empty);
       request = requestWith (replicate 16 0) 0 0;
+      turned = 0;
       answer = CardAnswer.Refused (refusal 11 10);
     }
-    ∷ record { table = wholeTable; request = wholeRequest; answer = CardAnswer.Read }
+    ∷ record { table = wholeTable; request = wholeRequest; turned = 5; answer = CardAnswer.Read }
     ∷ []
 unfolding marked recordOf recordsOf readWith
 handed-edges = refl
 
 -- R17, R59: the code's answers say their own numbers, whatever table stands beside a refusal
 pub said-edges : (t : Table) (q : Request) →
-    (map saidRead (record { table = t; request = q; answer = CardAnswer.Refused (refusal 12 34) } ∷ record { table = t; request = q; answer = CardAnswer.Read } ∷ [])
-    ≡ refuses (refusal 12 34) ∷ gives (record { table = t; request = q }) ∷ [])
+    (map saidRead (record { table = t; request = q; turned = 0; answer = CardAnswer.Refused (refusal 11 34) } ∷ record { table = t; request = q; turned = 5; answer = CardAnswer.Read } ∷ [])
+    ≡ refuses (refusal 11 34) ∷ gives (record { table = t; request = q }) ∷ [])
     × (map saidWritten (WriteAnswer.Length 56 ∷ WriteAnswer.Refused (refusal 13 78) ∷ []) ≡ gives 56 ∷ refuses (refusal 13 78) ∷ [])
 said-edges t q = (refl, refl)

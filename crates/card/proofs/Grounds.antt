@@ -1,6 +1,5 @@
--- Which numbers the reader refuses with: 11, and 12 for the old mark (R57, R58).
+-- The reader refuses with 11 alone (R57); 12 is no longer given (R32).
 use mathlib.Core.Path.{_≡_, refl}
-use mathlib.Core.Logic.{_⊎_, inl, inr}
 use mathlib.Core.Bool.{Bool, true, false}
 use mathlib.Core.List.{List, [], _∷_}
 use Prim.Native.Nat.{ℕ, zero, suc, _+_}
@@ -17,20 +16,16 @@ use Rattle.card.specs.Layout.{CK, TB, TF, TA, RQ, isFree, clockAt, clock
 use Rattle.card.specs.Marked.{free, Records}
 use Rattle.card.specs.Reading.{lineRecordOf, lastOf, slotRecordOf, recordOf, broken, putInFront, step, recordsOf, meaning, readWith}
 
--- 11 or 12
-abbrev pub Ground : ℕ → Type 0
-Ground n = (n ≡ 11) ⊎ (n ≡ 12)
-
--- if it is a refusal, its number is one of these
+-- if it is a refusal, its number is 11
 abbrev pub Refuses : {A : Type 0} → Said A → Type 0
 Refuses (gives x) = Unit {0}
-Refuses (refuses r) = Ground (r .number)
+Refuses (refuses r) = r .number ≡ 11
 
 -- the same of a record
 abbrev Fails : Record → Type 0
 Fails (Slot r) = Unit {0}
 Fails (Last c n) = Unit {0}
-Fails (Refused n) = Ground n
+Fails (Refused n) = n ≡ 11
 
 either : (o : Bool) (x y : Record) → Fails x → Fails y → Fails (pick o x y)
 either true x y p q = p
@@ -39,20 +34,20 @@ either false x y p q = q
 record-fails : (left : ℕ) (l : List ℕ) → Fails (recordOf left l)
 unfolding recordOf
 record-fails left l =
-    let line : Fails (lineRecordOf Mark.TB l) = either (leb lineLength (length l)) _ (Refused 11) tt (inl refl) in
-    let last : Fails (lastOf l) = either (leb lastLength (length l)) _ (Refused 11) tt (inl refl) in
-    let unknown : Fails (pick (marked TA l) (Refused 12) (Refused 11)) = either (marked TA l) (Refused 12) (Refused 11) (inr refl) (inl refl) in
-    let slot : Fails (slotRecordOf l) = either (marked TB l) (lineRecordOf Mark.TB l) _ line (either (marked TF l) (Slot free) _ tt unknown) in
-    either (marked RQ l) (lastOf l) _ last (either (ltb 0 left) (slotRecordOf l) (Refused 11) slot (inl refl))
+    let line : (m : Mark) → Fails (lineRecordOf m l) = λ m. either (leb lineLength (length l)) _ (Refused 11) tt refl in
+    let last : Fails (lastOf l) = either (leb lastLength (length l)) _ (Refused 11) tt refl in
+    let old : Fails (pick (marked TA l) (lineRecordOf Mark.TA l) (Refused 11)) = either (marked TA l) (lineRecordOf Mark.TA l) (Refused 11) (line Mark.TA) refl in
+    let slot : Fails (slotRecordOf l) = either (marked TB l) (lineRecordOf Mark.TB l) _ (line Mark.TB) (either (marked TF l) (Slot free) _ tt old) in
+    either (marked RQ l) (lastOf l) _ last (either (ltb 0 left) (slotRecordOf l) (Refused 11) slot refl)
 
 in-front : (rs : List SlotRecord) (s : Said Records) → Refuses s → Refuses (putInFront rs s)
 in-front rs (gives m) h = tt
 in-front rs (refuses x) h = h
 
 closing-refuses : (gap o : Bool) (at : ℕ) (m : Records) → Refuses (pick gap (broken at) (pick o (gives m) (broken (at + lastLength))))
-closing-refuses true o at m = inl refl
+closing-refuses true o at m = refl
 closing-refuses false true at m = tt
-closing-refuses false false at m = inl refl
+closing-refuses false false at m = refl
 
 -- a record's step, where what follows it refuses so
 one-step : (k left : ℕ) (gap : Bool) (at : ℕ) (l : List ℕ) (next : Bool → ℕ → List ℕ → Said Records) (r : Record) → Fails r
@@ -65,10 +60,10 @@ one-step k left gap at l next (Refused n) f h = f
 
 records-refuse : (k left : ℕ) (gap : Bool) (at : ℕ) (l : List ℕ) → Refuses (recordsOf k left gap at l)
 unfolding recordsOf
-records-refuse k zero gap at l = one-step k 0 gap at l _ (recordOf 0 l) (record-fails 0 l) (λ g a x. inl refl)
+records-refuse k zero gap at l = one-step k 0 gap at l _ (recordOf 0 l) (record-fails 0 l) (λ g a x. refl)
 records-refuse k (suc n) gap at l = one-step k (suc n) gap at l (recordsOf k n) (recordOf (suc n) l) (record-fails (suc n) l) (records-refuse k n)
 
--- R57, R58: the reader refuses with 11 or 12 alone
+-- R32, R57: the reader refuses with 11 alone
 pub read-refuses : (n : ℕ) (l : List ℕ) → Refuses (readWith n l)
 unfolding readWith
 read-refuses n l =
@@ -81,4 +76,4 @@ read-refuses n l =
 
     go : (o : Bool) (s : Said Records) → Refuses s → Refuses (meaning (pick o s (broken 0)))
     go true s h = means s h
-    go false s h = inl refl
+    go false s h = refl

@@ -1,6 +1,7 @@
 -- The laws of the card.
 pub mod CaseA
 pub mod Edges
+pub mod TwinEdges
 pub mod Parts
 pub mod Numbers
 pub mod Marks
@@ -8,11 +9,13 @@ pub mod Records
 pub mod Steps
 pub mod Passed
 pub mod Slots
-pub mod ReadsBack
-pub mod WritesBack
-pub mod Exactly
 pub mod Length
 pub mod Prefix
+pub mod ReadsBack
+pub mod Turned
+pub mod Twins
+pub mod WritesBack
+pub mod Exactly
 pub mod Refusals
 pub mod Grounds
 pub mod Written

@@ -17,17 +17,20 @@ use Rattle.card.specs.declared.Record.the-variants.{Slot, Last, Refused}
 use Rattle.card.specs.Bytes.{value, marked}
 use Rattle.card.specs.Layout.{CK, TB, TF, TA, RQ, isFree, clockAt, needAt, periodAt, stretchedAt, fourthAt, fifthAt, clockLength, lineLength, lastLength, recordLength}
 use Rattle.card.specs.Marked.{Records}
-use Rattle.card.specs.Reading.{lineRecordOf, lastOf, slotRecordOf, recordOf, putInFront, ending, closing, broken, step, recordsOf, readWith, readOf}
+use Rattle.card.specs.Reading.{lineRecordOf, lastOf, slotRecordOf, recordOf, putInFront, ending, closing, broken, step, recordsOf, recordsWith, meaning, readWith, readOf}
+use Rattle.card.specs.Twin.{turnedIn, turnedWith, turnedOf}
 use Rattle.card.proofs.Length.{mark-length}
 
-marked-take : (m : List ℕ) (n : ℕ) (l : List ℕ) → length m ≤ n → marked m (take n l) ≡ marked m l
+-- a mark is seen in what is cut behind it
+pub marked-take : (m : List ℕ) (n : ℕ) (l : List ℕ) → length m ≤ n → marked m (take n l) ≡ marked m l
 unfolding marked
 marked-take [] n l h = refl
 marked-take (a ∷ m) zero l h = absurd (omega arith)
 marked-take (a ∷ m) (suc n) [] h = refl
 marked-take (a ∷ m) (suc n) (b ∷ l) h = ap (both (eqb b a)) (marked-take m n l (le-of-suc-le-suc h))
 
-value-take : (w n : ℕ) (l : List ℕ) (at : ℕ) → at + w ≤ n → value w (take n l) at ≡ value w l at
+-- and so is a number
+pub value-take : (w n : ℕ) (l : List ℕ) (at : ℕ) → at + w ≤ n → value w (take n l) at ≡ value w l at
 value-take zero n l at h = refl
 value-take (suc w) n l at h = ap₂ (λ (x y : ℕ). x + 256 * y) (getD-take n l at 0 (omega arith)) (value-take w n l (suc at) (omega arith))
 
@@ -65,7 +68,7 @@ module _ (n : ℕ) (l : List ℕ) where
 
   slot-take : lineLength ≤ n → slotRecordOf (take n l) ≡ slotRecordOf l
   slot-take h =
-      rw (line-take Mark.TB h, marked-take TB n l (omega arith), marked-take TF n l (omega arith), marked-take TA n l (omega arith))
+      rw (line-take Mark.TB h, line-take Mark.TA h, marked-take TB n l (omega arith), marked-take TF n l (omega arith), marked-take TA n l (omega arith))
 
   full-take : lastLength ≤ n → recordOf 0 (take n l) ≡ recordOf 0 l
   unfolding recordOf
@@ -115,9 +118,10 @@ records-take k (suc n) gap at l m h =
 abbrev pub deciding : ℕ → ℕ
 deciding n = clockLength + (1 + lastLength + lineLength * n)
 
-read-take : (n : ℕ) (l : List ℕ) (m : ℕ) → deciding n ≤ m → readWith n (take m l) ≡ readWith n l
-unfolding readWith
-read-take n l m h =
+-- the records are those of the first bytes, one more than the longest card has
+records-by-prefix : (n : ℕ) (l : List ℕ) → recordsWith n (take (deciding n) l) ≡ recordsWith n l
+records-by-prefix n l =
+    let m = deciding n in
     rw (
       long-take clockLength m l (omega arith),
       marked-take CK m l (omega arith),
@@ -126,10 +130,14 @@ read-take n l m h =
       records-take (value 8 l clockAt) n false clockLength (drop clockLength l) (m - clockLength) (omega arith),
     )
 
--- R57: the verdict is that on the first bytes, one more than the longest card has
-pub verdict-by-prefix : (n : ℕ) (l : List ℕ) → readWith n (take (deciding n) l) ≡ readWith n l
-verdict-by-prefix n l = read-take n l (deciding n) (omega arith)
+-- R57, R58: so is the verdict, and so are the slots whose records are TA
+pub verdict-by-prefix : (n : ℕ) (l : List ℕ) → (readWith n (take (deciding n) l) ≡ readWith n l) × (turnedWith n (take (deciding n) l) ≡ turnedWith n l)
+unfolding readWith turnedWith
+verdict-by-prefix n l = (ap meaning (records-by-prefix n l), ap turnedIn (records-by-prefix n l))
 
--- R57: so inputs that agree on 209 bytes get the same verdict
-pub verdict-by-209 : (l m : List ℕ) → take 209 l ≡ take 209 m → readOf l ≡ readOf m
-verdict-by-209 l m e = sym (verdict-by-prefix 16 l) ∙ ap readOf e ∙ verdict-by-prefix 16 m
+-- R57, R58: so inputs that agree on 209 bytes get the same verdict, with the same slots
+pub verdict-by-209 : (l m : List ℕ) → take 209 l ≡ take 209 m → (readOf l ≡ readOf m) × (turnedOf l ≡ turnedOf m)
+verdict-by-209 l m e =
+    let a = verdict-by-prefix 16 l in
+    let b = verdict-by-prefix 16 m in
+    (sym (a .0) ∙ ap readOf e ∙ b .0, sym (a .1) ∙ ap turnedOf e ∙ b .1)

@@ -16,8 +16,9 @@ use Rattle.card.specs.declared.SlotRecord.{SlotRecord}
 use Rattle.card.specs.Layout.{isFree, clockLength}
 use Rattle.card.specs.Marked.{free, Fitting, recordedBytes, saying}
 use Rattle.card.specs.Card.{requestRecord, slotRecord, slotRecords, oneMore, usedFrom, used, cardOf, carrying, cleared, AllCarried, Fits}
-use Rattle.card.specs.Reading.{putInFront, recordsOf, meaning, readWith}
-use Rattle.card.proofs.Slots.{Of, carried, recordsFor, records-for, used-none, used-some}
+use Rattle.card.specs.Reading.{putInFront, recordsOf, recordsWith, meaning, readWith}
+use Rattle.card.specs.Twin.{turnedIn, turnedWith}
+use Rattle.card.proofs.Slots.{Of, carried, recordsFor, records-for, none-old, used-none, used-some}
 use Rattle.card.proofs.Passed.{after-clock, reads-record, reads-last}
 
 -- a record without numbers is TF
@@ -78,14 +79,25 @@ module _ (k c n : ℕ) (hc : c < 65536) (hn : n < 65536) where
       let w = carried (s .held) t (f .0) in
       one (s .held) t (w .0) (w .1) (w .2) ss ts (recordsFor ss ts (f .1)) gap at g (none-held ss ts (f .1)) (λ o a. records-read ss ts o a (f .1))
 
--- R72: what was written is read
-pub reads-back : (n : ℕ) (t : Table) (q : Request) → Fits n t q
-    → readWith n (cardOf t q) ≡ gives (carrying t (cleared t q))
-unfolding cardOf readWith
-reads-back n t q f =
-    let w = records-for (t .slots) (q .stretched) (f .lines) in
-    ap meaning
-    (after-clock n (t .clock) _ (f .clock)
-    ∙ ap (λ (m : ℕ). recordsOf (t .clock) m false clockLength (slotRecords (used (t .slots)) (t .slots) (q .stretched) ++ requestRecord (q .need) (q .period))) (sym (f .slots))
-    ∙ records-read (t .clock) (q .need) (q .period) (f .need) (f .period) (t .slots) (q .stretched) false clockLength (f .lines) (λ e u. true-false e refl))
-    ∙ ap₂ (λ (x : List Slot) (y : List ℕ). gives (carrying (tableWith (t .clock) x) (requestWith y (q .need) (q .period)))) (w .0) (w .1)
+-- what was written
+module _ (n : ℕ) (t : Table) (q : Request) (f : Fits n t q) where
+  -- its records are those of the slots
+  back : recordsWith n (cardOf t q) ≡ gives (saying (t .clock) (recordsFor (t .slots) (q .stretched) (f .lines)) (q .need) (q .period))
+  unfolding cardOf
+  back =
+      after-clock n (t .clock) _ (f .clock)
+      ∙ ap (λ (m : ℕ). recordsOf (t .clock) m false clockLength (slotRecords (used (t .slots)) (t .slots) (q .stretched) ++ requestRecord (q .need) (q .period))) (sym (f .slots))
+      ∙ records-read (t .clock) (q .need) (q .period) (f .need) (f .period) (t .slots) (q .stretched) false clockLength (f .lines) (λ e u. true-false e refl)
+
+  -- R72: it is read
+  pub reads-back : readWith n (cardOf t q) ≡ gives (carrying t (cleared t q))
+  unfolding readWith
+  reads-back =
+      let w = records-for (t .slots) (q .stretched) (f .lines) in
+      ap meaning back
+      ∙ ap₂ (λ (x : List Slot) (y : List ℕ). gives (carrying (tableWith (t .clock) x) (requestWith y (q .need) (q .period)))) (w .0) (w .1)
+
+  -- R72: and no record of it is TA
+  pub no-old : turnedWith n (cardOf t q) ≡ 0
+  unfolding turnedWith
+  no-old = ap turnedIn back ∙ none-old (t .slots) (q .stretched) (f .lines)

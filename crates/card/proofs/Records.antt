@@ -15,7 +15,7 @@ use Rattle.card.specs.declared.Record.the-variants.{Slot, Last, Refused}
 use Rattle.card.specs.declared.Recorded.the-variants.{As}
 use Rattle.card.specs.Bytes.{Bytes, le, value, marked}
 use Rattle.card.specs.Layout.{TB, TF, TA, RQ, needAt, periodAt, stretchedAt, fourthAt, fifthAt, markLength, lineLength, lastLength, recordLength}
-use Rattle.card.specs.Marked.{recordWith, free, numbersOf, recordBytes, NumbersFit, Fitting, heldUnder, recordFor}
+use Rattle.card.specs.Marked.{recordWith, free, numbersOf, recordBytes, NumbersFit, Fitting, heldUnder, twin, recordFor}
 use Rattle.card.specs.Card.{requestRecord}
 use Rattle.card.specs.Reading.{recordAt, lineRecordOf, lastOf, slotRecordOf, recordOf}
 use Rattle.card.proofs.Numbers.{value-le, le-value, value-lt}
@@ -47,7 +47,7 @@ module _ (l : List ℕ) where
   slot-free i j = simp (i, j)
 
   -- R58: TA
-  pub slot-old : marked TB l ≡ false → marked TF l ≡ false → marked TA l ≡ true → slotRecordOf l ≡ Refused 12
+  pub slot-old : marked TB l ≡ false → marked TF l ≡ false → marked TA l ≡ true → slotRecordOf l ≡ lineRecordOf Mark.TA l
   slot-old i j k = simp (i, j, k)
 
   -- R57: no mark of a slot's record
@@ -89,10 +89,10 @@ line-fronts m a b l e h y = (
 abbrev pub Fronts : List ℕ → SlotRecord → Type 0
 Fronts l r = (l ≡ recordBytes r ++ drop (recordLength (r .mark)) l) × Fitting r
 
--- what a record says of the bytes at whose front it stands; a slot's is the record of the slot that it stands for
+-- what a record says of the bytes at whose front it stands; the slot that a slot's record stands for has its twin for a record
 abbrev pub Stands : ℕ → List ℕ → Record → Type 0
 Stands left l (Slot r) =
-    (0 < left) × (recordLength (r .mark) ≤ length l) × (Bytes l → Fronts l r) × (recordFor (heldUnder (r .mark) r) (r .stretched) ≡ As r)
+    (0 < left) × (recordLength (r .mark) ≤ length l) × (Bytes l → Fronts l r) × (recordFor (heldUnder (r .mark) r) (r .stretched) ≡ As (twin r))
 Stands left l (Last c n) = (lastLength ≤ length l) × (marked RQ l ≡ true) × (c ≡ value 2 l needAt) × (n ≡ value 2 l periodAt)
 Stands left l (Refused n) = Unit {0}
 
@@ -100,21 +100,23 @@ Stands left l (Refused n) = Unit {0}
 pub stands : (left : ℕ) (l : List ℕ) → Stands left l (recordOf left l)
 unfolding recordOf
 stands left l =
-    go (marked RQ l) refl (leb lastLength (length l)) refl (ltb 0 left) refl (marked TB l) refl (leb lineLength (length l)) refl (marked TF l) refl (marked TA l)
+    go (marked RQ l) refl (leb lastLength (length l)) refl (ltb 0 left) refl (marked TB l) refl (leb lineLength (length l)) refl (marked TF l) refl (marked TA l) refl
   where
     go : (a : Bool) → marked RQ l ≡ a → (b : Bool) → leb lastLength (length l) ≡ b → (c : Bool) → ltb 0 left ≡ c → (d : Bool) → marked TB l ≡ d
-        → (e : Bool) → leb lineLength (length l) ≡ e → (f : Bool) → marked TF l ≡ f → (g : Bool)
+        → (e : Bool) → leb lineLength (length l) ≡ e → (f : Bool) → marked TF l ≡ f → (g : Bool) → marked TA l ≡ g
         → Stands left l (pick a (pick b (Last (value 2 l needAt) (value 2 l periodAt)) (Refused 11))
-        (pick c (pick d (pick e (Slot (recordAt Mark.TB l)) (Refused 11)) (pick f (Slot free) (pick g (Refused 12) (Refused 11)))) (Refused 11)))
-    go true p true q c r d s e t f u g = (leb-true lastLength (length l) q, p, refl, refl)
-    go true p false q c r d s e t f u g = tt
-    go false p b q false r d s e t f u g = tt
-    go false p b q true r true s true t f u g =
+        (pick c (pick d (pick e (Slot (recordAt Mark.TB l)) (Refused 11)) (pick f (Slot free) (pick g (pick e (Slot (recordAt Mark.TA l)) (Refused 11)) (Refused 11)))) (Refused 11)))
+    go true p true q c r d s e t f u g v = (leb-true lastLength (length l) q, p, refl, refl)
+    go true p false q c r d s e t f u g v = tt
+    go false p b q false r d s e t f u g v = tt
+    go false p b q true r true s true t f u g v =
         (ltb-true 0 left r, leb-true lineLength (length l) t, line-fronts Mark.TB (getD TB 0 0) (getD TB 1 0) l s (leb-true lineLength (length l) t), refl)
-    go false p b q true r true s false t f u g = tt
-    go false p b q true r false s e t true u g = (ltb-true 0 left r, marked-long TF l u, (λ y. (marked-is TF l u, refl)), refl)
-    go false p b q true r false s e t false u true = tt
-    go false p b q true r false s e t false u false = tt
+    go false p b q true r true s false t f u g v = tt
+    go false p b q true r false s e t true u g v = (ltb-true 0 left r, marked-long TF l u, (λ y. (marked-is TF l u, refl)), refl)
+    go false p b q true r false s true t false u true v =
+        (ltb-true 0 left r, leb-true lineLength (length l) t, line-fronts Mark.TA (getD TA 0 0) (getD TA 1 0) l v (leb-true lineLength (length l) t), refl)
+    go false p b q true r false s false t false u true v = tt
+    go false p b q true r false s e t false u false v = tt
 
 -- the same of a record that was seen
 pub seen-stands : (left : ℕ) (l : List ℕ) {r : Record} → recordOf left l ≡ r → Stands left l r
@@ -143,6 +145,10 @@ gets-numbers m a b C T t x y r f =
 sees : (left : ℕ) (x : List ℕ) → 0 < left → (m : Mark) (C T t a b : ℕ) → Fitting (recordWith m C T t a b)
     → recordOf left (recordBytes (recordWith m C T t a b) ++ x) ≡ Slot (recordWith m C T t a b)
 unfolding marked
+sees left x p Mark.TA C T t a b f =
+    let l = recordBytes (recordWith Mark.TA C T t a b) ++ x in
+    at-slot left l refl p ∙ slot-old l refl refl (marked-here TA (drop markLength l)) ∙ line-whole Mark.TA l (omega arith)
+    ∙ ap Slot (gets-numbers Mark.TA (getD TA 0 0) (getD TA 1 0) C T t a b x f)
 sees left x p Mark.TB C T t a b f =
     let l = recordBytes (recordWith Mark.TB C T t a b) ++ x in
     at-slot left l refl p ∙ slot-line l (marked-here TB (drop markLength l)) ∙ line-whole Mark.TB l (omega arith)
@@ -177,5 +183,6 @@ bytes-length r = go (r .mark) r
   where
     go : (m : Mark) (r : SlotRecord)
         → length (recordBytes (recordWith m (r .need) (r .period) (r .stretched) (r .fourth) (r .fifth))) ≡ recordLength m
+    go Mark.TA r = refl
     go Mark.TB r = refl
     go Mark.TF r = refl

@@ -1,4 +1,4 @@
--- The refusals of R57 and R58, each with its offset, behind whole records of any number of slots.
+-- The refusals of R57, each with its offset, behind whole records of any number of slots.
 use mathlib.Core.Path.{_≡_, refl, ap, ap₂, _∙_}
 use mathlib.Core.List.{List, [], _∷_, _++_}
 use mathlib.Core.Bool.{Bool, true, false}
@@ -85,6 +85,14 @@ module _ (k : ℕ) (rs : List SlotRecord) (left : ℕ) (x : List ℕ) (hk : k < 
   unfolding marked
   cut-line p h c = refused-there 11 (at-slot left x (marked-other TB RQ x h refl) p ∙ slot-line x h ∙ line-cut Mark.TB x c)
 
+  -- R57, R58: the same of TA
+  pub cut-old : 0 < left → marked TA x ≡ true → length x < lineLength → readWith slotsOf card ≡ broken offset
+  unfolding marked
+  cut-old p h c =
+      refused-there 11
+      (at-slot left x (marked-other TA RQ x h refl) p ∙ slot-old x (marked-other TA TB x h refl) (marked-other TA TF x h refl) h
+      ∙ line-cut Mark.TA x c)
+
   -- R57: RQ with fewer bytes left than its record has
   pub cut-request : marked RQ x ≡ true → length x < lastLength → readWith slotsOf card ≡ broken offset
   cut-request h c = refused-there 11 (at-last left x h ∙ last-cut x c)
@@ -111,9 +119,3 @@ module _ (k : ℕ) (rs : List SlotRecord) (left : ℕ) (x : List ℕ) (hk : k < 
       (records-last k left (afterFree false rs) offset x _ _ (at-last left x h ∙ last-whole x (omega arith))
       ∙ ap₂ (λ (o u : Bool). pick o (broken offset) (pick u (gives (ending k left (value 2 x needAt) (value 2 x periodAt))) (broken (offset + lastLength))))
       g (ne-eqb (length x) lastLength (λ e. omega arith)))
-
-  -- R32, R58: the old mark where a slot is left, whatever follows it
-  pub old-mark : 0 < left → marked TA x ≡ true → readWith slotsOf card ≡ refuses (refusal 12 offset)
-  unfolding marked
-  old-mark p h =
-      refused-there 12 (at-slot left x (marked-other TA RQ x h refl) p ∙ slot-old x (marked-other TA TB x h refl) (marked-other TA TF x h refl) h)

@@ -2,7 +2,7 @@
 use mathlib.Core.Path.{_≡_, refl, ap₂}
 use mathlib.Core.Bool.{Bool, true, false}
 use mathlib.Core.List.{List, [], _∷_, map}
-use Prim.Native.Nat.{ℕ, zero, suc}
+use Prim.Native.Nat.{ℕ, zero, suc, _+_, _*_}
 use native.Mathlib.Omega.{arith}
 use Rattle.line.specs.declared.Held.{Held}
 use Rattle.line.specs.declared.Held.the-variants.{Nothing, Running, Waiting}
@@ -14,6 +14,7 @@ use Rattle.card.specs.declared.Recorded.the-variants.{As}
 use Rattle.card.specs.Layout.{isFree}
 use Rattle.card.specs.Marked.{free, Fitting, heldUnder, slotFor, entryFor, recordFor}
 use Rattle.card.specs.Card.{oneMore, entryOf, entries, Carried, AllCarried}
+use Rattle.card.specs.Twin.{isOld, wordOf}
 
 -- the record of a slot that a card can carry, which is the record of what it holds and stands for it
 pub record Of (h : Held) (t : ℕ) (r : SlotRecord) : Type 0 where
@@ -22,11 +23,12 @@ pub record Of (h : Held) (t : ℕ) (r : SlotRecord) : Type 0 where
   pub entry : entryFor r ≡ entryOf h t
   pub nothing : isFree (r .mark) ≡ isNothing h
   pub started : isWaiting h ≡ false
+  pub new : isOld r ≡ false
 
 -- there is one wherever a card can carry the slot
 pub carried : (h : Held) (t : ℕ) → Carried h t → (r : SlotRecord) × Of h t r × Fitting r
-carried Nothing t f = (free, record { record-is = refl; holds = refl; entry = refl; nothing = refl; started = refl }, f)
-carried (Running x) t f = (_, record { record-is = refl; holds = refl; entry = refl; nothing = refl; started = refl }, f)
+carried Nothing t f = (free, record { record-is = refl; holds = refl; entry = refl; nothing = refl; started = refl; new = refl }, f)
+carried (Running x) t f = (_, record { record-is = refl; holds = refl; entry = refl; nothing = refl; started = refl; new = refl }, f)
 carried (Waiting w) t f = absurd f
 
 -- the records of slots that a card can carry
@@ -50,11 +52,21 @@ records-for (s ∷ ss) (t ∷ ts) f =
       ap₂ (λ (n : ℕ) (x : List ℕ). n ∷ x) (c .entry) (i .1),
     )
 
+-- R58: and none of them is TA
+pub none-old : (ss : List Slot) (ts : List ℕ) (f : AllCarried ss ts) → wordOf (map isOld (recordsFor ss ts f)) ≡ 0
+unfolding recordsFor
+none-old [] [] f = refl
+none-old [] (t ∷ ts) f = absurd f
+none-old (s ∷ ss) [] f = absurd f
+none-old (s ∷ ss) (t ∷ ts) f =
+    ap₂ (λ (b : Bool) (w : ℕ). pick b 1 0 + 2 * w) (carried (s .held) t (f .0) .1 .new) (none-old ss ts (f .1))
+
 -- R53: a record without numbers stands for a slot that holds nothing, and no other does
 pub free-holds : (r : SlotRecord) → isNothing (heldUnder (r .mark) r) ≡ isFree (r .mark)
 free-holds r = go (r .mark)
   where
     go : (m : Mark) → isNothing (heldUnder m r) ≡ isFree m
+    go Mark.TA = refl
     go Mark.TB = refl
     go Mark.TF = refl
 

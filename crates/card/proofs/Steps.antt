@@ -49,7 +49,7 @@ unfolding recordsOf
 records-last k zero gap at l c t e = ap (step k 0 gap at l (λ g a x. broken at)) e
 records-last k (suc n) gap at l c t e = ap (step k (suc n) gap at l (recordsOf k n)) e
 
--- R57, R58: a record that is refused
+-- R57: a record that is refused
 pub records-refused : (k n : ℕ) (gap : Bool) (at : ℕ) (l : List ℕ) (m : ℕ) → recordOf n l ≡ Refused m
     → recordsOf k n gap at l ≡ refuses (refusal m at)
 unfolding recordsOf

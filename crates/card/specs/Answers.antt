@@ -12,16 +12,23 @@ use Rattle.card.specs.declared.CardAnswer.{CardAnswer}
 use Rattle.card.specs.declared.CardAnswer.the-variants.{Read, Refused}
 use Rattle.card.specs.declared.ReadCard.{ReadCard}
 use Rattle.card.specs.declared.WriteAnswer.{WriteAnswer}
+use Rattle.card.specs.Marked.{Records}
 use Rattle.card.specs.Card.{Card, carrying, cardOf}
+use Rattle.card.specs.Reading.{meaning}
+use Rattle.card.specs.Twin.{turnedIn}
 
 -- R56: the request beside a refusal
 abbrev pub zeroRequest : Request
 zeroRequest = requestWith (replicate 16 0) 0 0
 
--- R56: what is handed out; beside a refusal it is nothing of the card
-abbrev pub handed : Said Card → ReadCard
-handed (gives c) = record { table = c .table; request = c .request; answer = Read }
-handed (refuses r) = record { table = emptyTable; request = zeroRequest; answer = Refused r }
+-- R56, R58: what is handed out, with the word of the slots whose records were TA; beside a refusal it is nothing of the card
+abbrev pub handed : (turned : ℕ) → Said Card → ReadCard
+handed w (gives c) = record { table = c .table; request = c .request; turned = w; answer = Read }
+handed w (refuses r) = record { table = emptyTable; request = zeroRequest; turned = 0; answer = Refused r }
+
+-- R56, R58: the same of a card's records
+abbrev pub handedOf : Said Records → ReadCard
+handedOf s = handed (turnedIn s) (meaning s)
 
 -- what the reader's answer says: the table and the request beside it, or the refusal's number and place
 abbrev pub saidWith : Table → Request → CardAnswer → Said Card

@@ -15,13 +15,13 @@ CK = 0x43 ∷ 0x4B ∷ []
 abbrev pub TB : List ℕ
 TB = 0x54 ∷ 0x42 ∷ []
 
+-- R58: the same, as the third generation wrote it
+abbrev pub TA : List ℕ
+TA = 0x54 ∷ 0x41 ∷ []
+
 -- R53: the mark of a slot that holds nothing
 abbrev pub TF : List ℕ
 TF = 0x54 ∷ 0x46 ∷ []
-
--- R53: the old mark, of the third generation
-abbrev pub TA : List ℕ
-TA = 0x54 ∷ 0x41 ∷ []
 
 -- R53: the mark of the new line
 abbrev pub RQ : List ℕ
@@ -29,13 +29,21 @@ RQ = 0x52 ∷ 0x51 ∷ []
 
 -- R53: the bytes of a slot's mark
 abbrev pub markBytes : Mark → List ℕ
+markBytes Mark.TA = TA
 markBytes Mark.TB = TB
 markBytes Mark.TF = TF
 
 -- R53: the mark stands alone, where the others have a line's five numbers behind them
 abbrev pub isFree : Mark → Bool
+isFree Mark.TA = false
 isFree Mark.TB = false
 isFree Mark.TF = true
+
+-- R53, R58: the order of a line's two last numbers: turned is remaining before age
+abbrev pub isTurned : Mark → Bool
+isTurned Mark.TA = true
+isTurned Mark.TB = false
+isTurned Mark.TF = false
 
 -- ---- offsets, from the mark on
 

@@ -1,7 +1,9 @@
 -- Marked records, R53: what stands on a card between its bytes and its table. A record keeps its mark and its numbers as they stand.
 use Prim.Native.Nat.{ℕ, _<_}
 use mathlib.Core.Path.{_≡_}
+use mathlib.Core.Bool.{Bool, true}
 use mathlib.Core.List.{List, [], _++_}
+use Rattle.line.specs.declared.Run.{Run}
 use Rattle.line.specs.declared.Held.{Held}
 use Rattle.line.specs.declared.Held.the-variants.{Nothing, Running, Waiting}
 use Rattle.line.specs.declared.Slot.{Slot}
@@ -11,7 +13,7 @@ use Rattle.card.specs.declared.SlotRecord.{SlotRecord}
 use Rattle.card.specs.declared.Recorded.{Recorded}
 use Rattle.card.specs.declared.Recorded.the-variants.{As, No}
 use Rattle.card.specs.Bytes.{le}
-use Rattle.card.specs.Layout.{markBytes, isFree}
+use Rattle.card.specs.Layout.{markBytes, isFree, isTurned}
 
 -- R53: a slot's record by its mark and its five numbers
 abbrev pub recordWith : Mark → (C T T' fourth fifth : ℕ) → SlotRecord
@@ -41,10 +43,13 @@ Fitting r = pick (isFree (r .mark)) (r ≡ free) (NumbersFit r)
 
 -- ---- records and slots
 
--- R53: what a slot holds by its record: under TB age comes before remaining
+-- R53, R58: the line of a record, by the order of its two last numbers: age and remaining, or turned
+abbrev pub lineOf : (turned : Bool) → SlotRecord → Run
+lineOf turned r = runWith (r .need) (r .period) (pick turned (r .fifth) (r .fourth)) (pick turned (r .fourth) (r .fifth))
+
+-- R53, R58: what a slot holds by its record
 abbrev pub heldUnder : Mark → SlotRecord → Held
-heldUnder Mark.TB r = Running (runWith (r .need) (r .period) (r .fourth) (r .fifth))
-heldUnder Mark.TF r = Nothing
+heldUnder m r = pick (isFree m) Nothing (Running (lineOf (isTurned m) r))
 
 -- R53: the slot that a record stands for
 abbrev pub slotFor : SlotRecord → Slot
@@ -54,10 +59,18 @@ slotFor r = holding (heldUnder (r .mark) r)
 abbrev pub entryFor : SlotRecord → ℕ
 entryFor r = r .stretched
 
+-- R53, R58: the record of a line under a mark, its two last numbers in the mark's order
+abbrev pub lineUnder : Mark → Run → (T' : ℕ) → SlotRecord
+lineUnder m x t = recordWith m (x .need) (x .period) t (pick (isTurned m) (x .remaining) (x .age)) (pick (isTurned m) (x .age) (x .remaining))
+
+-- R72: the record's twin: a TA record's line under TB, and any other record itself
+abbrev pub twin : SlotRecord → SlotRecord
+twin r = pick (isTurned (r .mark)) (lineUnder Mark.TB (lineOf true r) (r .stretched)) r
+
 -- R53: the record of what a slot holds, with its entry: TB or TF. A waiting line has none, no card carries one.
 abbrev pub recordFor : Held → (T' : ℕ) → Recorded
 recordFor Nothing t = As free
-recordFor (Running r) t = As (recordWith Mark.TB (r .need) (r .period) t (r .age) (r .remaining))
+recordFor (Running x) t = As (lineUnder Mark.TB x t)
 recordFor (Waiting w) t = No
 
 -- R53: the bytes of a slot's record

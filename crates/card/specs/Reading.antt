@@ -29,10 +29,10 @@ lineRecordOf m l = pick (leb lineLength (length l)) (Slot (recordAt m l)) (Refus
 abbrev pub lastOf : List ℕ → Record
 lastOf l = pick (leb lastLength (length l)) (Last (value 2 l needAt) (value 2 l periodAt)) (Refused 11)
 
--- R32, R58: where a slot's record may stand TA is refused by a number of its own, any other unknown mark as broken
+-- R57, R58: a slot's record: a line under TB or TA, or TF
 abbrev pub slotRecordOf : List ℕ → Record
 slotRecordOf l =
-    pick (marked TB l) (lineRecordOf Mark.TB l) (pick (marked TF l) (Slot free) (pick (marked TA l) (Refused 12) (Refused 11)))
+    pick (marked TB l) (lineRecordOf Mark.TB l) (pick (marked TF l) (Slot free) (pick (marked TA l) (lineRecordOf Mark.TA l) (Refused 11)))
 
 -- R57: what stands at the front where so many slots are left; with none left RQ alone may
 unfoldable pub recordOf : (left : ℕ) → List ℕ → Record

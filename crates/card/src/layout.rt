@@ -6,11 +6,11 @@ pub const CK: [u8; 2] = *b"CK";
 // A slot that runs a line.
 pub const TB: [u8; 2] = *b"TB";
 
+// R58: the same, as the third generation wrote it.
+pub const TA: [u8; 2] = *b"TA";
+
 // A slot that holds nothing.
 pub const TF: [u8; 2] = *b"TF";
-
-// R58: the old mark, of the third generation.
-pub const TA: [u8; 2] = *b"TA";
 
 // The new line.
 pub const RQ: [u8; 2] = *b"RQ";

@@ -1,7 +1,7 @@
 // The words of the card: its layout, what stands in it, what a slot's record means, and what its reader and its writer answer.
 ghost use mathlib.Core.Path.{_≡_};
 ghost use Prim.Native.Nat.{_≤_};
-ghost use Rattle.card.specs.Layout.{isFree, lineLength, recordLength};
+ghost use Rattle.card.specs.Layout.{isFree, isTurned, lineLength, recordLength};
 ghost use Rattle.card.specs.Marked.{recordWith, free, slotFor, recordFor};
 use line::Held;
 use line::Run;
@@ -14,6 +14,7 @@ pub mod layout;
 
 // R53: the marks of a slot's record.
 pub enum Mark {
+    TA,
     TB,
     TF,
 }
@@ -51,6 +52,8 @@ pub enum CardAnswer {
 pub struct ReadCard {
     pub table: Table,
     pub request: Request,
+    // R58: a bit for each slot whose record was TA, slot 0 lowest.
+    pub turned: u16,
     pub answer: CardAnswer,
 }
 
@@ -95,8 +98,21 @@ impl SlotRecord {
     {
         let m = self.mark;
         match m {
+            Mark::TA => false,
             Mark::TB => false,
             Mark::TF => true,
+        }
+    }
+
+    // R58: its two last numbers are remaining and then age.
+    pub fn is_turned(self) -> bool
+        ensures { λ r. ⌜ r ≡ isTurned (self .mark) ⌝ }
+    {
+        let m = self.mark;
+        match m {
+            Mark::TA => true,
+            Mark::TB => false,
+            Mark::TF => false,
         }
     }
 
@@ -110,12 +126,16 @@ impl SlotRecord {
         layout::LINE_LENGTH
     }
 
-    // R53: the slot that it stands for.
+    // R53, R58: the slot that it stands for.
     pub fn slot(self) -> Slot
         ensures { λ r. ⌜ r ≡ slotFor self ⌝ }
     {
         let m = self.mark;
         match m {
+            Mark::TA => {
+                let run = Held::running(self.need, self.period, self.fifth, self.fourth);
+                Slot::holding(run)
+            }
             Mark::TB => {
                 let run = Held::running(self.need, self.period, self.fourth, self.fifth);
                 Slot::holding(run)

@@ -3,7 +3,7 @@ ghost use mathlib.Core.Path.{_≡_};
 ghost use lib.ListN.{length};
 ghost use Rattle.reply.specs.Line.{heldAfter};
 ghost use Rattle.calls.specs.Results.{resultOf};
-ghost use Rattle.calls.specs.Cards.{lineFor, putOf, rewriteOf, rewrittenOf, runOf};
+ghost use Rattle.calls.specs.Cards.{lineFor, putOf, rewriteAs, rewrittenOf, runOf};
 use calls::Result;
 use card::CardAnswer;
 
@@ -15,17 +15,12 @@ pub extern "C" fn trimthuel_answer(card: &[u8], out: &mut [u8]) -> Result
     calls::cards::put_line(calls::cards::answer(card), out)
 }
 
-// R65: the card is read and written anew, or refused, and then every byte of the lent buffer stays.
+// R65: the card is read and written anew with TB alone, or refused, and then every byte of the lent buffer stays.
 #[no_mangle]
 pub extern "C" fn trimthuel_rewrite(card: &[u8], out: &mut [u8]) -> Result
-    ensures { λ r. ⌜ (r ≡ resultOf (rewriteOf (now (card .entry)) (length (now (out .entry))))) × (now (out .exit) ≡ rewrittenOf (now (card .entry)) (now (out .entry))) ⌝ }
+    ensures { λ r. ⌜ (r ≡ rewriteAs (now (card .entry)) (length (now (out .entry)))) × (now (out .exit) ≡ rewrittenOf (now (card .entry)) (now (out .entry))) ⌝ }
 {
-    let c = reader::read(card);
-    let said = c.answer;
-    match said {
-        CardAnswer::Read => calls::written(writer::write(c.table, c.request, out)),
-        CardAnswer::Refused(x) => Result::refused(x),
-    }
+    calls::cards::rewrite(card, out)
 }
 
 // R66: the card's request is admitted and the table stepped so many times: the number of ticks in which a line ran, or the first refusal.

@@ -27,7 +27,7 @@ pub extern "C" fn trimthuel_write_card(
     match said {
         LoadAnswer::Read => {
             let q = Request::new(*stretched, need, period);
-            calls::written(writer::write(i.table, q, card))
+            calls::written(0, writer::write(i.table, q, card))
         }
         LoadAnswer::Refused(x) => Result::refused(x),
     }

@@ -16,7 +16,7 @@ use table::Table;
 pub extern "C" fn trimthuel_empty(table: &mut [u8]) -> Result
     ensures { λ r. ⌜ (r ≡ resultOf (storeOf (length (now (table .entry))))) × (now (table .exit) ≡ storedIn emptyTable (now (table .entry))) ⌝ }
 {
-    calls::written(image::store(Table::empty(), table))
+    calls::written(0, image::store(Table::empty(), table))
 }
 
 // R86: asks, and changes nothing.

@@ -1,4 +1,4 @@
--- The laws of a line: what the code reads, changes, searches and maps over slots, the tests, the streams, a tick, the key, stretching, and the edges.
+-- The laws of a line: what the code reads, changes, searches and maps over slots, the tests, the streams, a tick, the key, stretching, a bit of a word, and the edges.
 pub mod Read
 pub mod Changed
 pub mod Search
@@ -8,4 +8,5 @@ pub mod Streams
 pub mod Tick
 pub mod Keys
 pub mod Stretched
+pub mod Bits
 pub mod Edges

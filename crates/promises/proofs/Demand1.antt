@@ -27,8 +27,10 @@ use Rattle.theory.proofs.Answers.{ask-answers}
 use Rattle.theory.proofs.Unique.{answers-unique}
 use Rattle.ask.proofs.Right.{asked-unique}
 use Rattle.admit.proofs.Right.{admits-unique}
+use Rattle.card.specs.declared.ReadCard.{ReadCard}
 use Rattle.card.specs.Card.{Card, cardOf}
 use Rattle.card.specs.Reading.{readOf}
+use Rattle.card.specs.Twin.{turnedOf}
 use Rattle.card.specs.Answers.{handed, saidRead, writeOf, filled}
 use Rattle.card.proofs.Answers.{said-handed, one-reading, one-writing, one-written}
 use Rattle.driver.proofs.Keeps.{refused-drive-keeps, drive-determined}
@@ -38,7 +40,7 @@ use Rattle.image.specs.Image.{imageOf}
 use Rattle.image.specs.Loading.{loadOf}
 use Rattle.image.specs.Answers.{handedOut, saidLoaded, storeOf, storedIn}
 use Rattle.calls.specs.declared.Result.{Result}
-use Rattle.calls.specs.Results.{grantedAs, resultOf}
+use Rattle.calls.specs.Results.{grantedAs, resultAt, resultOf}
 use Rattle.calls.specs.Cards.{lineFor, saidPut, rewriteFor, rewrittenFor}
 use Rattle.calls.specs.Tables.{changed, askedAs, askFor, afterAdmit, ranAs, stepFor, afterStep, ReadyFor}
 use Rattle.calls.specs.Moves.{eighteen, writeCardFor, cardAfter, readCardFor, imageAfter, numbersAfter}
@@ -125,27 +127,27 @@ line-kept true line l h = absurd (h refl)
 line-kept false line l h = refl
 
 -- what was to be written stands in the buffer only where something was granted
-filled-kept : (w : Said ℕ) (bytes l : List ℕ) → (resultOf w .number ≡ 0 → ⊥) → filled bytes l w ≡ l
-filled-kept (gives n) bytes l h = absurd (h refl)
-filled-kept (refuses x) bytes l h = refl
+filled-kept : (k : ℕ) (w : Said ℕ) (bytes l : List ℕ) → (resultAt k w .number ≡ 0 → ⊥) → filled bytes l w ≡ l
+filled-kept k (gives n) bytes l h = absurd (h refl)
+filled-kept k (refuses x) bytes l h = refl
 
 changed-kept : (w : Said ℕ) (m l : List ℕ) → (resultOf w .number ≡ 0 → ⊥) → changed w m l ≡ l
 changed-kept (gives n) m l h = absurd (h refl)
 changed-kept (refuses x) m l h = refl
 
 -- whatever was read or loaded, a refusal over the boundary says that nothing was written
-rewrite-kept : (s : Said Card) (l : List ℕ) → (resultOf (rewriteFor s (length l)) .number ≡ 0 → ⊥) → rewrittenFor s l ≡ l
-rewrite-kept (refuses x) l h = refl
-rewrite-kept (gives c) l h = filled-kept (writeOf (c .table) (c .request) (length l)) (cardOf (c .table) (c .request)) l h
+rewrite-kept : (k : ℕ) (s : Said Card) (l : List ℕ) → (resultAt k (rewriteFor s (length l)) .number ≡ 0 → ⊥) → rewrittenFor s l ≡ l
+rewrite-kept k (refuses x) l h = refl
+rewrite-kept k (gives c) l h = filled-kept k (writeOf (c .table) (c .request) (length l)) (cardOf (c .table) (c .request)) l h
 
 card-kept : (s : Said Table) (q : Request) (l : List ℕ) → (resultOf (writeCardFor s q (length l)) .number ≡ 0 → ⊥) → cardAfter s q l ≡ l
 card-kept (refuses x) q l h = refl
-card-kept (gives t) q l h = filled-kept (writeOf t q (length l)) (cardOf t q) l h
+card-kept (gives t) q l h = filled-kept 0 (writeOf t q (length l)) (cardOf t q) l h
 
 image-kept : (s : Said Card) (l ns : List ℕ) → (resultOf (readCardFor s (length l)) .number ≡ 0 → ⊥) → (imageAfter s l ≡ l) × (numbersAfter s (length l) ns ≡ ns)
 image-kept (refuses x) l ns h = (refl, refl)
 image-kept (gives c) l ns h =
-    (filled-kept (storeOf (length l)) (imageOf (c .table)) l h, changed-kept (storeOf (length l)) (eighteen (c .request)) ns h)
+    (filled-kept 0 (storeOf (length l)) (imageOf (c .table)) l h, changed-kept (storeOf (length l)) (eighteen (c .request)) ns h)
 
 admit-kept : (s : Said Table) (q : Request) (l : List ℕ) → (askFor s q .number ≡ 0 → ⊥) → afterAdmit s q l ≡ l
 admit-kept (refuses x) q l h = refl
@@ -175,8 +177,9 @@ refusal-keeps = record {
   step = step-keeps;
   drive = drive-keeps;
   read = λ card c x h e.
-      let f : readOf card ≡ refuses x = sym (said-handed (readOf card)) ∙ ap saidRead (sym h) ∙ e in
-      (f, rw h (ap (λ (s : Said Card). handed s .table) f), rw h (ap (λ (s : Said Card). handed s .request) f));
+      let f : readOf card ≡ refuses x = sym (said-handed (turnedOf card) (readOf card)) ∙ ap saidRead (sym h) ∙ e in
+      let g : c ≡ handed 0 (refuses x) = h ∙ ap (handed (turnedOf card)) f in
+      (f, ap (λ (y : ReadCard). y .table) g, ap (λ (y : ReadCard). y .request) g, ap (λ (y : ReadCard). y .turned) g);
   write = λ t q l a m x h e. h .1 ∙ ap (filled (cardOf t q) l) (sym (h .0) ∙ e);
   put-reply = λ a l w m h e. h .1 ∙ put-kept (fits (answerLine (says a)) l) (answerLine (says a)) l (sym (h .0) ∙ e);
   load = λ l y x h e.
@@ -184,8 +187,8 @@ refusal-keeps = record {
       (f, rw h (ap (λ (s : Said Table). handedOut s .table) f));
   store = λ t l a m x h e. h .1 ∙ ap (filled (imageOf t) l) (sym (h .0) ∙ e);
   answer-card = λ card l r m h e. h .1 ∙ line-kept (fits (lineFor card) l) (lineFor card) l (λ z. e (ap (λ (x : Result). x .number) (h .0) ∙ z));
-  rewrite-card = λ card l r m h e. h .1 ∙ rewrite-kept (readOf card) l (λ z. e (ap (λ (x : Result). x .number) (h .0) ∙ z));
-  empty-image = λ l r m h e. h .1 ∙ filled-kept (storeOf (length l)) (imageOf emptyTable) l (λ z. e (ap (λ (x : Result). x .number) (h .0) ∙ z));
+  rewrite-card = λ card l r m h e. h .1 ∙ rewrite-kept (turnedOf card) (readOf card) l (λ z. e (ap (λ (x : Result). x .number) (h .0) ∙ z));
+  empty-image = λ l r m h e. h .1 ∙ filled-kept 0 (storeOf (length l)) (imageOf emptyTable) l (λ z. e (ap (λ (x : Result). x .number) (h .0) ∙ z));
   admit-image = λ l q r m h e. h .1 ∙ admit-kept (loadOf l) q l (λ z. e (ap (λ (x : Result). x .number) (h .0) ∙ z));
   step-image = λ l r m h e. h .1 ∙ step-kept (loadOf l) l (λ z. e (ap (λ (x : Result). x .number) (h .0) ∙ z));
   write-image = λ l q out r m h e. h .1 ∙ card-kept (loadOf l) q out (λ z. e (ap (λ (x : Result). x .number) (h .0) ∙ z));

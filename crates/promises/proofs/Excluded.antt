@@ -21,6 +21,7 @@ use Rattle.card.specs.declared.ReadCard.{ReadCard}
 use Rattle.card.specs.Bytes.{marked}
 use Rattle.card.specs.Card.{Card, cardOf, carrying}
 use Rattle.card.specs.Reading.{recordOf, recordsOf, readWith, readOf}
+use Rattle.card.specs.Twin.{turnedOf}
 use Rattle.card.specs.Answers.{handed, lengthOf, bufferOf}
 use Rattle.theory.proofs.Cases.{cases-answer}
 use Rattle.theory.proofs.Unique.{answers-unique}
@@ -116,9 +117,9 @@ pub no-reader-gives-one-request : (f : List ℕ → ReadCard) → MeetsRead f �
 no-reader-gives-one-request f m r =
     let a : List ℕ = cardOf (caseA .table) (caseA .request) in
     let b : List ℕ = cardOf (caseC .table) (caseC .request) in
-    let need : Said Card → ℕ = λ s. handed s .request .need in
-    let x : f a .request .need ≡ 1 = ap (λ (c : ReadCard). c .request .need) (m a) ∙ ap need reads-A in
-    let y : f b .request .need ≡ 3 = ap (λ (c : ReadCard). c .request .need) (m b) ∙ ap need reads-C in
+    let need : ℕ → Said Card → ℕ = λ w s. handed w s .request .need in
+    let x : f a .request .need ≡ 1 = ap (λ (c : ReadCard). c .request .need) (m a) ∙ ap (need (turnedOf a)) reads-A in
+    let y : f b .request .need ≡ 3 = ap (λ (c : ReadCard). c .request .need) (m b) ∙ ap (need (turnedOf b)) reads-C in
     let z : f a .request .need ≡ f b .request .need = ap (λ (q : Request). q .need) (r a b _ _ reads-A reads-C) in
     omega arith
 

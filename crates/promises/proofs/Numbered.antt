@@ -30,7 +30,7 @@ use Rattle.card.specs.Answers.{lengthOf, unlessWaiting, writeOf}
 use Rattle.image.specs.Loading.{wrongIn, tableIn, unlessWrong, loadWith, loadOf}
 use Rattle.image.specs.Answers.{storeOf}
 use Rattle.reply.specs.Line.{fits}
-use Rattle.calls.specs.Results.{resultOf}
+use Rattle.calls.specs.Results.{resultAt}
 use Rattle.calls.specs.Cards.{saidPut, putOf, rewriteFor, rewriteOf, andThen, ticksRun, runAdmitted, runFor, runOf}
 use Rattle.calls.specs.Moves.{writeCardFor, readCardFor}
 
@@ -40,9 +40,9 @@ Numbered (gives a) = Unit {0}
 Numbered (refuses x) = x .number ≡ 0 → ⊥
 
 -- R63: a result with the number 0 is a grant
-pub zero-grants : (s : Said ℕ) → Numbered s → resultOf s .number ≡ 0 → (v : ℕ) × (s ≡ gives v)
-zero-grants (gives v) n e = (v, refl)
-zero-grants (refuses x) n e = absurd (n e)
+pub zero-grants : (k : ℕ) (s : Said ℕ) → Numbered s → resultAt k s .number ≡ 0 → (v : ℕ) × (s ≡ gives v)
+zero-grants k (gives v) n e = (v, refl)
+zero-grants k (refuses x) n e = absurd (n e)
 
 -- ---- ask and step
 
@@ -143,13 +143,13 @@ write-numbered t q room = go (lowestOf isWaiting (t .slots))
 
 -- ---- reader
 
--- R57, R58: the reader's
+-- R57: the reader's
 pub read-numbered : (n : ℕ) (l : List ℕ) → Numbered (readWith n l)
 read-numbered n l = go (readWith n l) (read-refuses n l)
   where
     go : (s : Said Card) → Refuses s → Numbered s
     go (gives c) h = tt
-    go (refuses x) h = λ e. ⊎-elim (λ a. omega arith) (λ a. omega arith) h
+    go (refuses x) h = λ e. omega arith
 
 -- ---- what is put together of these
 

@@ -8,6 +8,7 @@ use Rattle.table.specs.declared.Request.{Request}
 use Rattle.table.specs.Words.{Said, gives, refuses}
 use Rattle.table.specs.Ask.{says, askOf}
 use Rattle.table.specs.Step.{saysRan, stepOf}
+use Rattle.card.specs.Twin.{turnedOf}
 use Rattle.image.specs.Loading.{loadOf}
 use Rattle.calls.specs.declared.Result.{Result}
 use Rattle.calls.specs.Cards.{lineFor}
@@ -41,14 +42,14 @@ ready-told (refuses x) r h k e = absurd (h (number-is k e))
 -- R63: a result with the number 0 is a grant, whichever operation gave it
 pub told-apart : ToldApart
 told-apart = record {
-  answer-card = λ card l r m h e. zero-grants _ (put-numbered (lineFor card) l) (number-is (h .0) e);
-  rewrite-card = λ card l r m h e. zero-grants _ (rewrite-numbered card (length l)) (number-is (h .0) e);
-  run-card = λ card ticks r h e. zero-grants _ (run-numbered card ticks) (number-is h e);
-  empty-image = λ l r m h e. zero-grants _ (store-numbered (length l)) (number-is (h .0) e);
+  answer-card = λ card l r m h e. zero-grants 0 _ (put-numbered (lineFor card) l) (number-is (h .0) e);
+  rewrite-card = λ card l r m h e. zero-grants (turnedOf card) _ (rewrite-numbered card (length l)) (number-is (h .0) e);
+  run-card = λ card ticks r h e. zero-grants 0 _ (run-numbered card ticks) (number-is h e);
+  empty-image = λ l r m h e. zero-grants 0 _ (store-numbered (length l)) (number-is (h .0) e);
   ask-image = λ l q r h e. ask-told (loadOf l) q (load-numbered 16 l) (number-is h e);
   admit-image = λ l q r m h e. ask-told (loadOf l) q (load-numbered 16 l) (number-is (h .0) e);
   step-image = λ l r m h e. step-told (loadOf l) (load-numbered 16 l) (number-is (h .0) e);
   ready-image = λ l r h e. ready-told (loadOf l) r (load-numbered 16 l) h e;
-  write-image = λ l q out r m h e. zero-grants _ (card-numbered l q (length out)) (number-is (h .0) e);
-  read-image = λ card l ns r m n h e. zero-grants _ (image-numbered card (length l)) (number-is (h .0) e);
+  write-image = λ l q out r m h e. zero-grants 0 _ (card-numbered l q (length out)) (number-is (h .0) e);
+  read-image = λ card l ns r m n h e. zero-grants 0 _ (image-numbered card (length l)) (number-is (h .0) e);
 }

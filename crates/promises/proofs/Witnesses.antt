@@ -27,7 +27,7 @@ pub step-meets : map (λ (m : Meets). saysRan (stepOf (m .table) .outcome)) step
 unfolding lowest chosen advance stepOf stepMeets
 step-meets = refl
 
--- R20, R31, R32
+-- R20, R31
 pub read-meets : map (λ (c : BrokenCard). readOf (c .bytes)) readMeets ≡ map (λ (c : BrokenCard). refuses (c .refused)) readMeets
 unfolding cardOf marked recordOf recordsOf readWith readMeets
 read-meets = refl

@@ -14,6 +14,7 @@ use Rattle.table.specs.Step.{stepOf}
 use Rattle.card.specs.declared.ReadCard.{ReadCard}
 use Rattle.card.specs.declared.WriteAnswer.{WriteAnswer}
 use Rattle.card.specs.Reading.{readOf}
+use Rattle.card.specs.Twin.{turnedOf}
 use Rattle.card.specs.Answers.{handed, saidWritten, writeOf, bufferOf}
 use Rattle.driver.specs.Driven.{drivenOf}
 use Rattle.reply.specs.declared.Written.{Written}
@@ -23,7 +24,7 @@ use Rattle.image.specs.Loading.{loadOf}
 use Rattle.image.specs.Answers.{handedOut, storeOf, storedIn}
 use Rattle.calls.specs.declared.Result.{Result}
 use Rattle.calls.specs.Results.{resultOf}
-use Rattle.calls.specs.Cards.{lineFor, putOf, rewriteOf, rewrittenOf, runOf}
+use Rattle.calls.specs.Cards.{lineFor, putOf, rewriteAs, rewrittenOf, runOf}
 use Rattle.calls.specs.Tables.{askFor, afterAdmit, stepFor, afterStep, ReadyFor}
 use Rattle.calls.specs.Moves.{writeCardFor, cardAfter, readCardFor, imageAfter, numbersAfter}
 
@@ -37,7 +38,7 @@ Drives t o u = (o ≡ stepOf t .outcome) × (u ≡ drivenOf t)
 
 -- R56: read
 abbrev pub Reads : List ℕ → ReadCard → Type 0
-Reads card c = c ≡ handed (readOf card)
+Reads card c = c ≡ handed (turnedOf card) (readOf card)
 
 -- R59: write answers a and leaves the bytes m in the buffer
 abbrev pub Writes : Table → Request → (buffer : List ℕ) → WriteAnswer → List ℕ → Type 0
@@ -63,7 +64,7 @@ AnswersCard card l r m = (r ≡ resultOf (putOf (lineFor card) l)) × (m ≡ hel
 
 -- R65: trimthuel_rewrite answers r and leaves the bytes m in the buffer
 abbrev pub Rewrites : (card buffer : List ℕ) → Result → List ℕ → Type 0
-Rewrites card l r m = (r ≡ resultOf (rewriteOf card (length l))) × (m ≡ rewrittenOf card l)
+Rewrites card l r m = (r ≡ rewriteAs card (length l)) × (m ≡ rewrittenOf card l)
 
 -- R66: trimthuel_run, which is lent no byte to write
 abbrev pub RunsCard : (card : List ℕ) (ticks : ℕ) → Result → Type 0

@@ -84,9 +84,9 @@ pub record RefusalKeeps : Type 0 where
       → FirstOf grounds t q x × (m .table ≡ t)
   pub step : (t : Table) (s : Stepped) (x : Refusal) → Steps t s → saysRan (s .outcome) ≡ refuses x → s .table ≡ t
   pub drive : (t : Table) (o : Outcome) (u : Table) (x : Refusal) → Drives t o u → saysRan o ≡ refuses x → u ≡ t
-  -- the reader is lent nothing to change: it hands out the empty table and zeros, with the refusal
+  -- the reader is lent nothing to change: it hands out the empty table, zeros and no slot, with the refusal
   pub read : (card : List ℕ) (c : ReadCard) (x : Refusal) → Reads card c → saidRead c ≡ refuses x
-      → (readOf card ≡ refuses x) × (c .table ≡ emptyTable) × (c .request ≡ zeroRequest)
+      → (readOf card ≡ refuses x) × (c .table ≡ emptyTable) × (c .request ≡ zeroRequest) × (c .turned ≡ 0)
   pub write : (t : Table) (q : Request) (l : List ℕ) (a : WriteAnswer) (m : List ℕ) (x : Refusal) → Writes t q l a m → saidWritten a ≡ refuses x → m ≡ l
   pub put-reply : (a : Answer) (l : List ℕ) (w : Written) (m : List ℕ) → Puts a l w m → saidLength w ≡ none → m ≡ l
   -- loading is lent nothing to change either

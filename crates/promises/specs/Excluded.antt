@@ -14,6 +14,7 @@ use Rattle.table.specs.Step.{stepOf}
 use Rattle.card.specs.declared.ReadCard.{ReadCard}
 use Rattle.card.specs.Card.{Card}
 use Rattle.card.specs.Reading.{readOf}
+use Rattle.card.specs.Twin.{turnedOf}
 use Rattle.card.specs.Answers.{handed, bufferOf}
 
 -- R41: what ask's contract says of a function
@@ -26,7 +27,7 @@ MeetsStep f = (t : Table) → f t ≡ stepOf t
 
 -- R56: what the reader's says
 abbrev pub MeetsRead : (List ℕ → ReadCard) → Type 0
-MeetsRead f = (l : List ℕ) → f l ≡ handed (readOf l)
+MeetsRead f = (l : List ℕ) → f l ≡ handed (turnedOf l) (readOf l)
 
 -- R59: what the writer's says of the lent buffer
 abbrev pub MeetsWrite : (Table → Request → List ℕ → List ℕ) → Type 0

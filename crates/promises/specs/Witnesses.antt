@@ -59,12 +59,12 @@ pub record ShortBuffer : Type 0 where
   pub room : ℕ
   pub refused : Refusal
 
--- R20: 11, a card cut in its second slot record, and no card at all; 12, an old record where the second slot's may stand
+-- R20: 11, a card cut in its second slot record, and no card at all; the same cut after the mark of an old record (12 is no longer met)
 unfoldable pub readMeets : List BrokenCard
 readMeets =
     record { bytes = take 30 (cardOf (caseA .table) (caseA .request)); refused = refusal 11 22 }
     ∷ record { bytes = []; refused = refusal 11 0 }
-    ∷ record { bytes = take 22 (cardOf (caseA .table) (caseA .request)) ++ TA; refused = refusal 12 22 }
+    ∷ record { bytes = take 22 (cardOf (caseA .table) (caseA .request)) ++ TA; refused = refusal 11 22 }
     ∷ []
 
 -- R20: 3, a waiting line in slot 2; 13, one byte too few for the card of case A

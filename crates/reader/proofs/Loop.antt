@@ -2,10 +2,10 @@
 use mathlib.Core.Path.{_≡_, refl, sym, ap, ap₂, _∙_}
 use mathlib.Core.List.{List, [], _∷_, _++_, map}
 use mathlib.Core.Bool.{Bool, true, false}
-use Prim.Native.Nat.{ℕ, zero, suc, _+_, _-_, _≤_, _<_}
+use Prim.Native.Nat.{ℕ, zero, suc, _+_, _*_, _-_, _^_, _≤_, _<_}
 use native.Mathlib.Omega.{arith}
 use native.Mathlib.Numerals.{add-one}
-use lib.ListN.{length, take, drop, set, replicate, length-drop, length-set, take-append-drop}
+use lib.ListN.{length, take, drop, set, replicate, length-drop, length-map, length-set, take-append-drop}
 use lib.Seq.{take-suc-set, drop-set-lt, drop-drop}
 use lib.Dec.{eqb}
 use borrow.Author.Tests.{eq-eqb, ne-eqb}
@@ -19,7 +19,10 @@ use Rattle.card.specs.Bytes.{value, marked}
 use Rattle.card.specs.Layout.{CK, isFree, clockAt, clockLength, lastLength, recordLength}
 use Rattle.card.specs.Marked.{free, slotFor, entryFor, Records, saying}
 use Rattle.card.specs.Card.{Card, carrying}
-use Rattle.card.specs.Reading.{putInFront, ending, closing, broken, recordOf, recordsOf, cardFor, meaning, readWith, readOf}
+use Rattle.card.specs.Reading.{putInFront, ending, closing, broken, recordOf, recordsOf, cardFor, readWith, readOf}
+use Rattle.card.specs.Twin.{wordOf, isOld, turnedIn, turnedWith, turnedOf}
+use Rattle.card.specs.Answers.{handed, handedOf}
+use Rattle.card.proofs.Turned.{word-small, word-set}
 use Rattle.card.proofs.Records.{seen-stands}
 use Rattle.card.proofs.Steps.{reads-clock, records-slot, records-last, records-refused, in-front-twice, in-front-nothing}
 
@@ -27,10 +30,10 @@ use Rattle.card.proofs.Steps.{reads-clock, records-slot, records-last, records-
 abbrev pub reading : ℕ → List ℕ → Said Records
 reading n l = recordsOf (value 8 l clockAt) n false clockLength (drop clockLength l)
 
--- R54: a card that CK opens means what the records behind it do
-pub read-clock : (l : List ℕ) → clockLength ≤ length l → marked CK l ≡ true → meaning (reading 16 l) ≡ readOf l
-unfolding readWith
-read-clock l h e = ap meaning (sym (reads-clock 16 l h e))
+-- R54: of a card that CK opens the records behind it are handed out
+pub read-clock : (l : List ℕ) → clockLength ≤ length l → marked CK l ≡ true → handedOf (reading 16 l) ≡ handed (turnedOf l) (readOf l)
+unfolding readWith turnedWith
+read-clock l h e = ap handedOf (sym (reads-clock 16 l h e))
 
 -- i records are read, the next stands at an offset, and what is read there gives the whole
 pub record Mid (n : ℕ) (l : List ℕ) (rs : List SlotRecord) (at i : ℕ) (gap : Bool) : Type 0 where
@@ -71,12 +74,12 @@ module _ (gap : Bool) (at len : ℕ) (c : Card) where
   closing-good g h =
       ap₂ (λ (o u : Bool). pick o (broken at) (pick u (gives c) (broken (at + lastLength)))) g (eq-eqb (len - at) lastLength (omega arith))
 
--- what the records mean that RQ closes
-meaning-closing : (gap : Bool) (at b : ℕ) (m : Records) → meaning (closing gap at b m) ≡ closing gap at b (cardFor m)
-meaning-closing true at b m = refl
-meaning-closing false at b m = go (eqb b lastLength)
+-- what is handed out of the records that RQ closes
+handed-closing : (gap : Bool) (at b : ℕ) (m : Records) → handedOf (closing gap at b m) ≡ handed (turnedIn (gives m)) (closing gap at b (cardFor m))
+handed-closing true at b m = refl
+handed-closing false at b m = go (eqb b lastLength)
   where
-    go : (o : Bool) → meaning (pick o (gives m) (broken (at + lastLength))) ≡ pick o (gives (cardFor m)) (broken (at + lastLength))
+    go : (o : Bool) → handedOf (pick o (gives m) (broken (at + lastLength))) ≡ handed (turnedIn (gives m)) (pick o (gives (cardFor m)) (broken (at + lastLength)))
     go true = refl
     go false = refl
 
@@ -136,7 +139,7 @@ module _ {n : ℕ} {l : List ℕ} {rs : List SlotRecord} {at i : ℕ} {gap : Boo
       ∙ ap₂ (λ (b : ℕ) (y : List SlotRecord). closing gap at b (saying k y c t)) (length-drop at l)
       (ap (λ (y : List SlotRecord). take i rs ++ y) (sym (m .rest)) ∙ take-append-drop i rs)
 
-  -- R57, R58: a refused record refuses the card, at its offset
+  -- R57: a refused record refuses the card, at its offset
   pub mid-refused : (r : ℕ) → x ≡ Refused r → reading n l ≡ refuses (refusal r at)
   mid-refused r e = m .whole ∙ ap (putInFront (take i rs)) (records-refused (value 8 l clockAt) (n - i) gap at (drop at l) r (sym s ∙ e))
 
@@ -147,31 +150,62 @@ map-set f [] i v = refl
 map-set f (x ∷ xs) zero v = refl
 map-set {B = B} f (x ∷ xs) (suc i) v = ap (λ (t : List B). f x ∷ t) (map-set f xs i v)
 
--- the clock is that of the card, and the slots and the entries are those of the records that are read
-pub record Kept (n : ℕ) (l : List ℕ) (t : Table) (ts : List ℕ) (at i : ℕ) (gap : Bool) : Type 0 where
+map-drop : {A B : Type 0} (f : A → B) (i : ℕ) (l : List A) → drop i (map f l) ≡ map f (drop i l)
+map-drop f zero l = refl
+map-drop f (suc i) [] = refl
+map-drop f (suc i) (x ∷ xs) = map-drop f i xs
+
+-- no record that is TF is TA
+none-old : (n : ℕ) → wordOf (map isOld (replicate n free)) ≡ 0
+none-old zero = refl
+none-old (suc n) = ap (λ (w : ℕ). 0 + 2 * w) (none-old n)
+
+-- the word of the records before slot i's
+module _ {n : ℕ} {l : List ℕ} {rs : List SlotRecord} {at i : ℕ} {gap : Bool} (m : Mid n l rs at i gap) where
+  none-left : wordOf (drop i (map isOld rs)) ≡ 0
+  none-left = ap wordOf (map-drop isOld i rs ∙ ap (map isOld) (m .rest)) ∙ none-old (n - i)
+
+  -- the word so far is below bit i
+  pub word-room : wordOf (map isOld rs) < 2 ^ i
+  word-room = word-small i (map isOld rs) none-left
+
+  -- R58: slot i's record adds bit i
+  word-on : (r : SlotRecord) → i < n → pick (isOld r) 1 0 * 2 ^ i + wordOf (map isOld rs) ≡ wordOf (map isOld (set rs i r))
+  word-on r h =
+      sym (word-set (isOld r) i (map isOld rs) (omega (arith, length-map rs isOld, m .long)) none-left) ∙ ap wordOf (map-set isOld rs i r)
+
+-- the clock is that of the card, and the slots, the entries and the word are those of the records that are read
+pub record Kept (n : ℕ) (l : List ℕ) (t : Table) (ts : List ℕ) (w at i : ℕ) (gap : Bool) : Type 0 where
   pub rs : List SlotRecord
   pub mid : Mid n l rs at i gap
   pub table : t ≡ tableWith (value 8 l clockAt) (map slotFor rs)
   pub stretched : ts ≡ map entryFor rs
+  pub turned : w ≡ wordOf (map isOld rs)
 
 -- no record is read: all slots are empty
-pub kept-start : (l : List ℕ) → clockLength ≤ length l → Kept 16 l (tableWith (value 8 l clockAt) (replicate 16 empty)) (replicate 16 0) clockLength 0 false
-kept-start l h = record { rs = replicate 16 free; mid = mid-start l h; table = refl; stretched = refl }
+pub kept-start : (l : List ℕ) → clockLength ≤ length l → Kept 16 l (tableWith (value 8 l clockAt) (replicate 16 empty)) (replicate 16 0) 0 clockLength 0 false
+kept-start l h = record { rs = replicate 16 free; mid = mid-start l h; table = refl; stretched = refl; turned = refl }
 
 -- the record x was seen at the offset
-module _ {n : ℕ} {l : List ℕ} {t : Table} {ts : List ℕ} {at i : ℕ} {gap : Bool} (v : Kept n l t ts at i gap) {x : Record} (s : x ≡ recordOf (n - i) (drop at l)) where
-  -- R53: a slot's record goes into slot i, with its entry
+module _ {n : ℕ} {l : List ℕ} {t : Table} {ts : List ℕ} {w at i : ℕ} {gap : Bool} (v : Kept n l t ts w at i gap) {x : Record} (s : x ≡ recordOf (n - i) (drop at l)) where
+  -- R58: the word so far has room for slot i's bit
+  pub kept-room : w < 2 ^ i
+  kept-room = rw (v .turned) (word-room (v .mid))
+
+  -- R53, R58: a slot's record goes into slot i, with its entry and its bit
   pub kept-slot : (r : SlotRecord) → x ≡ Slot r
-      → Kept n l (withSlots t (set (t .slots) i (slotFor r))) (set ts i (entryFor r)) (at + recordLength (r .mark)) (i + 1) (isFree (r .mark))
+      → Kept n l (withSlots t (set (t .slots) i (slotFor r))) (set ts i (entryFor r)) (pick (isOld r) 1 0 * 2 ^ i + w) (at + recordLength (r .mark)) (i + 1) (isFree (r .mark))
   kept-slot r e = record {
     rs = set (v .rs) i r;
     mid = mid-slot (v .mid) s r e;
     table = ap (λ (y : Table). withSlots y (set (y .slots) i (slotFor r))) (v .table) ∙ ap (tableWith (value 8 l clockAt)) (map-set slotFor (v .rs) i r);
     stretched = ap (λ (y : List ℕ). set y i (entryFor r)) (v .stretched) ∙ map-set entryFor (v .rs) i r;
+    turned = ap (λ (y : ℕ). pick (isOld r) 1 0 * 2 ^ i + y) (v .turned) ∙ word-on (v .mid) r (slot-room (v .mid) s e .0);
   }
 
-  -- R53, R54: with RQ the table and the entries are those of the card
-  pub kept-last : (c p : ℕ) → x ≡ Last c p → meaning (reading n l) ≡ closing gap at (length l - at) (carrying t (requestWith ts c p))
+  -- R53, R54: with RQ the table, the entries and the word are those of the card
+  pub kept-last : (c p : ℕ) → x ≡ Last c p → handedOf (reading n l) ≡ handed w (closing gap at (length l - at) (carrying t (requestWith ts c p)))
   kept-last c p e =
-      ap meaning (mid-last (v .mid) s c p e) ∙ meaning-closing gap at (length l - at) (saying (value 8 l clockAt) (v .rs) c p)
-      ∙ sym (ap₂ (λ (y : Table) (z : List ℕ). closing gap at (length l - at) (carrying y (requestWith z c p))) (v .table) (v .stretched))
+      ap handedOf (mid-last (v .mid) s c p e) ∙ handed-closing gap at (length l - at) (saying (value 8 l clockAt) (v .rs) c p)
+      ∙ sym (ap₂ (λ (y : Table) (z : List ℕ). handed w (closing gap at (length l - at) (carrying y (requestWith z c p)))) (v .table) (v .stretched)
+      ∙ ap (λ (y : ℕ). handed y (closing gap at (length l - at) (cardFor (saying (value 8 l clockAt) (v .rs) c p)))) (v .turned))

@@ -1,14 +1,16 @@
 // The card reader: any bytes of any length in, a table and a request or a refusal out.
 ghost use mathlib.Core.Path.{_≡_};
 ghost use mathlib.Core.Bool.{false};
-ghost use Prim.Native.Nat.{_+_, _-_, _≤_, _<_};
+ghost use Prim.Native.Nat.{_+_, _-_, _*_, _^_, _≤_, _<_};
 ghost use lib.ListN.{length, drop};
 ghost use Rattle.table.specs.Words.{refusal, refuses};
 ghost use Rattle.card.specs.Bytes.{value, markOf, marked};
+ghost use Rattle.line.specs.Slots.{pick};
 ghost use Rattle.card.specs.Layout.{clockAt, clockLength, lastLength};
 ghost use Rattle.card.specs.Card.{carrying};
-ghost use Rattle.card.specs.Reading.{lineRecordOf, lastOf, slotRecordOf, recordOf, closing, recordsOf, meaning, readOf};
-ghost use Rattle.card.specs.Answers.{handed};
+ghost use Rattle.card.specs.Reading.{lineRecordOf, lastOf, slotRecordOf, recordOf, closing, recordsOf, readOf};
+ghost use Rattle.card.specs.Twin.{isOld, turnedOf};
+ghost use Rattle.card.specs.Answers.{handed, handedOf};
 use card::CardAnswer;
 use card::Mark;
 use card::ReadCard;
@@ -86,7 +88,7 @@ fn last(s: &[u8]) -> Record
     Record::Last(get16(s, layout::NEED_AT), get16(s, layout::PERIOD_AT))
 }
 
-// R32, R57, R58: a slot's record at the front of `s`.
+// R57, R58: a slot's record at the front of `s`.
 fn slot_record(s: &[u8]) -> Record
     ensures { λ r. ⌜ r ≡ slotRecordOf (now (s .entry)) ⌝ }
 {
@@ -97,7 +99,7 @@ fn slot_record(s: &[u8]) -> Record
         return Record::Slot(SlotRecord::free());
     }
     if opens(s, &layout::TA) {
-        return Record::Refused(12);
+        return line(s, Mark::TA);
     }
     Record::Refused(11)
 }
@@ -125,20 +127,21 @@ fn record_at(card: &[u8], at: usize, left: usize) -> Record
 
 // R56: what is handed out beside a refusal.
 fn refused(number: u16, at: usize) -> ReadCard
-    ensures { λ r. ⌜ r ≡ handed (refuses (refusal number at)) ⌝ }
+    ensures { λ r. ⌜ r ≡ handed 0 (refuses (refusal number at)) ⌝ }
 {
     let refusal = Refusal::new(number, at as u64);
     ReadCard {
         table: Table::empty(),
         request: Request::new([0u16; 16], 0, 0),
+        turned: 0,
         answer: CardAnswer::Refused(refusal),
     }
 }
 
 // R57: RQ at `at`, on a card of `len` bytes: no TF stands before it, and no byte after it.
-fn closed(len: usize, at: usize, gap: bool, table: Table, request: Request) -> ReadCard
+fn closed(len: usize, at: usize, gap: bool, table: Table, request: Request, turned: u16) -> ReadCard
     requires { ⌜ at + lastLength ≤ len ⌝ }
-    ensures { λ r. ⌜ r ≡ handed (closing gap at (len - at) (carrying table request)) ⌝ }
+    ensures { λ r. ⌜ r ≡ handed turned (closing gap at (len - at) (carrying table request)) ⌝ }
 {
     if gap {
         return refused(11, at);
@@ -149,14 +152,26 @@ fn closed(len: usize, at: usize, gap: bool, table: Table, request: Request) -> R
     ReadCard {
         table: table,
         request: request,
+        turned: turned,
         answer: CardAnswer::Read,
     }
+}
+
+// R58: the word with slot i's bit, where its record is TA.
+fn with_turned(turned: u16, i: usize, r: SlotRecord) -> u16
+    requires { ⌜ (i < 16) × (turned < 2 ^ i) ⌝ }
+    ensures { λ w. ⌜ w ≡ pick (isOld r) 1 0 * 2 ^ i + turned ⌝ }
+{
+    if r.is_turned() {
+        return turned | (1 << i);
+    }
+    turned
 }
 
 // R53, R54, R55: the records after the clock's, each made a slot and its entry at once; a slot without one is as one marked TF.
 fn records(card: &[u8]) -> ReadCard
     requires { ⌜ clockLength ≤ length (now card) ⌝ }
-    ensures { λ r. ⌜ r ≡ handed (meaning (recordsOf (value 8 (now (card .entry)) clockAt) 16 false clockLength (drop clockLength (now (card .entry))))) ⌝ }
+    ensures { λ r. ⌜ r ≡ handedOf (recordsOf (value 8 (now (card .entry)) clockAt) 16 false clockLength (drop clockLength (now (card .entry)))) ⌝ }
 {
     let none = Slot::empty();
     let mut table = Table::new(clock(card), [none; 16]);
@@ -164,12 +179,14 @@ fn records(card: &[u8]) -> ReadCard
     let mut at: usize = layout::CLOCK_LENGTH;
     let mut i: usize = 0;
     let mut gap = false;
+    let mut turned: u16 = 0;
     loop {
         let r = record_at(card, at, 16 - i);
         match r {
             Record::Slot(x) => {
                 gap = x.is_free();
                 at = at + x.length();
+                turned = with_turned(turned, i, x);
                 request.stretched[i] = x.stretched;
                 table.slots[i] = x.slot();
                 i = i + 1;
@@ -177,7 +194,7 @@ fn records(card: &[u8]) -> ReadCard
             Record::Last(need, period) => {
                 request.need = need;
                 request.period = period;
-                return closed(card.len(), at, gap, table, request);
+                return closed(card.len(), at, gap, table, request, turned);
             }
             Record::Refused(number) => {
                 return refused(number, at);
@@ -188,7 +205,7 @@ fn records(card: &[u8]) -> ReadCard
 
 // R31, R56, R57: any bytes of any length. The contract is an equation: it settles all that is handed out.
 pub fn read(card: &[u8]) -> ReadCard
-    ensures { λ r. ⌜ r ≡ handed (readOf (now (card .entry))) ⌝ }
+    ensures { λ r. ⌜ r ≡ handed (turnedOf (now (card .entry))) (readOf (now (card .entry))) ⌝ }
 {
     if card.len() < layout::CLOCK_LENGTH {
         return refused(11, 0);

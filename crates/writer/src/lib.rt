@@ -91,6 +91,7 @@ fn put_record(out: &mut [u8], r: SlotRecord)
 {
     let m = r.mark;
     match m {
+        Mark::TA => put_line(out, &layout::TA, r),
         Mark::TB => put_line(out, &layout::TB, r),
         Mark::TF => put_mark(out, &layout::TF),
     }

@@ -63,7 +63,7 @@ pub fn run(fine: &mut bool) -> Row {
     let bytes = card::bytes(&table, &request);
     let mut ran = 0;
     let plain = best(TICKS.into(), || {
-        let Ok((mut pump, request)) = quick::read(black_box(&bytes)) else {
+        let Ok((mut pump, request, _)) = quick::read(black_box(&bytes)) else {
             return;
         };
         let (need, period) = (request.need, request.period);

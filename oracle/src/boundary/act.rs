@@ -7,7 +7,7 @@ use crate::types::{Refusal, Request};
 use std::fmt;
 
 /// R93: the version of the boundary.
-const VERSION: u64 = 1;
+const VERSION: u64 = 2;
 
 /// R63: the slot of a result that is none.
 pub const NO_SLOT: u64 = 255;
@@ -116,7 +116,7 @@ impl Told {
         Told::placed(value, 0)
     }
 
-    /// R86: granted, with a place.
+    /// R65, R86: granted, with a place.
     pub fn placed(value: u64, place: usize) -> Told {
         Told {
             number: 0,
@@ -170,7 +170,10 @@ fn attempt(act: &Act, desk: &mut Desk) -> Result<Told, Refusal> {
     let placed = |(start, slot)| Told::placed(start, slot);
     match act {
         Act::Answer => cards::answer(desk.card.part(), desk.out.part_mut()).map(Told::length),
-        Act::Rewrite => cards::rewrite(desk.card.part(), desk.out.part_mut()).map(Told::length),
+        Act::Rewrite => {
+            let (length, turned) = cards::rewrite(desk.card.part(), desk.out.part_mut())?;
+            Ok(Told::placed(length as u64, turned.into()))
+        }
         Act::Run(ticks) => cards::run(desk.card.part(), *ticks).map(Told::value),
         Act::Empty => images::empty(desk.image.part_mut()).map(Told::length),
         Act::Ask(line) => images::ask(desk.image.part(), &desk.request(line)).map(placed),
@@ -201,6 +204,7 @@ mod tests {
     use crate::card;
     use crate::cases::{self, CARD_A};
     use crate::image;
+    use crate::orders;
     use crate::types::{Content, Table, Wait, EMPTY, LAST_TICK, SLOTS, ZEROS};
 
     const FILL: u8 = 7;
@@ -240,7 +244,7 @@ mod tests {
     #[test]
     fn numbers_alone() {
         let desk = on_table(&EMPTY);
-        changes_nothing(Act::Version, &desk, Told::value(1));
+        changes_nothing(Act::Version, &desk, Told::value(2));
         for (number, blinks) in [(0, 0), (3, 1), (4, 2), (15, 5), (16, 0), (1 << 32 | 1, 0)] {
             changes_nothing(Act::Lamp(number), &desk, Told::value(blinks));
         }
@@ -364,6 +368,9 @@ mod tests {
         changes_nothing(Act::Run(26), &now, Told::value(23));
         changes_nothing(Act::Answer, &desk(&[], 10), refused(13, 0));
         changes_nothing(Act::Rewrite, &desk(&[], 39), refused(13, 0));
+        now.card = Lent::new(&orders::old(&CARD_A), GUARD);
+        assert_eq!(should(&Act::Rewrite, &mut now), Told::placed(40, 0b11));
+        assert_eq!(now.out.part(), CARD_A);
         now.card = Lent::new(&card::bytes(&EMPTY, &ZEROS), GUARD);
         changes_nothing(Act::Run(1), &now, refused(6, 0));
     }

@@ -19,13 +19,14 @@ fn short(bytes: &[u8], line: &str) -> String {
     told(cards::answer(bytes, &mut buffer))
 }
 
-/// R65, R72: the length of the card written anew, and whether it is the same card.
+/// R65, R72: the length of the card written anew, and whether it is the same card or which slots are reordered.
 fn rewritten(bytes: &[u8]) -> String {
     let mut anew = [0; LONGEST_CARD];
-    let length = cards::rewrite(bytes, &mut anew);
-    let same = length.is_ok_and(|length| &anew[..length] == bytes);
-    let remark = if same { " the same" } else { "" };
-    format!("{}{remark}", told(length))
+    told(cards::rewrite(bytes, &mut anew).map(|(length, turned)| {
+        let same = &anew[..length] == bytes;
+        let remark = if same { " the same" } else { "" };
+        format!("{length}{remark}{}", cards::reordered(turned.into()))
+    }))
 }
 
 pub fn example(bytes: &[u8]) -> String {
@@ -40,12 +41,19 @@ pub fn example(bytes: &[u8]) -> String {
 mod tests {
     use super::*;
     use crate::cases::{self, CARD_A};
+    use crate::orders;
 
     #[test]
     fn the_example_on_card_a() {
         // Three of the 56 ticks find no line owed: 21, 23 and 24 of histories/controller.history.
         let wanted = "release 13\nshort refused 13 0\nrewritten 40 the same\nran 53 of 56\n";
         assert_eq!(example(&CARD_A), wanted);
+    }
+
+    #[test]
+    fn the_example_on_a_card_of_the_old_order() {
+        let wanted = "release 13\nshort refused 13 0\nrewritten 40 reordered 0 1\nran 53 of 56\n";
+        assert_eq!(example(&orders::old(&CARD_A)), wanted);
     }
 
     #[test]

@@ -56,7 +56,7 @@ pub fn read_card(
     buffer: &mut [u8],
     numbers: &mut [u16; NUMBERS],
 ) -> Result<usize, Refusal> {
-    let (table, request) = card::parse(bytes)?;
+    let card::Parsed { table, request, .. } = card::parse(bytes)?;
     let length = image::write(&table, buffer)?;
     numbers[..SLOTS].copy_from_slice(&request.stretched);
     numbers[SLOTS] = request.need;

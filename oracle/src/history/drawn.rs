@@ -10,6 +10,7 @@ use crate::boundary::{Act, NewLine, Told};
 use crate::card;
 use crate::draw;
 use crate::image;
+use crate::orders;
 use crate::random::Random;
 use crate::spoil;
 use crate::types::{Request, Table, EMPTY, LONGEST_CARD};
@@ -71,13 +72,14 @@ impl<'a> Drawn<'a> {
         Ok(())
     }
 
-    /// Every length of what is lent to be written into and of an image, for one table and one card.
+    /// Every length of what is lent to be written into and of an image, for one table and its card in the old order (R58).
     fn lengths(&mut self) -> Done {
         let (table, request) = draw::near_full(self.random);
         let image = image::bytes(&table);
         self.lay(&image)?;
         let line = self.request(&request)?;
-        self.operate(Operation::Card(card::bytes(&table, &request)))?;
+        let card = orders::old(&card::bytes(&table, &request));
+        self.operate(Operation::Card(card))?;
         for length in 0..=LONGEST_LENT {
             for act in [Act::Answer, Act::Rewrite, Act::WriteCard(line)] {
                 self.lend(length)?;

@@ -9,6 +9,9 @@ use std::fmt;
 /// The greatest number of a refusal.
 const REFUSALS: usize = 15;
 
+/// R32: the number that is given by nothing.
+const NOT_GIVEN: usize = 12;
+
 /// How often a call was granted, at 0, and refused by each number.
 type Counts = [u64; REFUSALS + 1];
 
@@ -20,6 +23,8 @@ pub struct Tally {
     starts: u64,
     /// Starts that were later than the clock.
     pub later: u64,
+    /// R65: rewritten cards of which a slot was named.
+    pub turned: u64,
 }
 
 impl Tally {
@@ -34,13 +39,20 @@ impl Tally {
         for told in all {
             counts[told.number as usize] += 1;
         }
-        if matches!(act, Act::Ask(_) | Act::Admit(_)) {
-            let granted = all.iter().filter(|told| told.number == 0);
-            for told in granted {
+        for told in all.iter().filter(|told| told.number == 0) {
+            self.count_granted(&act, told, desk);
+        }
+    }
+
+    fn count_granted(&mut self, act: &Act, told: &Told, desk: &Desk) {
+        match act {
+            Act::Ask(_) | Act::Admit(_) => {
                 self.starts += 1;
                 // An admission keeps the clock.
                 self.later += u64::from(told.value > image::clock(desk.image.part()));
             }
+            Act::Rewrite => self.turned += u64::from(told.place != 0),
+            _ => {}
         }
     }
 
@@ -59,14 +71,15 @@ impl Tally {
         sum
     }
 
-    /// The refusals that no call was told.
-    pub fn unmet(&self) -> Vec<usize> {
+    /// R20, R32: the refusals that no call was told, and the one that is not given, if a call was told it.
+    pub fn amiss(&self) -> Vec<usize> {
         let all = self.all();
-        (1..=REFUSALS).filter(|number| all[*number] == 0).collect()
+        let amiss = |number: &usize| (all[*number] == 0) != (*number == NOT_GIVEN);
+        (1..=REFUSALS).filter(amiss).collect()
     }
 }
 
-/// A line for each call and one for all, the starts, and what was laid on the desk.
+/// A line for each call and one for all, the starts, the reordered cards, and what was laid on the desk.
 impl fmt::Display for Tally {
     fn fmt(&self, f: &mut fmt::Formatter<'_>) -> fmt::Result {
         for (name, counts) in &self.calls {
@@ -75,6 +88,7 @@ impl fmt::Display for Tally {
         write_counts(f, "all", &self.all())?;
         let (starts, later) = (self.starts, self.later);
         writeln!(f, "starts {starts}, later than the clock {later}")?;
+        writeln!(f, "rewritten with slots reordered {}", self.turned)?;
         let laid = self
             .laid
             .iter()

@@ -7,11 +7,9 @@ use crate::boundary::Act;
 use crate::card;
 use crate::draw;
 use crate::image;
+use crate::orders;
 use crate::spoil;
 use crate::types::{Request, LAST_ASK, LONGEST_CARD};
-
-/// R53: where the record after the clock's begins.
-const FIRST_RECORD: usize = 10;
 
 impl Drawn<'_> {
     /// How a history comes to its first table.
@@ -132,13 +130,13 @@ impl Drawn<'_> {
         self.call(Act::ReadCard).map(|_| ())
     }
 
-    /// A card of any kind; R58: some have an old mark in the place of their first line's.
+    /// A card of any kind; R58: a third of them have lines of the old order.
     fn draw_card(&mut self) -> Vec<u8> {
         let card = spoil::mixed_card(self.random);
-        if self.random.below(16) == 0 && card.len() > 2 * FIRST_RECORD {
-            return spoil::with_mark(&card, FIRST_RECORD, b"TA");
+        match self.random.below(3) {
+            0 => orders::drawn(self.random, &card),
+            _ => card,
         }
-        card
     }
 
     /// R64 to R66: a card is answered, written anew and run.

@@ -1,7 +1,7 @@
 //! What an operation was told, in words.
 
 use super::operation::{records, written, Operation};
-use crate::boundary::{Act, Desk, Told, NO_SLOT};
+use crate::boundary::{reordered, Act, Desk, Told, NO_SLOT};
 use crate::image;
 use crate::types::{Content, SLOTS};
 
@@ -37,7 +37,8 @@ fn one(act: &Act, told: &Told, desk: &Desk) -> String {
     match act {
         Act::Ask(_) | Act::Admit(_) => format!("start {value} slot {place}"),
         Act::Answer => format!("line {}", String::from_utf8_lossy(out()).trim_end()),
-        Act::Rewrite | Act::WriteCard(_) => records(out()),
+        Act::WriteCard(_) => records(out()),
+        Act::Rewrite => records(out()) + &reordered(place),
         Act::ReadCard => {
             let numbers = desk.numbers.part();
             let (need, period) = (numbers[SLOTS], numbers[SLOTS + 1]);

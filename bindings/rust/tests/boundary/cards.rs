@@ -1,8 +1,8 @@
 //! Cards that go over the boundary whole (R64 to R66).
 
 use crate::lent::{writes, Lent, FILL};
-use crate::samples::{refused, CARD_A};
-use trimthuel::{answer, rewrite, run, Refusal, LINE_MAX};
+use crate::samples::{refused, CARD_A, CARD_A_MIXED, CARD_A_OLD};
+use trimthuel::{answer, rewrite, run, Refusal, Rewritten, CARD_MAX, LINE_MAX};
 
 /// The function on a card that is lent too, and stays.
 fn of(
@@ -19,22 +19,49 @@ fn of(
 
 #[test]
 fn r64_the_line() {
-    writes(of(answer, CARD_A), b"release 13\n");
+    for card in [CARD_A, CARD_A_OLD, CARD_A_MIXED] {
+        writes(of(answer, card), b"release 13\n");
+    }
     writes(of(answer, b""), b"refused 11 0\n");
-    writes(of(answer, b"CK\0\0\0\0\0\0\0\0TA"), b"refused 12 10\n");
+    // R58: a record that is cut, as with TB.
+    writes(of(answer, b"CK\0\0\0\0\0\0\0\0TA"), b"refused 11 10\n");
     let late = b"CK\xFF\xFF\xFF\xFF\xFF\xFF\xFF\xFFRQ\x01\0\x04\0";
     writes(of(answer, late), b"refused 1 0\n");
     assert_eq!(answer(CARD_A, &mut [0; LINE_MAX]), Ok(11));
 }
 
+fn rewritten_length(card: &[u8], out: &mut [u8]) -> Result<usize, Refusal> {
+    rewrite(card, out).map(|rewritten| rewritten.length)
+}
+
 #[test]
-fn r65_a_card_is_written_back() {
-    writes(of(rewrite, CARD_A), CARD_A);
-    let mut out = Lent::new(&FILL);
-    assert_eq!(rewrite(&CARD_A[..39], out.lend()), refused(11, 34));
-    // R65: the reader's refusal comes before R33.
-    assert_eq!(rewrite(&CARD_A[..39], &mut []), refused(11, 34));
-    out.holds(&FILL);
+fn r65_a_card_is_written_as_its_twin() {
+    for (card, turned) in [(CARD_A, 0), (CARD_A_OLD, 0b11), (CARD_A_MIXED, 0b10)] {
+        writes(of(rewritten_length, card), CARD_A);
+        let whole = Rewritten { length: 40, turned };
+        assert_eq!(rewrite(card, &mut [0; CARD_MAX]), Ok(whole));
+        let mut out = Lent::new(&FILL);
+        assert_eq!(rewrite(&card[..39], out.lend()), refused(11, 34));
+        // R65: the reader's refusal comes before R33.
+        assert_eq!(rewrite(&card[..39], &mut []), refused(11, 34));
+        out.holds(&FILL);
+    }
+}
+
+/// R65: the slots that are named of a card with these records.
+fn slots_of(records: &[&[u8]]) -> Vec<usize> {
+    let card = [&CARD_A[..10], &records.concat(), &CARD_A[34..]].concat();
+    let rewritten = rewrite(&card, &mut [0; CARD_MAX]).unwrap();
+    rewritten.slots().collect()
+}
+
+#[test]
+fn r65_the_slots_of_the_old_order() {
+    let old: &[u8] = b"TA\x01\0\x02\0\x03\0\x04\0\x05\0";
+    assert_eq!(slots_of(&[old; 16]), Vec::from_iter(0..16));
+    assert_eq!(slots_of(&[&b"TF".repeat(15), old]), [15]);
+    assert_eq!(slots_of(&[old, b"TF", old]), [0, 2]);
+    assert_eq!(slots_of(&[]), []);
 }
 
 #[test]

@@ -1,7 +1,10 @@
 //! Every function on images (R85 to R92), with lent buffers of every length.
 
 use crate::lent::{overwritten, writes, Lent, FILL};
-use crate::samples::{admitted, case_a, image, refused, running, Image, BENCH, CARD_A, NUMBERS_A};
+use crate::samples::{
+    admitted, case_a, image, refused, running, Image, BENCH, CARD_A, CARD_A_MIXED, CARD_A_OLD,
+    NUMBERS_A,
+};
 use std::fmt::Debug;
 use trimthuel::image::{admit, ask, empty, read_card, ready, step, write_card};
 use trimthuel::{Answer, Refusal, REQUEST_SIZE, TABLE_SIZE};
@@ -78,7 +81,9 @@ fn read_into(
 
 #[test]
 fn r92_read_card() {
-    writes(|table| read_into(CARD_A, table, &NUMBERS_A), &case_a());
+    for card in [CARD_A, CARD_A_OLD, CARD_A_MIXED] {
+        writes(|table| read_into(card, table, &NUMBERS_A), &case_a());
+    }
     for length in 0..CARD_A.len() {
         let card = &CARD_A[..length];
         let mut table = Lent::new(&FILL);

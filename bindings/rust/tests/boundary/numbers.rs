@@ -1,7 +1,7 @@
 //! R63: all three numbers of a result, those too that the rest of the crate leaves out.
 
 use crate::lent::Lent;
-use crate::samples::{admitted, case_a, image, BENCH, CARD_A, LAST_TICK};
+use crate::samples::{admitted, case_a, image, BENCH, CARD_A, CARD_A_OLD, LAST_TICK};
 use trimthuel::numbers::{self, Numbers, NO_SLOT};
 use trimthuel::{Request, CARD_MAX, LINE_MAX, REQUEST_SIZE, SLOTS, TABLE_SIZE};
 
@@ -72,6 +72,8 @@ fn whole_cards() {
     is(numbers::answer(CARD_A, &mut [0; LINE_MAX]), [0, 0, 11]);
     is(numbers::answer(CARD_A, &mut [0; 10]), [13, 0, 0]);
     is(numbers::rewrite(CARD_A, &mut [0; CARD_MAX]), [0, 0, 40]);
+    is(numbers::rewrite(CARD_A_OLD, &mut [0; CARD_MAX]), [0, 3, 40]);
+    is(numbers::rewrite(CARD_A_OLD, &mut [0; 39]), [13, 0, 0]);
     is(
         numbers::rewrite(&CARD_A[..39], &mut [0; CARD_MAX]),
         [11, 34, 0],

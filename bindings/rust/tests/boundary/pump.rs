@@ -1,6 +1,8 @@
 //! The pump that owns its table, and requests.
 
-use crate::samples::{admitted, case_a, image, refused, running, BENCH, CARD_A, LAST_TICK};
+use crate::samples::{
+    admitted, case_a, image, refused, running, BENCH, CARD_A, CARD_A_OLD, LAST_TICK,
+};
 use trimthuel::{Answer, Pump, Refusal, Request, CARD_MAX, TABLE_SIZE};
 
 static EMPTY: Pump = Pump::new();
@@ -83,7 +85,8 @@ fn r72_there_and_back() {
     assert_eq!(pump.write_card(&request, &mut card), Ok(40));
     assert_eq!(&card[..40], CARD_A);
     assert_eq!(Pump::from_card(&CARD_A[..39]), refused(11, 34));
-    assert_eq!(Pump::from_card(b"CK\0\0\0\0\0\0\0\0TA"), refused(12, 10));
+    assert_eq!(Pump::from_card(CARD_A_OLD), Ok((pump, request)));
+    assert_eq!(Pump::from_card(b"CK\0\0\0\0\0\0\0\0TA"), refused(11, 10));
 }
 
 #[test]

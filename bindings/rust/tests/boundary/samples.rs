@@ -64,6 +64,16 @@ pub const CARD_A: &[u8] = b"CK\x08\0\0\0\0\0\0\0\
     TB\x08\0\x10\0\x10\0\x08\0\x08\0\
     RQ\x01\0\x04\0";
 
+/// R58: the same with both lines, and with the second alone, as the third generation wrote them.
+pub const CARD_A_OLD: &[u8] = b"CK\x08\0\0\0\0\0\0\0\
+    TA\x08\0\x10\0\x20\0\0\0\x08\0\
+    TA\x08\0\x10\0\x10\0\x08\0\x08\0\
+    RQ\x01\0\x04\0";
+pub const CARD_A_MIXED: &[u8] = b"CK\x08\0\0\0\0\0\0\0\
+    TB\x08\0\x10\0\x20\0\x08\0\0\0\
+    TA\x08\0\x10\0\x10\0\x08\0\x08\0\
+    RQ\x01\0\x04\0";
+
 /// R92: the request of case A as eighteen numbers.
 pub const NUMBERS_A: [u16; 18] = [32, 16, 0, 0, 0, 0, 0, 0, 0, 0, 0, 0, 0, 0, 0, 0, 1, 4];
 

@@ -10,18 +10,18 @@ use Rattle.reader.proofs.closed.Tie as tie
 returns : tie.Need-returns
 returns c =
     let a = c .before .before .args in
-    c .refused .ensures ∙ ap handed (sym (closing-gap (a .gap) (a .at) (a .len) (carrying (a .table) (a .request)) (c .before .if1 .taken)))
+    c .refused .ensures ∙ ap (handed (a .turned)) (sym (closing-gap (a .gap) (a .at) (a .len) (carrying (a .table) (a .request)) (c .before .if1 .taken)))
 
 returns-2 : tie.Need-returns-2
 returns-2 c =
     let a = c .before .before .before .args in
     c .refused2 .ensures
-    ∙ ap handed (sym (closing-more (a .gap) (a .at) (a .len) (carrying (a .table) (a .request)) (c .before .before .if1 .left) (c .before .if2 .taken)))
+    ∙ ap (handed (a .turned)) (sym (closing-more (a .gap) (a .at) (a .len) (carrying (a .table) (a .request)) (c .before .before .if1 .left) (c .before .if2 .taken)))
 
 returns-3 : tie.Need-returns-3
 returns-3 c =
     let a = c .before .before .args in
-    ap handed (sym (closing-good (a .gap) (a .at) (a .len) (carrying (a .table) (a .request)) (c .before .if1 .left) (c .if2 .left)))
+    ap (handed (a .turned)) (sym (closing-good (a .gap) (a .at) (a .len) (carrying (a .table) (a .request)) (c .before .if1 .left) (c .if2 .left)))
 
 pub closed-spec : {M : Type 1} → statement M
 closed-spec =

@@ -18,9 +18,11 @@ returns-2 c =
 
 returns-3 : tie.Need-returns-3
 returns-3 c =
-    let f = c .before .before .before in
+    let t = c .before in
+    let f = t .before .before .before in
     let b = f .before .before .before in
-    sym (slot-old _ (sym (b .before .opens .ensures) ∙ b .if1 .left) (sym (f .before .opens2 .ensures) ∙ f .if2 .left) (sym (c .before .opens3 .ensures) ∙ c .if3 .taken))
+    c .line2 .ensures
+    ∙ sym (slot-old _ (sym (b .before .opens .ensures) ∙ b .if1 .left) (sym (f .before .opens2 .ensures) ∙ f .if2 .left) (sym (t .before .opens3 .ensures) ∙ t .if3 .taken))
 
 returns-4 : tie.Need-returns-4
 returns-4 c =
@@ -32,4 +34,4 @@ pub slot-record-spec : {M : Type 1} → statement M
 slot-record-spec =
     tie.close
     (tie.spec (λ c κs. search needs) (λ c κs. search needs) returns (λ c κs. search needs) (λ c κs. search needs) returns-2 (λ c κs. search needs)
-    returns-3 returns-4)
+    (λ c κs. search needs) returns-3 returns-4)

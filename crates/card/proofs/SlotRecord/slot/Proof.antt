@@ -14,9 +14,16 @@ returns c =
     ∙ sym (ap (λ (m : Mark). holding (heldUnder m (c .before .before .before .before .args .self))) (c .before .before .enum-told .given .1))
 
 returns-2 : tie.Need-returns-2
-returns-2 c = c .empty .ensures ∙ sym (ap (λ (m : Mark). holding (heldUnder m (c .before .before .before .args .self))) (c .before .enum-told2 .given .1))
+returns-2 c =
+    c .holding2 .ensures
+    ∙ ap holding (c .before .running2 .ensures)
+    ∙ sym (ap (λ (m : Mark). holding (heldUnder m (c .before .before .before .before .args .self))) (c .before .before .enum-told2 .given .1))
+
+returns-3 : tie.Need-returns-3
+returns-3 c = c .empty .ensures ∙ sym (ap (λ (m : Mark). holding (heldUnder m (c .before .before .before .args .self))) (c .before .enum-told3 .given .1))
 
 pub slot-spec : {M : Type 1} → statement M
 slot-spec =
     tie.close
-    (tie.spec (λ c. search needs) (λ c κs. search needs) (λ c κs. search needs) (λ c. search needs) (λ c κs. search needs) returns returns-2)
+    (tie.spec (λ c. search needs) (λ c κs. search needs) (λ c κs. search needs) (λ c. search needs) (λ c κs. search needs) (λ c κs. search needs)
+    (λ c. search needs) (λ c κs. search needs) returns returns-2 returns-3)

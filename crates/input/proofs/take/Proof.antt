@@ -1,17 +1,17 @@
--- `answer::take` is safe: `at` lies within the card, which keeps its length. The measure is the number of bytes that are left.
+-- `input::take` is safe: `at` lies within what is lent, which keeps its length. The measure is the number of bytes that are left.
 use Prim.Native.Nat.{_≤_, _-_}
 use mathlib.Core.Path.{_≡_, sym}
 use borrow.Author.Needs.{needs}
 use lib.ListN.{length}
 use lib.Seq.{length-take-le}
-use Rattle.answer.proofs.take.Statement.{statement}
-use Rattle.answer.proofs.take.Tie as tie
+use Rattle.input.proofs.take.Statement.{statement}
+use Rattle.input.proofs.take.Tie as tie
 
 abbrev Inv-loop : tie.InvT-loop
-Inv-loop card₀ at₀ card at = (at ≤ length card) × (length card ≡ length card₀)
+Inv-loop into₀ at₀ into at = (at ≤ length into) × (length into ≡ length into₀)
 
 abbrev μ-loop : tie.MeasureT-loop
-μ-loop card₀ at₀ card at = length card - at
+μ-loop into₀ at₀ into at = length into - at
 
 returns : tie.Need-returns Inv-loop μ-loop
 returns c = (search needs, sym (length-take-le _ _ (search needs)))
