@@ -8,6 +8,7 @@ use native.Mathlib.Decide.{decLt}
 use lib.ListN.{length, take, drop, replicate, length-append, length-take, length-drop, drop-of-length-le}
 use lib.Seq.{take-at, take-all, drop-at}
 use lib.Dec.{leb, eqb}
+use Rattle.line.specs.declared.Run.{Run}
 use Rattle.line.specs.declared.Slot as line-slot
 use Rattle.line.specs.Slots.{pick, both}
 use Rattle.table.specs.Words.{tableWith, requestWith, Said, gives, refuses}
@@ -16,7 +17,7 @@ use Rattle.card.specs.declared.SlotRecord.{SlotRecord}
 use Rattle.card.specs.declared.Record.{Record}
 use Rattle.card.specs.declared.Record.the-variants.{Slot, Last, Refused}
 use Rattle.card.specs.Bytes.{Bytes, value, marked}
-use Rattle.card.specs.Layout.{CK, isFree, clockAt, markLength, clockLength, lineLength, lastLength, recordLength}
+use Rattle.card.specs.Layout.{CK, isFree, isTurned, clockAt, markLength, clockLength, lineLength, lastLength, recordLength}
 use Rattle.card.specs.Marked.{recordWith, free, recordBytes, Fitting, lineOf, slotFor, entryFor, lineUnder, twin, Records, saying}
 use Rattle.card.specs.Card.{carrying}
 use Rattle.card.specs.Reading.{recordOf, putInFront, ending, closing, broken, recordsOf, meaning, readWith}
@@ -28,6 +29,12 @@ use Rattle.card.proofs.Passed.{reads-record}
 use Rattle.card.proofs.Prefix.{marked-take, value-take}
 
 -- ---- one record
+
+-- R53, R58: under either mark the record of a line stands for that line
+pub line-back : (m : Mark) (x : Run) (t : ℕ) → lineOf (isTurned m) (lineUnder m x t) ≡ x
+line-back Mark.TA x t = refl
+line-back Mark.TB x t = refl
+line-back Mark.TF x t = refl
 
 -- R58: the twin of a record that is not TA is itself
 pub twin-new : (r : SlotRecord) → isOld r ≡ false → twin r ≡ r
