@@ -27,6 +27,7 @@ typedef void any_fn(void);
 
 static uint8_t stack[STACK_SIZE];
 static uint8_t out[TRIMTHUEL_CARD_MAX];
+static uint64_t counted[TRIMTHUEL_COUNTS];
 static struct scene now;
 static any_fn *volatile called;
 static any_fn *make_call;
@@ -60,6 +61,7 @@ static uint32_t no_number(void)
     F(admit, no_result, TABLE, REQUEST)               \
     F(step, no_result, TABLE)                         \
     F(ready, no_result, TABLE)                        \
+    F(counts, no_result, TABLE, counted)              \
     F(write_card, no_result, TABLE, REQUEST, OUT)     \
     F(read_card, no_result, CARD, TABLE, now.request) \
     F(answer, no_result, CARD, OUT)                   \

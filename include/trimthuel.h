@@ -1,17 +1,19 @@
 /*
- * The pump's boundary for C and C++: numbers and byte buffers only. The rules, R1 to R94, are those of
+ * The pump's boundary for C and C++: numbers and byte buffers only. The rules, R1 to R98, are those of
  * docs/RULES.md.
  *
- * A table of lines stands in 153 bytes that the caller keeps, its image (R81). A card is a table and a
- * request as bytes (R52 to R55). A request is the need and the period of a new line, and a stretched
- * period for each slot; the entry of a slot that holds no running line is never looked at (R6).
+ * A table stands in 289 bytes that the caller keeps, its image (R81): the lines, and counts of what each
+ * has had (R95). A card is a table and a request as bytes (R52 to R55); it carries no count. A request is
+ * the need and the period of a new line, and a stretched period for each slot; the entry of a slot that
+ * holds no running line is never looked at (R6).
  *
  * Any bytes of any length may be handed in as an image or a card: what is broken is refused. Every call
  * answers a result, or a plain number where nothing can be refused. A refusal leaves every lent byte as
  * it was (R17), and bytes after what is written stay as they were.
  *
  * What a caller owes: each pointer is good for its length and not null, a length of 0 included; the
- * pointers to numbers of 16 bits are aligned for them; no buffer that is written overlaps another.
+ * pointers to numbers of 16 and of 64 bits are aligned for them; no buffer that is written overlaps
+ * another.
  *
  * The library is libhouse.a (`rt staticlib house`), for x86-64. It has no state of its own, allocates
  * nothing, and calls nothing but memcpy and its like: any thread and any interrupt handler may call it
@@ -30,16 +32,19 @@ extern "C" {
 #endif
 
 /* R93: of the boundary that this header declares. The library's own is trimthuel_version(). */
-#define TRIMTHUEL_VERSION 2
+#define TRIMTHUEL_VERSION 3
 
-/* R81: of the layout of an image, its first byte. */
-#define TRIMTHUEL_IMAGE_VERSION 1
+/* R81: of the layout of an image, its first byte. An image of version 1, which had no counts, is refused with 11 at 0. */
+#define TRIMTHUEL_IMAGE_VERSION 2
 
 /* R2: slots of a table. */
 #define TRIMTHUEL_SLOTS 16
 
 /* R81: bytes of an image. */
-#define TRIMTHUEL_TABLE_SIZE 153
+#define TRIMTHUEL_TABLE_SIZE 289
+
+/* R95: counts of a table: one for each slot, then the idle count. */
+#define TRIMTHUEL_COUNTS 17
 
 /* R6: numbers of a request: sixteen stretched periods, then need and period. */
 #define TRIMTHUEL_REQUEST_SIZE 18
@@ -72,7 +77,7 @@ static inline const char *trimthuel_why(uint64_t number)
         /*  1 */ "the clock is too late to ask",
         /*  2 */ "no slot is empty",
         /*  3 */ "a line still waits",
-        /*  4 */ "a line's numbers are unsound",
+        /*  4 */ "a line's numbers are unsound, or more ticks are counted than have gone by",
         /*  5 */ "a period would be shortened",
         /*  6 */ "the new line does not fit its period",
         /*  7 */ "the frame is above 1,000,000",
@@ -97,7 +102,7 @@ uint8_t trimthuel_lamp(uint64_t number);
 
 /* The pump. `table` is an image, and refusal 11 comes before any other (R83). */
 
-/* R85: writes the image of the empty table, with which a pump begins. The value is 153. Refuses with 13. */
+/* R85: writes the image of the empty table, with which a pump begins. The value is 289. Refuses with 13. */
 struct trimthuel_result trimthuel_empty(uint8_t *table, size_t table_len);
 
 /*
@@ -109,7 +114,7 @@ struct trimthuel_result trimthuel_ask(const uint8_t *table, size_t table_len, ui
 
 /*
  * R87: answers as trimthuel_ask does. Where it grants, the running lines have their stretched periods
- * and the new line its slot, where it runs or waits for its start.
+ * and the new line its slot, where it runs or waits for its start, and has had nothing yet.
  */
 struct trimthuel_result trimthuel_admit(uint8_t *table, size_t table_len, uint16_t need, uint16_t period,
                                         const uint16_t stretched[TRIMTHUEL_SLOTS]);
@@ -123,6 +128,14 @@ struct trimthuel_result trimthuel_step(uint8_t *table, size_t table_len);
 /* R89: the ready word (R49): bit k of the value is 1 where slot k is still owed ticks. Refuses with 11. */
 struct trimthuel_result trimthuel_ready(const uint8_t *table, size_t table_len);
 
+/*
+ * R98: what each line has had. counts[k] is the ticks that the line of slot k has had since it was admitted,
+ * and counts[TRIMTHUEL_SLOTS] those in which no line ran. The value is the clock: on a table that came from
+ * the empty one by these calls alone all counts add up to it (R79); on one that was read from a card they
+ * begin at 0. Refuses with 11 alone, and then writes none; what 4 would refuse is shown too.
+ */
+struct trimthuel_result trimthuel_counts(const uint8_t *table, size_t table_len, uint64_t counts[TRIMTHUEL_COUNTS]);
+
 /* Cards. `out` and `card` may be longer than what is written to their start. */
 
 /*
@@ -134,7 +147,7 @@ struct trimthuel_result trimthuel_write_card(const uint8_t *table, size_t table_
 
 /*
  * R92: reads a card into an image and a request: the sixteen stretched periods, then need and period. The
- * value is 153. Refuses with 11 at a byte offset of the card, then with 13 where `table` is too short.
+ * value is 289. Refuses with 11 at a byte offset of the card, then with 13 where `table` is too short.
  */
 struct trimthuel_result trimthuel_read_card(const uint8_t *card, size_t card_len, uint8_t *table, size_t table_len,
                                             uint16_t request[TRIMTHUEL_REQUEST_SIZE]);

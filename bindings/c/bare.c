@@ -51,11 +51,12 @@ static int is(struct trimthuel_result result, uint64_t number, uint64_t place, u
     return result.number == number && result.place == place && result.value == value;
 }
 
-/* A line with 1 tick in every 2 runs at once; one that wants the whole pump beside it is refused (R28). */
+/* A line with 1 tick in every 2 runs at once; one that wants the whole pump beside it is refused (R28). Both ticks are counted (R97). */
 static int pump_is_right(void)
 {
     static const uint16_t none[TRIMTHUEL_SLOTS] = {0}, kept[TRIMTHUEL_SLOTS] = {2};
     static uint8_t pump[TRIMTHUEL_TABLE_SIZE];
+    static uint64_t counts[TRIMTHUEL_COUNTS];
 
     return trimthuel_version() == TRIMTHUEL_VERSION && is(trimthuel_step(pump, sizeof pump), 11, 0, 0) &&
            is(trimthuel_empty(pump, sizeof pump), 0, 0, TRIMTHUEL_TABLE_SIZE) &&
@@ -63,7 +64,8 @@ static int pump_is_right(void)
            is(trimthuel_ask(pump, sizeof pump, 2, 2, kept), 8, 0, 0) &&
            is(trimthuel_ready(pump, sizeof pump), 0, 0, 1) &&
            is(trimthuel_step(pump, sizeof pump), 0, 0, 0) &&
-           is(trimthuel_step(pump, sizeof pump), 0, 0, TRIMTHUEL_NO_SLOT);
+           is(trimthuel_step(pump, sizeof pump), 0, 0, TRIMTHUEL_NO_SLOT) &&
+           is(trimthuel_counts(pump, sizeof pump, counts), 0, 0, 2) && counts[0] == 1 && counts[TRIMTHUEL_SLOTS] == 1;
 }
 
 /* Linux enters here with the stack as no caller leaves it, and is left by its call 60. */

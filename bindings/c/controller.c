@@ -2,7 +2,8 @@
  * controller: the main loop of a pump controller, without the pump.
  *
  * Two lines are admitted, and eight ticks later a bench, for which the first line's period is doubled (case A,
- * R67). Then it prints what the pump does in each of 56 ticks: the slot that it serves, or a dot for none.
+ * R67). Then it prints what the pump does in each of 56 ticks: the slot that it serves, or a dot for none; and
+ * what each line has had since it was admitted.
  */
 #include <inttypes.h>
 #include <stdio.h>
@@ -71,6 +72,24 @@ static uint64_t tick(void)
     return slot;
 }
 
+/* R98: shows what each line has had, and the ticks in which none ran; answers whether they add up to the clock. */
+static int show_counts(void)
+{
+    uint64_t counts[TRIMTHUEL_COUNTS];
+    uint64_t clock = granted("counts", trimthuel_counts(pump, sizeof pump, counts));
+    uint64_t left = clock;
+
+    printf("clock %" PRIu64, clock);
+    for (int slot = 0; slot < TRIMTHUEL_SLOTS; slot++) {
+        if (counts[slot] != 0)
+            printf(", slot %d had %" PRIu64, slot, counts[slot]);
+        left -= counts[slot];
+    }
+    printf(", idle %" PRIu64 "\n", counts[TRIMTHUEL_SLOTS]);
+    /* No step was refused with 4, so that they are not above the clock (R96), and nothing wraps here. */
+    return left == counts[TRIMTHUEL_SLOTS];
+}
+
 int main(void)
 {
     static const uint16_t none[TRIMTHUEL_SLOTS] = {0};
@@ -93,5 +112,10 @@ int main(void)
         putchar(slot == TRIMTHUEL_NO_SLOT ? '.' : "0123456789abcdef"[slot]);
     }
     putchar('\n');
+    /* R79: as they do on every table that came from the empty one. */
+    if (!show_counts()) {
+        fputs("the counts do not add up to the clock\n", stderr);
+        return EXIT_FAILURE;
+    }
     return fclose(stdout) == 0 ? EXIT_SUCCESS : EXIT_FAILURE;
 }

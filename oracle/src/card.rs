@@ -36,7 +36,7 @@ pub struct Parsed {
     pub turned: u16,
 }
 
-/// R56: what the reader hands out; beside a refusal nothing but zeros.
+/// R56: what the reader hands out; beside a refusal nothing but zeros, and no count in any case.
 #[derive(Clone, Copy, Debug, PartialEq, Eq)]
 pub struct Reading {
     pub refusal: Option<Refusal>,
@@ -245,9 +245,10 @@ mod tests {
     use super::*;
     use crate::cases::{self, CARD_A};
     use crate::draw;
+    use crate::draw_counts;
     use crate::orders;
     use crate::random::Random;
-    use crate::types::{Wait, LONGEST_CARD};
+    use crate::types::{Wait, LONGEST_CARD, NO_COUNTS};
 
     fn refusal(card: &[u8]) -> (u8, u64) {
         let reading = read(card);
@@ -408,7 +409,7 @@ mod tests {
     }
 
     #[test]
-    fn a_written_card_reads_back_with_zeros_in_empty_slots() {
+    fn a_written_card_reads_back_with_zeros_in_empty_slots_and_counts() {
         let mut random = Random::new(31);
         for round in 0..5_000 {
             let (mut table, mut request) = match round % 2 {
@@ -420,7 +421,9 @@ mod tests {
                     table.slots[slot] = Content::Nothing;
                 }
             }
+            draw_counts::any(&mut random, &mut table);
             let reading = read(&bytes(&table, &request));
+            table.counts = NO_COUNTS;
             for slot in 0..SLOTS {
                 if table.slots[slot] == Content::Nothing {
                     request.stretched[slot] = 0;

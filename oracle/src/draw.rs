@@ -1,8 +1,10 @@
-//! Tables and requests drawn from the generator, for tests, vectors and histories.
+//! Tables and requests drawn from the generator, for tests, vectors and histories. They have no counts: `draw_counts.rs` draws those.
 
 use crate::random::Random;
 use crate::rules;
-use crate::types::{Content, Request, Run, Table, Wait, EMPTY, LAST_ASK, LAST_TICK, SLOTS, ZEROS};
+use crate::types::{
+    Content, Request, Run, Table, Wait, EMPTY, LAST_ASK, LAST_TICK, NO_COUNTS, SLOTS, ZEROS,
+};
 
 /// Common multiples with many divisors; most tables take their periods from one of these.
 const BASES: [u64; 12] = [
@@ -74,15 +76,17 @@ fn lay(random: &mut Random, drawn: &[Run]) -> Table {
     table
 }
 
-/// Runs the table for some ticks, as the published task sets are run before the request.
+/// Runs the table for some ticks, as the published task sets are run before the request. What they count is left out: the
+/// clock is drawn after them, and a card carries no count.
 fn run_for(table: Table, ticks: u64) -> Table {
     let mut now = table;
     for _ in 0..ticks {
         match rules::step(&now) {
             Ok((next, _)) => now = next,
-            Err(_) => return now,
+            Err(_) => break,
         }
     }
+    now.counts = NO_COUNTS;
     now
 }
 
@@ -165,7 +169,7 @@ fn clock(random: &mut Random) -> u64 {
     match random.below(4) {
         0 => random.below(1_000),
         1 => LAST_ASK - random.below(3),
-        _ => (random.value() << 31 | random.value()) % (LAST_ASK + 1),
+        _ => random.wide(LAST_ASK + 1),
     }
 }
 

@@ -1,4 +1,4 @@
-//! Random histories over the C boundary (R63 to R66, R85 to R93), done by the project's library and by the rules side by
+//! Random histories over the C boundary (R63 to R66, R85 to R93, R98), done by the project's library and by the rules side by
 //! side. After every call both have told the same, and every byte and number that lies on their desks is the same. The
 //! first difference ends the comparison, and is shown as a short history in words.
 
@@ -8,6 +8,7 @@ mod drawn;
 #[cfg(feature = "house")]
 mod house;
 mod laid;
+mod met;
 mod operation;
 mod replay;
 mod requests;
@@ -42,7 +43,8 @@ fn compared(library: Doer, calls: u64, seed: u64, tally: &mut Tally) -> Option<S
     None
 }
 
-/// Compares at least so many calls; true when none differs and each refusal was met that is given at all.
+/// Compares at least so many calls; true when none differs, each refusal was met that is given at all, and so was all that the
+/// counts can meet.
 #[cfg(feature = "house")]
 pub fn compare(calls: u64, seed: u64) -> bool {
     let begun = std::time::Instant::now();
@@ -57,11 +59,14 @@ pub fn compare(calls: u64, seed: u64) -> bool {
     let (done, histories) = (tally.compared(), tally.histories);
     let seconds = begun.elapsed().as_secs_f64();
     println!("histories {histories} calls {done} no difference, seconds {seconds:.1}");
-    let amiss = tally.amiss();
+    let (amiss, unmet) = (tally.amiss(), tally.unmet());
     if !amiss.is_empty() {
         println!("refusals that were not met, or met though they are not given: {amiss:?}");
     }
-    amiss.is_empty()
+    if !unmet.is_empty() {
+        println!("what the counts did not meet: {unmet:?}");
+    }
+    amiss.is_empty() && unmet.is_empty()
 }
 
 /// A seed that no run had before.

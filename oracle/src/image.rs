@@ -1,18 +1,22 @@
 //! The image of a table (R81 to R84): judge, reader and writer.
 
 use crate::card;
-use crate::types::{Content, Refusal, Run, Table, Wait, EMPTY, SLOTS};
+use crate::types::{Content, Refusal, Run, Table, Wait, COUNTS, EMPTY, SLOTS};
 
 /// R81: bytes of every image.
-pub const LENGTH: usize = 153;
+pub const LENGTH: usize = 289;
 
 /// R81: the only version there is.
-const VERSION: u8 = 1;
+pub const VERSION: u8 = 2;
 
 /// R81: where the clock and slot 0 stand, and the bytes of a slot.
 pub const CLOCK: usize = 1;
 pub const FIRST_SLOT: usize = 9;
 pub const SLOT_LENGTH: usize = 9;
+
+/// R81: where the count of slot 0 stands, behind the last slot, and the bytes of a count.
+pub const FIRST_COUNT: usize = 153;
+pub const COUNT_LENGTH: usize = 8;
 
 /// R81: the kinds of a slot.
 const NOTHING: u8 = 0;
@@ -22,6 +26,11 @@ const WAITING: u8 = 2;
 /// R81: where slot k begins.
 pub fn slot_at(slot: usize) -> usize {
     FIRST_SLOT + SLOT_LENGTH * slot
+}
+
+/// R81: where the count of slot k begins; that of a seventeenth is the idle count.
+pub fn count_at(place: usize) -> usize {
+    FIRST_COUNT + COUNT_LENGTH * place
 }
 
 /// R81: whether a slot of this kind has a 0 at this of its bytes.
@@ -39,7 +48,7 @@ fn is_wrong(image: &[u8], offset: usize) -> bool {
     if offset == 0 {
         return byte != VERSION;
     }
-    if offset < FIRST_SLOT {
+    if !(FIRST_SLOT..FIRST_COUNT).contains(&offset) {
         return false;
     }
     let byte_of_slot = (offset - FIRST_SLOT) % SLOT_LENGTH;
@@ -62,10 +71,20 @@ fn number(image: &[u8], offset: usize) -> u16 {
     u16::from(image[offset]) + 256 * u16::from(image[offset + 1])
 }
 
-/// R81: the clock of an image that is long enough to have one, eight bytes, the lowest first.
+/// R81: a number of eight bytes, the lowest first.
+fn long_number(image: &[u8], offset: usize) -> u64 {
+    let bytes = image[offset..offset + 8].iter().rev();
+    bytes.fold(0, |number, byte| 256 * number + u64::from(*byte))
+}
+
+/// R81: the clock of an image that is long enough to have one.
 pub fn clock(image: &[u8]) -> u64 {
-    let bytes = image[CLOCK..FIRST_SLOT].iter().rev();
-    bytes.fold(0, |clock, byte| 256 * clock + u64::from(*byte))
+    long_number(image, CLOCK)
+}
+
+/// R81: a count of an image that is long enough to have it; the seventeenth is the idle count.
+pub fn count(image: &[u8], place: usize) -> u64 {
+    long_number(image, count_at(place))
 }
 
 /// R81: what a slot of an image that is long enough to have it holds; R83 has let no fourth kind through.
@@ -98,6 +117,9 @@ pub fn read(image: &[u8]) -> Result<Table, Refusal> {
     for slot in 0..SLOTS {
         table.slots[slot] = content(image, slot);
     }
+    for place in 0..COUNTS {
+        *table.counts.at_mut(place) = count(image, place);
+    }
     Ok(table)
 }
 
@@ -121,6 +143,7 @@ pub fn bytes(table: &Table) -> Vec<u8> {
     let mut image = vec![VERSION];
     image.extend(table.clock.to_le_bytes());
     image.extend(table.slots.iter().flat_map(slot_bytes));
+    image.extend(table.counts.all().iter().flat_map(|n| n.to_le_bytes()));
     image
 }
 
@@ -134,9 +157,10 @@ mod tests {
     use super::*;
     use crate::cases;
     use crate::draw;
+    use crate::draw_counts;
     use crate::random::Random;
 
-    /// Slots of each kind, and no byte of their numbers is 0.
+    /// Slots of each kind, and no byte of their numbers and of the counts is 0 or, among the counts, like another.
     fn three_kinds() -> Table {
         let run = Content::Running(Run {
             need: 0x0201,
@@ -153,6 +177,10 @@ mod tests {
         table.clock = 0x1817_1615_1413_1211;
         (table.slots[0], table.slots[2]) = (run, wait);
         (table.slots[14], table.slots[15]) = (wait, run);
+        for place in 0..COUNTS {
+            let above = 0x0808_0808_0808_0808 * place as u64;
+            *table.counts.at_mut(place) = 0x2726_2524_2322_2120 + above;
+        }
         table
     }
 
@@ -171,7 +199,7 @@ mod tests {
     #[test]
     fn the_layout_byte_by_byte() {
         let mut wanted = vec![
-            1, 0x11, 0x12, 0x13, 0x14, 0x15, 0x16, 0x17, 0x18, // version, clock
+            2, 0x11, 0x12, 0x13, 0x14, 0x15, 0x16, 0x17, 0x18, // version, clock
             1, 1, 2, 3, 4, 5, 6, 7, 8, // slot 0 runs
             0, 0, 0, 0, 0, 0, 0, 0, 0, // slot 1
             2, 9, 10, 11, 12, 13, 14, 0, 0, // slot 2 waits
@@ -179,24 +207,37 @@ mod tests {
         wanted.extend([0; 11 * 9]);
         wanted.extend([2, 9, 10, 11, 12, 13, 14, 0, 0]);
         wanted.extend([1, 1, 2, 3, 4, 5, 6, 7, 8]);
-        assert_eq!(bytes(&three_kinds()), wanted);
         assert_eq!(wanted.len(), 153);
+        wanted.extend(0x20..0x20 + 17 * 8);
+        assert_eq!(bytes(&three_kinds()), wanted);
+        assert_eq!(wanted.len(), 289);
         assert_eq!(read(&wanted), Ok(three_kinds()));
     }
 
     #[test]
     fn the_empty_table() {
-        let mut wanted = [0; 153];
-        wanted[0] = 1;
+        let mut wanted = [0; 289];
+        wanted[0] = 2;
         assert_eq!(bytes(&EMPTY), wanted);
         assert_eq!(read(&wanted), Ok(EMPTY));
     }
 
     #[test]
-    fn version_1_alone() {
+    fn the_idle_count_stands_last() {
+        let mut idle = EMPTY;
+        idle.counts.idle = u64::MAX;
+        assert_eq!(bytes(&idle)[281..], [255; 8]);
+        assert_eq!(bytes(&idle)[..281], bytes(&EMPTY)[..281]);
+        let mut last = EMPTY;
+        last.counts.had[15] = u64::MAX;
+        assert_eq!(bytes(&last)[273..], [&[255; 8][..], &[0; 8]].concat());
+    }
+
+    #[test]
+    fn version_2_alone() {
         let image = bytes(&three_kinds());
         for version in 0..=255 {
-            let wanted = (version != 1).then_some(0);
+            let wanted = (version != 2).then_some(0);
             assert_eq!(refused(&with(&image, 0, version)), wanted, "{version}");
         }
     }
@@ -241,15 +282,15 @@ mod tests {
         long.extend([0; 20]);
         for length in 0..long.len() {
             let wanted = match length {
-                153 => None,
-                0..=152 => Some(length),
-                _ => Some(153),
+                289 => None,
+                0..=288 => Some(length),
+                _ => Some(289),
             };
             assert_eq!(refused(&long[..length]), wanted, "{length}");
         }
         // The length is wrong at its own offset, whatever the last byte that is there belongs to.
-        for length in [0, 1, 8, 9, 152, 154] {
-            assert_eq!(refused(&long[..length]), Some(length.min(153)));
+        for length in [0, 1, 8, 9, 152, 153, 281, 288, 290] {
+            assert_eq!(refused(&long[..length]), Some(length.min(289)));
         }
     }
 
@@ -260,7 +301,7 @@ mod tests {
         // The kinds of slots 0, 5 and 15, two blank bytes, and the version.
         for offset in [0, 9, 18 + 1, 27 + 7, 27 + 8, 54, 144] {
             let broken = with(&long, offset, 3);
-            for length in 0..=154 {
+            for length in 0..=290 {
                 let wanted = offset.min(length);
                 assert_eq!(
                     refused(&broken[..length]),
@@ -284,30 +325,31 @@ mod tests {
     }
 
     #[test]
-    fn a_buffer_of_153_bytes_against_152() {
+    fn a_buffer_of_289_bytes_against_288() {
         let table = three_kinds();
-        let mut buffer = [7; 160];
-        let short = write(&table, &mut buffer[..152]);
-        assert_eq!((short, buffer), (Err(Refusal::at(13, 0)), [7; 160]));
+        let mut buffer = [7; 296];
+        let short = write(&table, &mut buffer[..288]);
+        assert_eq!((short, buffer), (Err(Refusal::at(13, 0)), [7; 296]));
         assert_eq!(write(&table, &mut []), Err(Refusal::at(13, 0)));
-        assert_eq!(write(&table, &mut buffer[..153]), Ok(153));
+        assert_eq!(write(&table, &mut buffer[..289]), Ok(289));
         assert_eq!(
-            (&buffer[..153], &buffer[153..]),
+            (&buffer[..289], &buffer[289..]),
             (&bytes(&table)[..], &[7; 7][..])
         );
-        buffer = [8; 160];
-        assert_eq!(write(&table, &mut buffer), Ok(153));
-        assert_eq!(&buffer[153..], [8; 7]);
+        buffer = [8; 296];
+        assert_eq!(write(&table, &mut buffer), Ok(289));
+        assert_eq!(&buffer[289..], [8; 7]);
     }
 
     #[test]
     fn an_image_reads_back_as_its_table() {
         let mut random = Random::new(41);
         for round in 0..5_000 {
-            let (table, _) = match round % 2 {
+            let (mut table, _) = match round % 2 {
                 0 => draw::any(&mut random),
                 _ => draw::damaged(&mut random),
             };
+            draw_counts::any(&mut random, &mut table);
             assert_eq!(read(&bytes(&table)), Ok(table));
         }
         for case in cases::all() {
@@ -335,7 +377,8 @@ mod tests {
                     reading += usize::from(reads);
                 }
             }
-            assert!((2_000..39_168).contains(&reading), "{reading}");
+            // R83: each byte of the counts may be any.
+            assert!((34_816 + 2_000..73_984).contains(&reading), "{reading}");
         }
     }
 
@@ -346,8 +389,9 @@ mod tests {
         for _ in 0..5_000 {
             let mut image = bytes(&draw::any(&mut random).0);
             for _ in 0..1 + random.below(3) {
-                let offset = random.below(153) as usize;
-                image[offset] = random.below(if offset % 9 == 0 { 4 } else { 256 }) as u8;
+                let offset = random.below(289) as usize;
+                let kind = offset < 153 && offset % 9 == 0;
+                image[offset] = random.below(if kind { 4 } else { 256 }) as u8;
             }
             reading += usize::from(written_back_if_it_reads(&image));
         }

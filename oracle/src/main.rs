@@ -7,7 +7,11 @@ mod card;
 mod cases;
 mod digest;
 mod draw;
+#[cfg(any(test, feature = "house"))]
+mod draw_counts;
 mod edge_cards;
+#[cfg(test)]
+mod edge_counts;
 mod edges;
 mod esit;
 #[cfg(any(test, feature = "house"))]
@@ -18,6 +22,8 @@ mod orders;
 mod published;
 mod random;
 mod rules;
+#[cfg(test)]
+mod runs;
 mod samples;
 #[cfg(any(test, feature = "house"))]
 mod slow;

@@ -27,6 +27,11 @@ impl Random {
         self.value() % n.max(1)
     }
 
+    /// A number less than n of two draws, the first of them its upper bits; for n up to 2^62.
+    pub fn wide(&mut self, n: u64) -> u64 {
+        (self.value() << 31 | self.value()) % n.max(1)
+    }
+
     /// A sixteen-bit number less than n, for n up to 65,536.
     pub fn small(&mut self, n: u64) -> u16 {
         (self.below(n) & 0xFFFF) as u16

@@ -1,5 +1,5 @@
-//! The rules of docs/RULES.md: refusals 1 to 10 in their order (R18), ask, admit, step, lamp, ready
-//! word.
+//! The rules of docs/RULES.md: refusals 1 to 10 in their order (R18), ask, admit, step, what is counted
+//! (R97), lamp, ready word.
 //!
 //! Nothing here computes a start by a formula. The excess is summed from its definition for one
 //! tick after the other, and the starts are tried one after the other. Times are counted from
@@ -29,7 +29,7 @@
 //! fits sixteen bits as T' − a does.
 
 use crate::types::{
-    Content, Refusal, Request, Run, Table, Wait, FRAME_LIMIT, LAST_ASK, LAST_TICK, SLOTS,
+    Content, Counts, Refusal, Request, Run, Table, Wait, FRAME_LIMIT, LAST_ASK, LAST_TICK, SLOTS,
 };
 
 /// A running line under a request: the line with its T'.
@@ -175,7 +175,13 @@ pub fn last_end_of(table: &Table, request: &Request) -> u64 {
     table.clock.saturating_add(end)
 }
 
-/// R21 to R26, which look at one number or one slot at a time; R19: the lowest slot is the place.
+/// R24: the place of a line that is not sound, or, where every line is, 0 for too many ticks counted (R96).
+fn fault(table: &Table) -> Option<usize> {
+    let overcounted = table.is_overcounted().then_some(0);
+    table.lowest_unsound().or(overcounted)
+}
+
+/// R21 to R26, which need no frame; R19: the lowest slot is the place.
 fn refuse_plain(table: &Table, request: &Request, lines: &[Stretched]) -> Result<(), Refusal> {
     let refuse = |number, place| Err(Refusal::at(number, place));
     if table.clock > LAST_ASK {
@@ -187,8 +193,8 @@ fn refuse_plain(table: &Table, request: &Request, lines: &[Stretched]) -> Result
     if let Some(slot) = table.lowest(Content::is_waiting) {
         return refuse(3, slot);
     }
-    if let Some(slot) = table.lowest(|content| !content.is_sound()) {
-        return refuse(4, slot);
+    if let Some(place) = fault(table) {
+        return refuse(4, place);
     }
     if let Some(line) = lines.iter().find(|l| l.stretched < l.run.period) {
         return refuse(5, line.slot);
@@ -262,8 +268,8 @@ pub fn admit(table: &Table, request: &Request) -> Result<(u64, Table), Refusal> 
     Ok((start, admitted(table, request, start)))
 }
 
-/// R42, R43: periods stretched, ages and remainings kept, the new line in the lowest empty slot. Also
-/// used for starts that are only tried.
+/// R42, R43: periods stretched, ages and remainings kept, the new line in the lowest empty slot, which has
+/// had nothing yet. Also used for starts that are only tried.
 pub fn admitted(table: &Table, request: &Request, start: u64) -> Table {
     let mut next = *table;
     for slot in 0..SLOTS {
@@ -273,6 +279,7 @@ pub fn admitted(table: &Table, request: &Request, start: u64) -> Table {
     }
     if let Some(slot) = table.lowest_empty() {
         next.slots[slot] = new_line(request, start - table.clock);
+        next.counts.had[slot] = 0;
     }
     next
 }
@@ -298,14 +305,14 @@ fn begin(need: u16, period: u16) -> Content {
     })
 }
 
-/// R48: the clock is tested first, then the lines, then the ends of periods. The next table and the
-/// slot that ran, or none.
+/// R48: the clock is tested first, then the lines and the counts, then the ends of periods. The next table
+/// and the slot that ran, or none.
 pub fn step(table: &Table) -> Result<(Table, Option<usize>), Refusal> {
     if table.clock >= LAST_TICK {
         return Err(Refusal::at(15, 0));
     }
-    if let Some(slot) = table.lowest(|content| !content.is_sound()) {
-        return Err(Refusal::at(4, slot));
+    if let Some(place) = fault(table) {
+        return Err(Refusal::at(4, place));
     }
     let ran = chosen(table);
     let mut next = *table;
@@ -316,7 +323,17 @@ pub fn step(table: &Table) -> Result<(Table, Option<usize>), Refusal> {
         *content = older(*content).ok_or(Refusal::at(14, slot))?;
     }
     next.clock += 1;
+    count(&mut next.counts, ran);
     Ok((next, ran))
+}
+
+/// R97: a tick of the slot that ran, or of none. R96 has let through no more counts than the clock, which is below R7's last tick: no
+/// count is near its end.
+fn count(counts: &mut Counts, ran: Option<usize>) {
+    match ran {
+        Some(slot) => counts.had[slot] += 1,
+        None => counts.idle += 1,
+    }
 }
 
 /// R44: of the lines that are owed ticks the one whose period ends first, the lower slot among equals.
@@ -371,6 +388,7 @@ mod tests {
     use super::*;
     use crate::cases;
     use crate::draw;
+    use crate::draw_counts;
     use crate::edges;
     use crate::random::Random;
     use crate::types::EMPTY;
@@ -465,7 +483,12 @@ mod tests {
     fn any_numbers_are_taken() {
         let mut random = Random::new(14);
         for _ in 0..20_000 {
-            let (table, request) = draw::any(&mut random);
+            let (mut table, request) = draw::any(&mut random);
+            match random.below(3) {
+                0 => draw_counts::any(&mut random, &mut table),
+                1 => draw_counts::too_many(&mut random, &mut table),
+                _ => draw_counts::fitting(&mut random, &mut table),
+            }
             let asked = ask(&table, &request);
             assert_eq!(admit(&table, &request).map(|(start, _)| start), asked);
             let _ = step(&table);

@@ -41,7 +41,7 @@ fn put(folder: &Path, name: &str, bytes: &[u8]) -> io::Result<()> {
         .map_err(|error| io::Error::other(format!("{}: {error}", path.display())))
 }
 
-/// Writes all files below a folder; the counts of the vectors go to standard error.
+/// Writes all files below a folder; how often the vectors reach each answer goes to standard error.
 pub fn write(folder: &Path) -> io::Result<()> {
     check_stated()?;
     let (input, output) = vectors::set()?;

@@ -1,9 +1,13 @@
-//! Tables, lines, requests and refusals (R2 to R8, R17) as types of this program's own.
+//! Tables, lines, counts, requests and refusals (R2 to R8, R17, R95) as types of this program's own.
 
 use std::fmt;
 
 /// R2: slots of a table.
 pub const SLOTS: usize = 16;
+
+/// R95: counts of a table: one for each slot, and the idle count.
+#[cfg(any(test, feature = "house"))]
+pub const COUNTS: usize = SLOTS + 1;
 
 /// R7: where the clock stops.
 pub const LAST_TICK: u64 = 1 << 48;
@@ -42,17 +46,32 @@ pub enum Content {
     Waiting(Wait),
 }
 
-/// R2: a clock and 16 slots.
+/// R95: the ticks that the present line of each slot has had since it was admitted, and those in which no line ran.
+#[derive(Clone, Copy, Debug, PartialEq, Eq)]
+pub struct Counts {
+    pub had: [u64; SLOTS],
+    pub idle: u64,
+}
+
+/// R4, R56: nothing is counted yet.
+pub const NO_COUNTS: Counts = Counts {
+    had: [0; SLOTS],
+    idle: 0,
+};
+
+/// R2: a clock, 16 slots and their counts.
 #[derive(Clone, Copy, Debug, PartialEq, Eq)]
 pub struct Table {
     pub clock: u64,
     pub slots: [Content; SLOTS],
+    pub counts: Counts,
 }
 
 /// R4: where every run begins.
 pub const EMPTY: Table = Table {
     clock: 0,
     slots: [Content::Nothing; SLOTS],
+    counts: NO_COUNTS,
 };
 
 /// R6: T' slot by slot, then Cn and Tn.
@@ -127,6 +146,28 @@ impl Content {
     }
 }
 
+impl Counts {
+    /// R96: all of them together, exact: seventeen numbers of 64 bits are far from the end of 128.
+    pub fn sum(&self) -> u128 {
+        let had: u128 = self.had.iter().map(|ticks| u128::from(*ticks)).sum();
+        had + u128::from(self.idle)
+    }
+
+    /// R81, R98: in their order, slot 0 first and the idle count last.
+    #[cfg(any(test, feature = "house"))]
+    pub fn all(&self) -> [u64; COUNTS] {
+        let mut all = [self.idle; COUNTS];
+        all[..SLOTS].copy_from_slice(&self.had);
+        all
+    }
+
+    /// One of them by its place in that order, to be changed.
+    #[cfg(any(test, feature = "house"))]
+    pub fn at_mut(&mut self, place: usize) -> &mut u64 {
+        self.had.get_mut(place).unwrap_or(&mut self.idle)
+    }
+}
+
 impl Table {
     /// The running lines with their slots, from slot 0 up.
     pub fn running(&self) -> impl Iterator<Item = (usize, &Run)> {
@@ -151,6 +192,35 @@ impl Table {
     /// The lowest slot whose content answers yes.
     pub fn lowest(&self, question: impl Fn(&Content) -> bool) -> Option<usize> {
         self.slots.iter().position(question)
+    }
+
+    /// R5, R24: the lowest slot whose line is not sound.
+    pub fn lowest_unsound(&self) -> Option<usize> {
+        self.lowest(|content| !content.is_sound())
+    }
+
+    /// R96: more ticks are counted than have gone by.
+    pub fn is_overcounted(&self) -> bool {
+        self.counts.sum() > u128::from(self.clock)
+    }
+
+    /// The same with nothing counted.
+    #[cfg(any(test, feature = "house"))]
+    pub fn uncounted(&self) -> Table {
+        Table {
+            counts: NO_COUNTS,
+            ..*self
+        }
+    }
+
+    /// The same with nothing counted beside slots that hold nothing.
+    #[cfg(any(test, feature = "house"))]
+    pub fn counted_where_used(&self) -> Table {
+        let mut used = *self;
+        for (ticks, content) in used.counts.had.iter_mut().zip(&self.slots) {
+            *ticks *= u64::from(*content != Content::Nothing);
+        }
+        used
     }
 
     /// The lowest slot that holds nothing.

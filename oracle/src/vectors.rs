@@ -171,13 +171,13 @@ fn cards() -> Vec<Vec<u8>> {
 
 /// How often each answer stands in the set.
 #[derive(Default)]
-struct Counts {
+struct Reached {
     refused: [u64; 16],
     starts: u64,
     later: u64,
 }
 
-impl Counts {
+impl Reached {
     fn add(&mut self, bytes: &[u8], answer: Result<u64, Refusal>) {
         match answer {
             Err(refusal) => self.refused[usize::from(refusal.number)] += 1,
@@ -194,29 +194,29 @@ impl Counts {
             "starts {} of them later than the clock {}",
             self.starts, self.later
         );
-        let reached = (1..16).filter(|number| self.refused[*number] > 0);
-        let pairs: Vec<String> = reached
+        let numbers = (1..16).filter(|number| self.refused[*number] > 0);
+        let pairs: Vec<String> = numbers
             .map(|number| format!("{number}:{}", self.refused[number]))
             .collect();
         eprintln!("refused {}", pairs.join(" "));
     }
 }
 
-/// The set as bytes of standard input and its lines; the counts go to standard error.
+/// The set as bytes of standard input and its lines; how often each answer is reached goes to standard error.
 pub fn set() -> io::Result<(Vec<u8>, String)> {
     let cards = cards();
     let (mut input, mut output) = (Vec::new(), String::new());
-    let mut counts = Counts::default();
+    let mut reached = Reached::default();
     for bytes in &cards {
         let length = u16::try_from(bytes.len()).map_err(io::Error::other)?;
         input.extend(length.to_le_bytes());
         input.extend(bytes);
         let answer = card::judge(bytes);
-        counts.add(bytes, answer);
+        reached.add(bytes, answer);
         output.push_str(&card::line(answer));
     }
     input.extend(END.to_le_bytes());
-    counts.report(cards.len(), input.len(), output.len());
+    reached.report(cards.len(), input.len(), output.len());
     Ok((input, output))
 }
 

@@ -122,9 +122,10 @@ pub(crate) fn tested(pump: &Pump, request: &Request) -> Result<Lines, (u16, u64)
         return Err((2, 0));
     }
     let shrunk = |i: usize, h: Held| matches!(h, Held::Running { period, .. } if request.stretched[i] < period);
+    let unsound = || lowest(pump, |_, h| !h.sound());
     let found = [
         (3, lowest(pump, |_, h| matches!(h, Held::Waiting { .. }))),
-        (4, lowest(pump, |_, h| !h.sound())),
+        (4, unsound().or_else(|| pump.overcounted().then_some(0))),
         (5, lowest(pump, shrunk)),
     ];
     if let Some((number, Some(place))) = found.into_iter().find(|(_, k)| k.is_some()) {

@@ -20,10 +20,7 @@ pub fn read(card: &[u8]) -> Result<(Pump, Request, u16), (u16, u64)> {
     if !card.starts_with(b"CK") {
         return Err((11, 0));
     }
-    let mut pump = Pump {
-        clock: u64::from_le_bytes(clock),
-        slots: [Held::Nothing; SLOTS],
-    };
+    let mut pump = Pump::new(u64::from_le_bytes(clock));
     let mut request = Request {
         stretched: [0; SLOTS],
         need: 0,

@@ -1,11 +1,17 @@
 //! The image of a table, read (R83), stepped (R88), looked at (R89) and written (R84).
 
-use crate::pump::{Held, Pump, SLOTS};
+use crate::pump::{Held, Pump};
 
-/// R81: bytes of an image, of a slot, and where slot 0 stands.
-const LENGTH: usize = 153;
+/// R81: bytes of an image, of a slot and of a count, and where slot 0, its count and the idle count stand.
+const LENGTH: usize = 289;
 const SLOT: usize = 9;
+const COUNT: usize = 8;
 const FIRST: usize = 9;
+const HAD: usize = 153;
+const IDLE: usize = 281;
+
+/// R81: the version.
+const VERSION: u8 = 2;
 
 /// R81: what the nine bytes of a slot hold, or the first of them that is wrong.
 #[inline]
@@ -33,32 +39,42 @@ fn held(slot: &[u8]) -> Result<Held, usize> {
     }
 }
 
-/// R83: the refusal of bytes whose length is not 153. With zeros for what is missing, nothing is wrong behind what is there.
+/// R83: the refusal of bytes whose length is not 289. With zeros for what is missing, nothing is wrong behind what is there.
 #[cold]
 fn wrong_length(image: &[u8]) -> (u16, u64) {
     let there = image.len().min(LENGTH);
     let mut whole = [0; LENGTH];
-    whole[0] = 1;
+    whole[0] = VERSION;
     whole[..there].copy_from_slice(&image[..there]);
-    read_whole(&whole).err().unwrap_or((11, there as u64))
+    let wrong = read_whole(&whole, &mut Pump::new(0)).err();
+    wrong.unwrap_or((11, there as u64))
 }
 
+/// R81: the number in eight bytes.
 #[inline]
-fn read_whole(image: &[u8; LENGTH]) -> Result<Pump, (u16, u64)> {
-    if image[0] != 1 {
+fn eight(bytes: &[u8]) -> u64 {
+    let mut number = [0; 8];
+    number.copy_from_slice(bytes);
+    u64::from_le_bytes(number)
+}
+
+/// Fills the table where it stands: handed out by value it is copied twice.
+#[inline]
+fn read_whole(image: &[u8; LENGTH], pump: &mut Pump) -> Result<(), (u16, u64)> {
+    if image[0] != VERSION {
         return Err((11, 0));
     }
-    let mut clock = [0; 8];
-    clock.copy_from_slice(&image[1..FIRST]);
-    let mut pump = Pump {
-        clock: u64::from_le_bytes(clock),
-        slots: [Held::Nothing; SLOTS],
-    };
-    let slots = image[FIRST..].chunks_exact(SLOT);
+    pump.clock = eight(&image[1..FIRST]);
+    let slots = image[FIRST..HAD].chunks_exact(SLOT);
     for (k, (place, slot)) in pump.slots.iter_mut().zip(slots).enumerate() {
         *place = held(slot).map_err(|at| (11, (FIRST + SLOT * k + at) as u64))?;
     }
-    Ok(pump)
+    let had = image[HAD..IDLE].chunks_exact(COUNT);
+    for (place, count) in pump.had.iter_mut().zip(had) {
+        *place = eight(count);
+    }
+    pump.idle = eight(&image[IDLE..]);
+    Ok(())
 }
 
 /// R84: the table of an image.
@@ -66,9 +82,9 @@ fn read_whole(image: &[u8; LENGTH]) -> Result<Pump, (u16, u64)> {
 /// # Errors
 /// R31, 11 with the byte offset.
 #[inline]
-fn read_image(image: &[u8]) -> Result<Pump, (u16, u64)> {
+fn read_image(image: &[u8], pump: &mut Pump) -> Result<(), (u16, u64)> {
     match image.try_into() {
-        Ok(whole) => read_whole(whole),
+        Ok(whole) => read_whole(whole, pump),
         Err(_) => Err(wrong_length(image)),
     }
 }
@@ -76,9 +92,14 @@ fn read_image(image: &[u8]) -> Result<Pump, (u16, u64)> {
 /// R84: writes the image.
 #[inline]
 fn write_image(pump: &Pump, image: &mut [u8; LENGTH]) {
-    image[0] = 1;
+    image[0] = VERSION;
     image[1..FIRST].copy_from_slice(&pump.clock.to_le_bytes());
-    let slots = image[FIRST..].chunks_exact_mut(SLOT);
+    let had = image[HAD..IDLE].chunks_exact_mut(COUNT);
+    for (count, place) in pump.had.iter().zip(had) {
+        place.copy_from_slice(&count.to_le_bytes());
+    }
+    image[IDLE..].copy_from_slice(&pump.idle.to_le_bytes());
+    let slots = image[FIRST..HAD].chunks_exact_mut(SLOT);
     for (held, slot) in pump.slots.iter().zip(slots) {
         let (kind, numbers) = match *held {
             Held::Nothing => (0, [0; 4]),
@@ -103,7 +124,8 @@ fn write_image(pump: &Pump, image: &mut [u8; LENGTH]) {
 /// R31, R35, R24 and R34, in that order; then no byte is written.
 #[inline]
 pub fn step_image(image: &mut [u8]) -> Result<Option<usize>, (u16, u64)> {
-    let mut pump = read_image(image)?;
+    let mut pump = Pump::new(0);
+    read_image(image, &mut pump)?;
     let ran = pump.step()?;
     if let Ok(whole) = image.try_into() {
         write_image(&pump, whole);
@@ -117,7 +139,8 @@ pub fn step_image(image: &mut [u8]) -> Result<Option<usize>, (u16, u64)> {
 /// R31, 11 with the byte offset.
 #[inline]
 pub fn ready_image(image: &[u8]) -> Result<u16, (u16, u64)> {
-    let pump = read_image(image)?;
+    let mut pump = Pump::new(0);
+    read_image(image, &mut pump)?;
     let owed = |held: &Held| matches!(held, Held::Running { remaining, .. } if *remaining > 0);
     let bits = pump.slots.iter().enumerate();
     Ok(bits.fold(0, |word, (k, held)| word | u16::from(owed(held)) << k))
@@ -127,12 +150,12 @@ pub fn ready_image(image: &[u8]) -> Result<u16, (u16, u64)> {
 mod tests {
     use super::*;
 
-    /// A line that runs in slot 0, one that waits in slot 15.
+    /// A line that runs in slot 0, one that waits in slot 15, and at tick 3 a tick of slot 0's line and two idle ones.
     fn image() -> [u8; LENGTH] {
         let mut image = [0; LENGTH];
-        image[0] = 1;
+        (image[0], image[1], image[153], image[281]) = (2, 3, 1, 2);
         image[9..18].copy_from_slice(&[1, 2, 0, 4, 0, 1, 0, 2, 0]);
-        image[144..].copy_from_slice(&[2, 1, 0, 4, 0, 1, 0, 0, 0]);
+        image[144..153].copy_from_slice(&[2, 1, 0, 4, 0, 1, 0, 0, 0]);
         image
     }
 
@@ -142,17 +165,31 @@ mod tests {
         assert_eq!(ready_image(&stepped), Ok(1));
         assert_eq!(step_image(&mut stepped), Ok(Some(0)));
         let mut wanted = image();
-        wanted[1] = 1;
+        (wanted[1], wanted[153]) = (4, 2);
         wanted[9..18].copy_from_slice(&[1, 2, 0, 4, 0, 2, 0, 1, 0]);
-        wanted[144..].copy_from_slice(&[1, 1, 0, 4, 0, 0, 0, 1, 0]);
+        wanted[144..153].copy_from_slice(&[1, 1, 0, 4, 0, 0, 0, 1, 0]);
         assert_eq!(stepped, wanted);
         assert_eq!(ready_image(&stepped), Ok(0x8001));
     }
 
     #[test]
+    fn counts_of_any_place() {
+        for place in 0..17 {
+            let mut counted = image();
+            counted[1..9].fill(0);
+            counted[153..].fill(0);
+            // R96: 255 × 256^6 is above the clock of 0; the ready word is told all the same.
+            counted[153 + 8 * place + 6] = 255;
+            assert_eq!(step_image(&mut counted), Err((4, 0)));
+            assert_eq!(ready_image(&counted), Ok(1));
+        }
+    }
+
+    #[test]
     fn the_first_fault() {
         for (offset, byte) in [
-            (0, 2),
+            (0, 1),
+            (0, 3),
             (18, 3),
             (19, 1),
             (26, 9),
@@ -163,12 +200,12 @@ mod tests {
             let mut broken = image().to_vec();
             broken[offset] = byte;
             broken.push(0);
-            for length in 0..=154 {
+            for length in 0..=290 {
                 let wanted = Err((11, offset.min(length) as u64));
                 assert_eq!(step_image(&mut broken[..length]), wanted);
             }
         }
-        assert_eq!(ready_image(&image()[..152]), Err((11, 152)));
-        assert_eq!(ready_image(&[&image()[..], &[0]].concat()), Err((11, 153)));
+        assert_eq!(ready_image(&image()[..288]), Err((11, 288)));
+        assert_eq!(ready_image(&[&image()[..], &[0]].concat()), Err((11, 289)));
     }
 }

@@ -1,4 +1,4 @@
-//! The table (R2 to R6) and its step (R44 to R48), in place.
+//! The table (R2 to R6, R95) and its step (R44 to R48, R97), in place.
 
 /// R2: slots of a table.
 pub const SLOTS: usize = 16;
@@ -20,11 +20,13 @@ pub enum Held {
     },
 }
 
-/// R2: the table.
+/// R2: the table; R95: what the present line of each slot has had, and the ticks in which none ran.
 #[derive(Clone, Copy, Debug, PartialEq, Eq)]
 pub struct Pump {
     pub clock: u64,
     pub slots: [Held; SLOTS],
+    pub had: [u64; SLOTS],
+    pub idle: u64,
 }
 
 /// R6: the request.
@@ -99,6 +101,33 @@ impl Held {
 }
 
 impl Pump {
+    /// R4, R56: a table of this clock, with nothing in any slot and nothing counted.
+    #[inline]
+    pub(crate) fn new(clock: u64) -> Pump {
+        Pump {
+            clock,
+            slots: [Held::Nothing; SLOTS],
+            had: [0; SLOTS],
+            idle: 0,
+        }
+    }
+
+    /// R96: the counts add up to more than the clock. Where none reaches 2^59 seventeen of them stay within 64 bits.
+    #[inline]
+    pub(crate) fn overcounted(&self) -> bool {
+        let bits = self.had.iter().fold(self.idle, |bits, n| bits | n);
+        if bits >= 1 << 59 {
+            return self.wide_sum() > u128::from(self.clock);
+        }
+        self.had.iter().sum::<u64>() + self.idle > self.clock
+    }
+
+    #[cold]
+    fn wide_sum(&self) -> u128 {
+        let had: u128 = self.had.iter().map(|n| u128::from(*n)).sum();
+        had + u128::from(self.idle)
+    }
+
     /// R48: one tick; the slot that ran or none, or the refusal's number and place, with the table as it was.
     ///
     /// # Errors
@@ -114,6 +143,9 @@ impl Pump {
                 return Err((4, i as u64));
             }
             best = best.min((held.key(), i));
+        }
+        if self.overcounted() {
+            return Err((4, 0));
         }
         let ran = (best.0 < u32::MAX).then_some(best.1);
         for (i, held) in self.slots.iter().enumerate() {
@@ -136,6 +168,76 @@ impl Pump {
             *held = held.passed();
         }
         self.clock += 1;
+        match ran {
+            Some(i) => self.had[i] += 1,
+            None => self.idle += 1,
+        }
         Ok(ran)
+    }
+}
+
+#[cfg(test)]
+mod tests {
+    use super::*;
+
+    /// A line that owes nothing in slot 2, at tick 10.
+    fn counted(had: &[(usize, u64)], idle: u64) -> Pump {
+        let mut pump = Pump::new(10);
+        pump.slots[2] = Held::Running {
+            need: 1,
+            period: 4,
+            age: 0,
+            remaining: 0,
+        };
+        had.iter()
+            .for_each(|(slot, ticks)| pump.had[*slot] = *ticks);
+        pump.idle = idle;
+        pump
+    }
+
+    #[test]
+    fn counts_up_to_the_clock() {
+        for (had, idle) in [(&[(2, 4)][..], 6), (&[], 10), (&[(15, 10)], 0), (&[], 0)] {
+            let mut pump = counted(had, idle);
+            assert_eq!(pump.step(), Ok(None));
+            assert_eq!((pump.clock, pump.idle), (11, idle + 1));
+        }
+    }
+
+    #[test]
+    fn counts_above_the_clock() {
+        let sixteen: Vec<(usize, u64)> = (0..SLOTS).map(|slot| (slot, 1 << 60)).collect();
+        let below: Vec<(usize, u64)> = (0..SLOTS).map(|slot| (slot, (1 << 59) - 1)).collect();
+        for (had, idle) in [
+            (&[(2, 4)][..], 7),
+            (&[], 11),
+            (&[(15, 11)], 0),
+            (&[(0, 1 << 63), (1, 1 << 63)], 0),
+            (&[(3, u64::MAX)], 1),
+            (&sixteen, 0),
+            (&below, (1 << 59) - 1),
+        ] {
+            let before = counted(had, idle);
+            let mut pump = before;
+            assert_eq!(pump.step(), Err((4, 0)));
+            pump.slots[2] = Held::Waiting {
+                need: 1,
+                period: 4,
+                wait: 0,
+            };
+            // R24: the line before the counts.
+            assert_eq!(pump.step(), Err((4, 2)));
+            assert_eq!((pump.had, pump.idle), (before.had, before.idle));
+        }
+    }
+
+    #[test]
+    fn a_tick_is_counted() {
+        let mut pump = counted(&[(2, 4)], 5);
+        let Held::Running { remaining, .. } = &mut pump.slots[2] else {
+            unreachable!()
+        };
+        *remaining = 1;
+        assert_eq!((pump.step(), pump.had[2], pump.idle), (Ok(Some(2)), 5, 5));
     }
 }

@@ -1,10 +1,11 @@
 //! controller: the main loop of a pump controller, without the pump. bindings/c/controller.c is its twin.
 //!
 //! Two lines are admitted, and eight ticks later a bench, for which the first line's period is doubled (case A, R67). Then
-//! it prints what the pump does in each of 56 ticks: the slot that it serves, or a dot for none.
+//! it prints what the pump does in each of 56 ticks: the slot that it serves, or a dot for none; and what each line has had
+//! since it was admitted.
 
 use std::process::ExitCode;
-use trimthuel::{Pump, Refusal, Request};
+use trimthuel::{Counts, Pump, Refusal, Request};
 
 /// Stands for the ports of the valve board: bit k belongs to slot k.
 #[derive(Default)]
@@ -52,7 +53,17 @@ fn mark(slot: Option<usize>) -> char {
         .unwrap_or('.')
 }
 
-fn control(board: &mut Board) -> Result<String, Refusal> {
+/// R98: what each line has had, and the ticks in which none ran.
+fn shown(counts: &Counts) -> String {
+    let slots = counts.had.iter().enumerate();
+    let had = slots.filter(|(_, ticks)| **ticks > 0);
+    let words: String = had
+        .map(|(slot, ticks)| format!(", slot {slot} had {ticks}"))
+        .collect();
+    format!("clock {}{words}, idle {}", counts.clock, counts.idle)
+}
+
+fn control(board: &mut Board) -> Result<(String, Counts), Refusal> {
     let mut pump = Pump::new();
     for _ in 0..2 {
         let line = pump.request(8, 16);
@@ -63,7 +74,9 @@ fn control(board: &mut Board) -> Result<String, Refusal> {
     }
     let bench = pump.request(1, 4).stretch(0, 32);
     admit(&mut pump, &bench);
-    (0..56).map(|_| tick(&mut pump, board).map(mark)).collect()
+    let ticks = (0..56).map(|_| tick(&mut pump, board).map(mark));
+    let row = ticks.collect::<Result<String, Refusal>>()?;
+    Ok((row, pump.counts()))
 }
 
 fn main() -> ExitCode {
@@ -73,9 +86,14 @@ fn main() -> ExitCode {
     }
     let mut board = Board::default();
     match control(&mut board) {
-        Ok(row) => {
-            println!("{row}");
-            ExitCode::SUCCESS
+        Ok((row, counts)) => {
+            println!("{row}\n{}", shown(&counts));
+            // R79: as they do on every table that came from the empty one.
+            if counts.sum() == counts.clock.into() {
+                return ExitCode::SUCCESS;
+            }
+            eprintln!("the counts do not add up to the clock");
+            ExitCode::FAILURE
         }
         Err(refusal) => {
             board.take(0, None);

@@ -40,5 +40,5 @@ impl Rewritten {
 /// # Errors
 /// The first refusal: the reader's, ask's, or a step's.
 pub fn run(card: &[u8], ticks: u16) -> Result<u64, Refusal> {
-    numbers::run(card, ticks).granted(Numbers::count)
+    numbers::run(card, ticks).granted(Numbers::ticks)
 }

@@ -4,7 +4,7 @@
 //! as it was. [`Pump`](crate::Pump) does the same on bytes of its own.
 
 use crate::numbers::{self, Numbers};
-use crate::{Answer, Refusal, Request, REQUEST_SIZE};
+use crate::{Answer, Counts, Refusal, Request, COUNTS, REQUEST_SIZE};
 
 /// R85: writes the image of the empty table to the start of `table`, and answers its length.
 ///
@@ -44,6 +44,16 @@ pub fn step(table: &mut [u8]) -> Result<Option<usize>, Refusal> {
 /// Refusal 11.
 pub fn ready(table: &[u8]) -> Result<u16, Refusal> {
     numbers::ready(table).granted(Numbers::word)
+}
+
+/// R98: what each bench has had, also where refusal 4 would come before anything else.
+///
+/// # Errors
+/// Refusal 11.
+pub fn counts(table: &[u8]) -> Result<Counts, Refusal> {
+    let mut numbers = [0; COUNTS];
+    let clock = numbers::counts(table, &mut numbers).granted(Numbers::ticks)?;
+    Ok(Counts::from_numbers(numbers, clock))
 }
 
 /// R91: writes the card of a table and a request to the start of `card`, and answers its length.

@@ -1,5 +1,5 @@
 //! A greenhouse pump's admission and scheduling core, proved down to the code: safe functions over `libhouse.a`, whose C
-//! side is `include/trimthuel.h`. The rules, R1 to R94, are those of docs/RULES.md.
+//! side is `include/trimthuel.h`. The rules, R1 to R98, are those of docs/RULES.md.
 //!
 //! ```
 //! use trimthuel::{Answer, Pump, Refusal};
@@ -17,7 +17,11 @@
 //! assert_eq!(refusal.blinks(), 3);
 //! assert_eq!(pump.admit(&bench.stretch(0, 32))?.slot, 1);
 //!
-//! // The table is 153 bytes, which may be kept while the power is off.
+//! // What each bench has had so far, and the ticks in which none ran.
+//! let counts = pump.counts();
+//! assert_eq!((counts.had[0], counts.had[1], counts.idle, counts.clock), (1, 0, 0, 1));
+//!
+//! // The table is 289 bytes, which may be kept while the power is off.
 //! let kept = *pump.image();
 //! assert_eq!(Pump::from_image(&kept)?, pump);
 //! # Ok(())
@@ -36,28 +40,33 @@ pub mod image;
 pub mod numbers;
 
 mod card;
+mod counts;
 mod pump;
 mod refusal;
 mod request;
 mod result;
 
 pub use card::{answer, rewrite, run, Rewritten};
+pub use counts::Counts;
 pub use numbers::{lamp, version};
 pub use pump::Pump;
 pub use refusal::Refusal;
 pub use request::{Answer, Request};
 
 /// R93: of the boundary that this crate declares; the library's own is [`version()`].
-pub const VERSION: u32 = 2;
+pub const VERSION: u32 = 3;
 
-/// R81: of the layout of an image, its first byte.
-pub const IMAGE_VERSION: u8 = 1;
+/// R81: of the layout of an image, its first byte. An image of version 1, which had no counts, is refused with 11 at 0.
+pub const IMAGE_VERSION: u8 = 2;
 
 /// R2: slots of a table.
 pub const SLOTS: usize = 16;
 
 /// R81: bytes of an image.
-pub const TABLE_SIZE: usize = 153;
+pub const TABLE_SIZE: usize = 289;
+
+/// R95: counts of a table: one for each slot, then the idle count.
+pub const COUNTS: usize = 17;
 
 /// R6: numbers of a request: sixteen stretched periods, then need and period.
 pub const REQUEST_SIZE: usize = 18;

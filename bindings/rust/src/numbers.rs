@@ -6,7 +6,7 @@
 //! What the header demands of a caller holds in every call: what comes from a slice is good for its length and never null,
 //! what comes from an array is good for it and aligned, and what is borrowed mutably overlaps nothing else.
 
-use crate::{REQUEST_SIZE, SLOTS};
+use crate::{COUNTS, REQUEST_SIZE, SLOTS};
 
 /// R63: what a call answers, `struct trimthuel_result`.
 #[repr(C)]
@@ -27,6 +27,7 @@ type Bytes = *const u8;
 type Lent = *mut u8;
 type Stretched = *const [u16; SLOTS];
 type Request = *mut [u16; REQUEST_SIZE];
+type Counts = *mut [u64; COUNTS];
 
 // SAFETY: these are the header's declarations.
 #[rustfmt::skip]
@@ -38,6 +39,7 @@ unsafe extern "C" {
     fn trimthuel_admit(table: Lent, table_len: usize, need: u16, period: u16, stretched: Stretched) -> Numbers;
     fn trimthuel_step(table: Lent, table_len: usize) -> Numbers;
     fn trimthuel_ready(table: Bytes, table_len: usize) -> Numbers;
+    fn trimthuel_counts(table: Bytes, table_len: usize, counts: Counts) -> Numbers;
     fn trimthuel_write_card(table: Bytes, table_len: usize, need: u16, period: u16, stretched: Stretched,
                             card: Lent, card_len: usize) -> Numbers;
     fn trimthuel_read_card(card: Bytes, card_len: usize, table: Lent, table_len: usize, request: Request) -> Numbers;
@@ -89,6 +91,12 @@ pub fn step(table: &mut [u8]) -> Numbers {
 pub fn ready(table: &[u8]) -> Numbers {
     // SAFETY: one slice, with its length.
     unsafe { trimthuel_ready(table.as_ptr(), table.len()) }
+}
+
+/// R98.
+pub fn counts(table: &[u8], counts: &mut [u64; COUNTS]) -> Numbers {
+    // SAFETY: a slice with its length, and an array of seventeen numbers, borrowed mutably.
+    unsafe { trimthuel_counts(table.as_ptr(), table.len(), counts) }
 }
 
 /// R91.

@@ -1,6 +1,8 @@
 //! The pump, which owns its table.
 
-use crate::{image, Answer, Refusal, Request, IMAGE_VERSION, REQUEST_SIZE, SLOTS, TABLE_SIZE};
+use crate::{
+    image, Answer, Counts, Refusal, Request, IMAGE_VERSION, REQUEST_SIZE, SLOTS, TABLE_SIZE,
+};
 
 /// A pump: the image of its table (R81), which always reads.
 #[derive(Clone, Debug, PartialEq, Eq, Hash)]
@@ -88,6 +90,12 @@ impl Pump {
     #[must_use]
     pub fn ready(&self) -> u16 {
         image::ready(&self.image).expect("a pump's image reads (R82)")
+    }
+
+    /// R98: what each bench has had.
+    #[must_use]
+    pub fn counts(&self) -> Counts {
+        image::counts(&self.image).expect("a pump's image reads (R82)")
     }
 
     /// R91: writes the card of the table and a request to the start of `card`, and answers its length.

@@ -18,7 +18,7 @@ const WHY: [&str; 16] = [
     "the clock is too late to ask",
     "no slot is empty",
     "a line still waits",
-    "a line's numbers are unsound",
+    "a line's numbers are unsound, or more ticks are counted than have gone by",
     "a period would be shortened",
     "the new line does not fit its period",
     "the frame is above 1,000,000",

@@ -16,7 +16,8 @@ impl Numbers {
         })
     }
 
-    pub(crate) fn count(self) -> u64 {
+    /// R66, R98: ticks.
+    pub(crate) fn ticks(self) -> u64 {
         self.value
     }
 

@@ -12,7 +12,7 @@ use Rattle.table.specs.declared.Answer.the-variants.{Start, Refused}
 use Rattle.table.specs.declared.Refusal.{Refusal}
 use Rattle.table.specs.declared.Admitted.{Admitted}
 use Rattle.line.specs.Slots.{holding, isNothing, lowestOf}
-use Rattle.table.specs.Words.{withSlots}
+use Rattle.table.specs.Words.{withLines, withSlots}
 use Rattle.table.specs.Grounds.{asked}
 use Rattle.table.specs.Admit.{newLine, admittedAt, admitWith}
 
@@ -23,12 +23,12 @@ module _ (t : Table) (q : Request) (r : ℕ) {next : Table} (e : next ≡ withSl
 
   -- R43: the new line in the slot that was found
   pub put-at : {k : ℕ} {new : Held} {s : Slot} {full : Table} → lowestOf isNothing (t .slots) ≡ some k → new ≡ newLine (q .need) (q .period) (r - t .clock)
-      → s ≡ holding new → full ≡ withSlots next (set (next .slots) k s) → full ≡ admittedAt t q r
+      → s ≡ holding new → full ≡ withLines next (set (next .slots) k s) (set (next .had) k 0) → full ≡ admittedAt t q r
   put-at {k} {new} {s} g h i f =
       rw g
       (f
-      ∙ ap (λ (x : Table). withSlots x (set (x .slots) k s)) e
-      ∙ ap (λ (x : Slot). withSlots t (set (asked t q) k x)) (i ∙ ap holding h)
+      ∙ ap (λ (x : Table). withLines x (set (x .slots) k s) (set (x .had) k 0)) e
+      ∙ ap (λ (x : Slot). withLines t (set (asked t q) k x) (set (t .had) k 0)) (i ∙ ap holding h)
       )
 
 module _ (t : Table) (q : Request) {a : Answer} where

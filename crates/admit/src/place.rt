@@ -2,7 +2,7 @@
 ghost use mathlib.Core.Path.{_≡_};
 ghost use Prim.Native.Nat.{_+_, _≤_, _<_};
 ghost use lib.ListN.{set};
-ghost use Rattle.table.specs.Words.{withSlots};
+ghost use Rattle.table.specs.Words.{withLines, withSlots};
 ghost use Rattle.table.specs.Grounds.{asked};
 ghost use Rattle.table.specs.Admit.{newLine, admittedAt};
 
@@ -32,13 +32,14 @@ fn new_line(need: u16, period: u16, wait: u16) -> line::Held
     line::Held::begun(need, period)
 }
 
-// The slot in the place named.
+// R42: the slot in the place named, and no tick counted for it.
 fn put(t: table::Table, at: usize, s: line::Slot) -> table::Table
     requires { ⌜ at < 16 ⌝ }
-    ensures { λ r. ⌜ r ≡ withSlots t (set (t .slots) at s) ⌝ }
+    ensures { λ r. ⌜ r ≡ withLines t (set (t .slots) at s) (set (t .had) at 0) ⌝ }
 {
     let mut full = t;
     full.slots[at] = s;
+    full.had[at] = 0;
     full
 }
 

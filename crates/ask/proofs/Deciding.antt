@@ -17,6 +17,8 @@ use Rattle.table.specs.declared.Which.{Which}
 use Rattle.table.specs.declared.Which.the-variants.{None, At}
 use Rattle.line.specs.Slots.{at, both, lowest, lowestOf, isNothing, isWaiting}
 use Rattle.table.specs.Words.{slotOf, refusal}
+use Rattle.table.specs.Counts.{fault}
+use Rattle.table.proofs.Counts.{faultless}
 use Rattle.line.specs.Sound.{sound}
 use Rattle.table.specs.Grounds.{entry}
 use Rattle.line.specs.Stretch.{shrunk}
@@ -85,8 +87,8 @@ module _ (t : Table) (q : Request) {r : Answer} where
       unfolding askOf
       ask-waits g e = rw (le-ltb (2 ^ 48 - 65536) (t .clock) h, which-says e2 g2, which-says e3 g) e
 
-      module _ {u : Which} (g3 : v ≡ None) (e4 : slotOf u ≡ lowestOf (λ h. not (sound h)) (t .slots)) where
-        -- R24: a line is unsound
+      module _ {u : Which} (g3 : v ≡ None) (e4 : slotOf u ≡ fault t) where
+        -- R24: a line is unsound, or the counts are too many
         pub ask-unsound : {k : ℕ} → u ≡ At k → r ≡ Refused (refusal 4 k) → r ≡ askOf t q
         unfolding askOf
         ask-unsound g e = rw (le-ltb (2 ^ 48 - 65536) (t .clock) h, which-says e2 g2, which-says e3 g3, which-says e4 g) e
@@ -109,10 +111,10 @@ module _ (t : Table) (q : Request) {r : Answer} where
           ask-past g a = rw (le-ltb (2 ^ 48 - 65536) (t .clock) h, which-says e2 g2, which-says e3 g3, which-says e4 g4, which-says e5 g) a
 
 -- R23 to R25: what is known past the first five grounds
-pub allowed-all : (t : Table) (q : Request) {w v u : Which} → slotOf w ≡ lowestOf isWaiting (t .slots) → w ≡ None → slotOf v ≡ lowestOf (λ h. not (sound h)) (t .slots) → v ≡ None
+pub allowed-all : (t : Table) (q : Request) {w v u : Which} → slotOf w ≡ lowestOf isWaiting (t .slots) → w ≡ None → slotOf v ≡ fault t → v ≡ None
     → slotOf u ≡ lowest (shrinks t q) (length (t .slots)) → u ≡ None → AllAllowed t q
 allowed-all t q e3 g3 e4 g4 e5 g5 i h = (
   lowest-none (λ k. isWaiting (at (t .slots) k)) (length (t .slots)) (which-says e3 g3) i h,
-  not-false _ (lowest-none (λ k. not (sound (at (t .slots) k))) (length (t .slots)) (which-says e4 g4) i h),
+  not-false _ (lowest-none (λ k. not (sound (at (t .slots) k))) (length (t .slots)) (faultless t (which-says e4 g4) .0) i h),
   lowest-none (shrinks t q) (length (t .slots)) (which-says e5 g5) i h,
 )

@@ -99,7 +99,7 @@ pub(crate) fn answer(t: table::Table, q: table::Request) -> table::Answer
         table::Which::At(k) => return refused(3, k as u64),
         table::Which::None => {}
     }
-    match t.lowest(line::Kind::Unsound) {
+    match t.fault() {
         table::Which::At(k) => return refused(4, k as u64),
         table::Which::None => {}
     }

@@ -15,14 +15,14 @@ use Rattle.table.specs.declared.Table.{Table}
 use Rattle.table.specs.Words.{tableWith, refusal, Said, gives, refuses}
 use Rattle.table.specs.Ask.{askIn, askOf}
 use Rattle.table.specs.Step.{chosen, advance, stepOf}
-use Rattle.table.specs.Cases.{running, waiting, tableOf, caseA}
+use Rattle.table.specs.Cases.{running, waiting, tableOf, tallied, caseA}
 use Rattle.card.specs.Card.{carrying, cardOf}
 use Rattle.card.specs.Answers.{lengthOf}
 use Rattle.board.specs.Board.{bit}
 use Rattle.image.specs.Image.{imageOf}
 use Rattle.image.specs.Answers.{storeOf}
 use Rattle.calls.specs.Results.{grantedAs, refusedAs}
-use Rattle.calls.specs.Tables.{requestOf, changed, askFor, afterAdmit, stepFor, afterStep, ReadyFor}
+use Rattle.calls.specs.Tables.{requestOf, changed, askFor, afterAdmit, stepFor, afterStep, ReadyFor, countsFor, countsAfter}
 use Rattle.calls.specs.Moves.{eighteen, writeCardFor, cardAfter, readCardFor, imageAfter, numbersAfter}
 
 -- an image that is refused
@@ -92,7 +92,7 @@ unfolding lowest lengthOf cardOf
 card-granted = (refl, refl)
 
 -- R92: the image of the card's table, and the byte after it as it was
-pub image-granted : imageAfter (gives (carrying (caseA .table) (caseA .request))) (replicate 154 7) ≡ imageOf (caseA .table) ++ (7 ∷ [])
+pub image-granted : imageAfter (gives (carrying (caseA .table) (caseA .request))) (replicate 290 7) ≡ imageOf (caseA .table) ++ (7 ∷ [])
 unfolding storeOf imageOf
 image-granted = refl
 
@@ -104,15 +104,28 @@ card-edges = refl
 pub eighteen-edges : eighteen (requestOf 1 4 (32 ∷ 16 ∷ [])) ≡ 32 ∷ 16 ∷ 1 ∷ 4 ∷ []
 eighteen-edges = refl
 
--- R92: the reader's refusal comes before the room's; 152 bytes are too few, 153 are enough
-pub read-edges : (map (readCardFor (gives (carrying (caseA .table) (caseA .request)))) (152 ∷ 153 ∷ []) ≡ refuses (refusal 13 0) ∷ gives 153 ∷ [])
-    × (map (readCardFor (refuses (refusal 12 22))) (152 ∷ 153 ∷ []) ≡ refuses (refusal 12 22) ∷ refuses (refusal 12 22) ∷ [])
+-- R92: the reader's refusal comes before the room's; 288 bytes are too few, 289 are enough
+pub read-edges : (map (readCardFor (gives (carrying (caseA .table) (caseA .request)))) (288 ∷ 289 ∷ []) ≡ refuses (refusal 13 0) ∷ gives 289 ∷ [])
+    × (map (readCardFor (refuses (refusal 12 22))) (288 ∷ 289 ∷ []) ≡ refuses (refusal 12 22) ∷ refuses (refusal 12 22) ∷ [])
 unfolding storeOf
 read-edges = (refl, refl)
 
 -- R92: the numbers are written where the image is, and left where anything is refused
-pub numbers-edges : (map (λ (room : ℕ). numbersAfter (gives (carrying (caseA .table) (requestOf 1 4 (32 ∷ [])))) room (7 ∷ [])) (152 ∷ 153 ∷ []) ≡ (7 ∷ []) ∷ (32 ∷ 1 ∷ 4 ∷ []) ∷ [])
-    × (numbersAfter (refuses (refusal 11 0)) 153 (7 ∷ []) ≡ 7 ∷ []) × (imageAfter (refuses (refusal 11 0)) (7 ∷ 8 ∷ []) ≡ 7 ∷ 8 ∷ [])
+pub numbers-edges : (map (λ (room : ℕ). numbersAfter (gives (carrying (caseA .table) (requestOf 1 4 (32 ∷ [])))) room (7 ∷ [])) (288 ∷ 289 ∷ []) ≡ (7 ∷ []) ∷ (32 ∷ 1 ∷ 4 ∷ []) ∷ [])
+    × (numbersAfter (refuses (refusal 11 0)) 289 (7 ∷ []) ≡ 7 ∷ []) × (imageAfter (refuses (refusal 11 0)) (7 ∷ 8 ∷ []) ≡ 7 ∷ 8 ∷ [])
     × (imageAfter (gives (carrying (caseA .table) (caseA .request))) (7 ∷ 8 ∷ []) ≡ 7 ∷ 8 ∷ [])
 unfolding storeOf
 numbers-edges = (refl, refl, refl, refl)
+
+-- a table whose slots have had 1 to 16 ticks, which with 17 idle ones are more than its clock
+abbrev served : Table
+served = tallied (1 ∷ 2 ∷ 3 ∷ 4 ∷ 5 ∷ 6 ∷ 7 ∷ 8 ∷ 9 ∷ 10 ∷ 11 ∷ 12 ∷ 13 ∷ 14 ∷ 15 ∷ 16 ∷ []) 17 (tableOf 100 [])
+
+-- R98: the slots' counts in their order, then the idle one, and the clock as the value, though R24 would refuse the table; an image's refusal leaves every number
+pub counts-edges : (countsFor (gives served) ≡ grantedAs 0 100)
+    × (countsAfter (gives served) (replicate 17 7) ≡ 1 ∷ 2 ∷ 3 ∷ 4 ∷ 5 ∷ 6 ∷ 7 ∷ 8 ∷ 9 ∷ 10 ∷ 11 ∷ 12 ∷ 13 ∷ 14 ∷ 15 ∷ 16 ∷ 17 ∷ [])
+    × (stepFor (gives served) ≡ refusedAs (refusal 4 0))
+    × (countsFor broken ≡ refusedAs (refusal 11 9))
+    × (countsAfter broken (replicate 17 7) ≡ replicate 17 7)
+unfolding lowest stepOf
+counts-edges = (refl, refl, refl, refl, refl)

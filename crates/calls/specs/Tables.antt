@@ -1,7 +1,7 @@
 -- Operations on images: what each answers to what was loaded, and what the lent image holds then.
 use Prim.Native.Nat.{ℕ}
 use mathlib.Core.Path.{_≡_}
-use mathlib.Core.List.{List}
+use mathlib.Core.List.{List, [], _∷_, _++_}
 use mathlib.Core.Option.{Option}
 use Rattle.line.specs.Slots.{isNothing, lowestOf}
 use Rattle.table.specs.declared.Table.{Table}
@@ -69,3 +69,17 @@ afterStep (refuses x) l = l
 abbrev pub ReadyFor : Said Table → Result → Type 0
 ReadyFor (gives t) r = (r ≡ grantedAs 0 (r .value)) × ReadyWord (t .slots) (r .value)
 ReadyFor (refuses x) r = r ≡ refusedAs x
+
+-- R98: the seventeen counts: each slot's, slot 0's first, then the idle one
+abbrev pub seventeen : Table → List ℕ
+seventeen t = t .had ++ (t .idle ∷ [])
+
+-- R98: the image's refusal, or the clock
+abbrev pub countsFor : Said Table → Result
+countsFor (gives t) = grantedAs 0 (t .clock)
+countsFor (refuses x) = refusedAs x
+
+-- R98: the lent numbers then
+abbrev pub countsAfter : Said Table → List ℕ → List ℕ
+countsAfter (gives t) ns = seventeen t
+countsAfter (refuses x) ns = ns

@@ -2,7 +2,8 @@
 ghost use mathlib.Core.Path.{_≡_};
 ghost use Rattle.table.specs.Words.{gives};
 ghost use Rattle.table.specs.Ask.{says, askOf};
-ghost use Rattle.calls.specs.Tables.{askedAs, admittedIn, steppedAs, steppedIn, ReadyFor};
+ghost use Rattle.calls.specs.Results.{grantedAs};
+ghost use Rattle.calls.specs.Tables.{askedAs, admittedIn, steppedAs, steppedIn, ReadyFor, seventeen};
 use crate::Result;
 use line::Kind;
 use table::Answer;
@@ -62,4 +63,27 @@ pub fn ready(t: Table) -> Result
     ensures { λ r. ⌜ ReadyFor (gives t) r ⌝ }
 {
     Result::granted(0, board::ready_word(t) as u64)
+}
+
+// R98: a table's seventeen counts.
+fn counts_of(t: Table) -> [u64; 17]
+    ensures { λ r. ⌜ r ≡ seventeen t ⌝ }
+{
+    let had = t.had;
+    let mut out = [0u64; 17];
+    let mut i: usize = 0;
+    while i < 16 {
+        out[i] = had[i];
+        i = i + 1;
+    }
+    out[16] = t.idle;
+    out
+}
+
+// R98: the clock of a table, and its counts into the lent numbers.
+pub fn counts(t: Table, out: &mut [u64; 17]) -> Result
+    ensures { λ r. ⌜ (r ≡ grantedAs 0 (t .clock)) × (now (out .exit) ≡ seventeen t) ⌝ }
+{
+    *out = counts_of(t);
+    Result::granted(0, t.clock)
 }

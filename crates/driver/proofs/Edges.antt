@@ -7,18 +7,18 @@ use Rattle.table.specs.declared.Table.{Table}
 use Rattle.line.specs.Slots.{lowest}
 use Rattle.table.specs.Words.{refusal, gives, refuses}
 use Rattle.table.specs.Step.{saysRan, chosen, advance, stepOf}
-use Rattle.table.specs.Cases.{running, tableOf}
+use Rattle.table.specs.Cases.{running, tableOf, tallied}
 use Rattle.driver.specs.Driven.{drivenOf}
 
 -- slot 0 is owed one tick in a period of two
 abbrev owing : (clock : ℕ) → Table
 owing k = tableOf k (running 1 2 0 1 ∷ [])
 
--- the same line a tick later, served
+-- the same line a tick later, served, and the tick counted
 abbrev served : (clock : ℕ) → Table
-served k = tableOf k (running 1 2 1 0 ∷ [])
+served k = tallied (1 ∷ []) 0 (tableOf k (running 1 2 1 0 ∷ []))
 
--- R45, R51: after a step the driver keeps the whole new table: clock, age and remaining
+-- R45, R51: after a step the driver keeps the whole new table: clock, age, remaining and counts
 pub new-table-is-kept : drivenOf (owing 7) ≡ served 8
 unfolding lowest chosen advance stepOf
 new-table-is-kept = refl

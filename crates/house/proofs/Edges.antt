@@ -2,6 +2,6 @@
 use mathlib.Core.Path.{_≡_, refl}
 use Rattle.house.specs.Version.{boundaryVersion}
 
--- R93: the second version
-pub version-edges : boundaryVersion ≡ 2
+-- R93: the third version
+pub version-edges : boundaryVersion ≡ 3
 version-edges = refl

@@ -5,6 +5,7 @@ ghost use Rattle.board.specs.Board.{blinks};
 ghost use Rattle.house.specs.Version.{boundaryVersion};
 
 mod cards; // whole cards: their answer, written anew, run
+mod counts; // what each bench has had
 mod moves; // a table to a card and back
 mod tables; // operations on images
 
@@ -24,5 +25,5 @@ pub extern "C" fn trimthuel_lamp(number: u64) -> u8
 pub extern "C" fn trimthuel_version() -> u32
     ensures { λ r. ⌜ r ≡ boundaryVersion ⌝ }
 {
-    2
+    3
 }

@@ -1,13 +1,13 @@
 -- Images and buffers on both sides of each edge of R81 to R84, by computation. The bytes are numbers here, and no two numbers of a line share one: an exchange of two
 -- numbers in the definitions changes what a row says.
-use Prim.Native.Nat.{ℕ, zero, suc}
+use Prim.Native.Nat.{ℕ, zero, suc, _+_, _*_}
 use mathlib.Core.Path.{_≡_, refl}
 use mathlib.Core.List.{List, [], _∷_, _++_, map}
 use lib.ListN.{length, take, set, replicate}
 use Rattle.line.specs.declared.Slot.{Slot}
 use Rattle.line.specs.Slots.{empty, lowest}
 use Rattle.table.specs.declared.Table.{Table}
-use Rattle.table.specs.Words.{tableWith, refusal, Said, gives, refuses}
+use Rattle.table.specs.Words.{tableWith, withCounts, refusal, Said, gives, refuses}
 use Rattle.table.specs.Cases.{running, waiting}
 use Rattle.image.specs.declared.LoadAnswer.{LoadAnswer}
 use Rattle.image.specs.Image.{size, imageOf}
@@ -21,7 +21,7 @@ times (suc n) l = l ++ times n l
 
 -- the version and a clock
 abbrev front : List ℕ
-front = 1 ∷ 0xA1 ∷ 0xA2 ∷ 0xA3 ∷ 0xA4 ∷ 0xA5 ∷ 0xA6 ∷ 0xA7 ∷ 0xA8 ∷ []
+front = 2 ∷ 0xA1 ∷ 0xA2 ∷ 0xA3 ∷ 0xA4 ∷ 0xA5 ∷ 0xA6 ∷ 0xA7 ∷ 0xA8 ∷ []
 
 -- a slot that holds nothing
 abbrev free : List ℕ
@@ -42,9 +42,29 @@ runSlot = running 0x1211 0x2221 0x3231 0x4241
 abbrev waitSlot : Slot
 waitSlot = waiting 0x5251 0x6261 0x7271
 
--- slots under the clock of `front`
+-- so many bytes, each one more than the one before it
+abbrev rising : (many first : ℕ) → List ℕ
+rising zero b = []
+rising (suc n) b = b ∷ rising n (suc b)
+
+-- so many numbers of eight such bytes
+abbrev risen : (many first : ℕ) → List ℕ
+risen zero b = []
+risen (suc n) b = (0x0706050403020100 + 0x0101010101010101 * b) ∷ risen n (8 + b)
+
+-- the counts behind n slots, no byte of which stands there twice, and the idle count behind them
+abbrev tally : (slots : ℕ) → List ℕ
+tally n = rising (8 * n + 8) 0x64
+
+-- n slots' bytes between `front` and the counts
+abbrev whole : (slots : ℕ) → List ℕ → List ℕ
+whole n l = front ++ l ++ tally n
+
+-- slots under the clock of `front`, with the counts of `tally`
 abbrev under : List Slot → Table
-under ss = tableWith 0xA8A7A6A5A4A3A2A1 ss
+under ss =
+    let n = length ss in
+    withCounts (tableWith 0xA8A7A6A5A4A3A2A1 ss) (risen n 0x64) (0x0706050403020100 + 0x0101010101010101 * (0x64 + 8 * n))
 
 abbrev reads : List Slot → Said Table
 reads ss = gives (under ss)
@@ -65,58 +85,86 @@ edge n l s = record { slots = n; bytes = l; says = s }
 abbrev wrongAt : (slots : ℕ) → List ℕ → (byte at : ℕ) → ImageEdge
 wrongAt n l b at = edge n (set l at b) (breaks at)
 
--- R83: the version, alone wrong and with all else wrong
+-- R83: the version, alone wrong and with all else wrong; an image of the version before this one, as long as it was then and as long as it is now
 abbrev versionEdges : List ImageEdge
 versionEdges =
-    edge 1 (front ++ runs) (reads (runSlot ∷ []))
-    ∷ wrongAt 1 (front ++ runs) 0 0
-    ∷ wrongAt 1 (front ++ runs) 2 0
-    ∷ wrongAt 1 (front ++ runs) 255 0
-    ∷ edge 1 (2 ∷ []) (breaks 0)
-    ∷ edge 1 (0 ∷ replicate 30 255) (breaks 0)
+    edge 1 (whole 1 runs) (reads (runSlot ∷ []))
+    ∷ wrongAt 1 (whole 1 runs) 0 0
+    ∷ wrongAt 1 (whole 1 runs) 1 0
+    ∷ wrongAt 1 (whole 1 runs) 3 0
+    ∷ wrongAt 1 (whole 1 runs) 255 0
+    ∷ edge 1 (1 ∷ []) (breaks 0)
+    ∷ edge 1 (0 ∷ replicate 50 255) (breaks 0)
+    ∷ edge 16 (set (front ++ times 16 runs) 0 1) (breaks 0)
+    ∷ edge 16 (front ++ times 16 runs) (breaks 153)
+    ∷ wrongAt 16 (whole 16 (times 16 runs)) 1 0
     ∷ []
 
 -- R81, R83: each kind, and one above; what follows a kind above 2 is not looked at
 abbrev kindEdges : List ImageEdge
 kindEdges =
-    edge 1 (set (front ++ free) 9 0) (reads (empty ∷ []))
-    ∷ edge 1 (set (front ++ free) 9 1) (reads (running 0 0 0 0 ∷ []))
-    ∷ edge 1 (set (front ++ free) 9 2) (reads (waiting 0 0 0 ∷ []))
-    ∷ map (λ (k : ℕ). wrongAt 1 (front ++ free) k 9) (3 ∷ 4 ∷ 128 ∷ 255 ∷ [])
-    ++ map (λ (k : ℕ). wrongAt 1 (front ++ runs) k 9) (3 ∷ 4 ∷ 128 ∷ 255 ∷ [])
+    edge 1 (set (whole 1 free) 9 0) (reads (empty ∷ []))
+    ∷ edge 1 (set (whole 1 free) 9 1) (reads (running 0 0 0 0 ∷ []))
+    ∷ edge 1 (set (whole 1 free) 9 2) (reads (waiting 0 0 0 ∷ []))
+    ∷ map (λ (k : ℕ). wrongAt 1 (whole 1 free) k 9) (3 ∷ 4 ∷ 128 ∷ 255 ∷ [])
+    ++ map (λ (k : ℕ). wrongAt 1 (whole 1 runs) k 9) (3 ∷ 4 ∷ 128 ∷ 255 ∷ [])
 
 -- R83: where R81 has a 0: one byte alone, the lowest of two, and in other slots
 abbrev zeroEdges : List ImageEdge
 zeroEdges =
-    map (wrongAt 1 (front ++ free) 1) (10 ∷ 11 ∷ 12 ∷ 13 ∷ 14 ∷ 15 ∷ 16 ∷ 17 ∷ [])
-    ++ map (wrongAt 1 (front ++ waits) 1) (16 ∷ 17 ∷ [])
-    ++ edge 1 (set (front ++ waits) 15 255) (reads (waiting 0x5251 0x6261 0xFF71 ∷ []))
-    ∷ edge 1 (set (set (front ++ waits) 17 255) 16 255) (breaks 16)
-    ∷ edge 1 (set (set (front ++ free) 17 255) 10 255) (breaks 10)
-    ∷ edge 1 (front ++ (0 ∷ replicate 8 255)) (breaks 10)
-    ∷ edge 1 (front ++ (2 ∷ replicate 8 255)) (breaks 16)
-    ∷ edge 1 (1 ∷ replicate 8 255 ++ (1 ∷ replicate 8 255))
-    (gives (tableWith 18446744073709551615 (running 65535 65535 65535 65535 ∷ [])))
-    ∷ map (wrongAt 2 (front ++ runs ++ free) 1) (19 ∷ 20 ∷ 25 ∷ 26 ∷ [])
-    ++ map (wrongAt 2 (front ++ runs ++ waits) 1) (25 ∷ 26 ∷ [])
-    ++ edge 2 (set (front ++ free ++ runs) 18 3) (breaks 18)
-    ∷ edge 2 (set (set (front ++ free ++ free) 19 1) 17 1) (breaks 17)
-    ∷ edge 2 (set (set (front ++ free ++ free) 18 3) 9 3) (breaks 9)
-    ∷ map (wrongAt 16 (front ++ times 16 free) 1) (10 ∷ 136 ∷ 143 ∷ 145 ∷ 152 ∷ [])
-    ++ wrongAt 16 (front ++ times 16 free) 3 144
-    ∷ wrongAt 16 (front ++ times 16 runs) 3 144
+    map (wrongAt 1 (whole 1 free) 1) (10 ∷ 11 ∷ 12 ∷ 13 ∷ 14 ∷ 15 ∷ 16 ∷ 17 ∷ [])
+    ++ map (wrongAt 1 (whole 1 waits) 1) (16 ∷ 17 ∷ [])
+    ++ edge 1 (set (whole 1 waits) 15 255) (reads (waiting 0x5251 0x6261 0xFF71 ∷ []))
+    ∷ edge 1 (set (set (whole 1 waits) 17 255) 16 255) (breaks 16)
+    ∷ edge 1 (set (set (whole 1 free) 17 255) 10 255) (breaks 10)
+    ∷ edge 1 (whole 1 (0 ∷ replicate 8 255)) (breaks 10)
+    ∷ edge 1 (whole 1 (2 ∷ replicate 8 255)) (breaks 16)
+    ∷ edge 1 (2 ∷ replicate 8 255 ++ (1 ∷ replicate 24 255))
+    (gives (withCounts (tableWith 18446744073709551615 (running 65535 65535 65535 65535 ∷ [])) (18446744073709551615 ∷ []) 18446744073709551615))
+    ∷ map (wrongAt 2 (whole 2 (runs ++ free)) 1) (19 ∷ 20 ∷ 25 ∷ 26 ∷ [])
+    ++ map (wrongAt 2 (whole 2 (runs ++ waits)) 1) (25 ∷ 26 ∷ [])
+    ++ edge 2 (set (whole 2 (free ++ runs)) 18 3) (breaks 18)
+    ∷ edge 2 (set (set (whole 2 (free ++ free)) 19 1) 17 1) (breaks 17)
+    ∷ edge 2 (set (set (whole 2 (free ++ free)) 18 3) 9 3) (breaks 9)
+    ∷ map (wrongAt 16 (whole 16 (times 16 free)) 1) (10 ∷ 136 ∷ 143 ∷ 145 ∷ 152 ∷ [])
+    ++ wrongAt 16 (whole 16 (times 16 free)) 3 144
+    ∷ wrongAt 16 (whole 16 (times 16 runs)) 3 144
     ∷ []
 
 -- R81: the slots' order, and what stands next to a slot is not its own
 abbrev slotEdges : List ImageEdge
 slotEdges =
-    edge 0 front (reads [])
-    ∷ edge 2 (front ++ runs ++ waits) (reads (runSlot ∷ waitSlot ∷ []))
-    ∷ edge 2 (front ++ waits ++ runs) (reads (waitSlot ∷ runSlot ∷ []))
-    ∷ edge 3 (front ++ free ++ waits ++ runs) (reads (empty ∷ waitSlot ∷ runSlot ∷ []))
-    ∷ edge 3 (front ++ free ++ free ++ waits) (reads (empty ∷ empty ∷ waitSlot ∷ []))
-    ∷ edge 16 (front ++ times 15 free ++ waits) (reads (replicate 15 empty ++ (waitSlot ∷ [])))
-    ∷ edge 16 (front ++ times 16 runs) (reads (replicate 16 runSlot))
+    edge 0 (whole 0 []) (reads [])
+    ∷ edge 2 (whole 2 (runs ++ waits)) (reads (runSlot ∷ waitSlot ∷ []))
+    ∷ edge 2 (whole 2 (waits ++ runs)) (reads (waitSlot ∷ runSlot ∷ []))
+    ∷ edge 3 (whole 3 (free ++ waits ++ runs)) (reads (empty ∷ waitSlot ∷ runSlot ∷ []))
+    ∷ edge 3 (whole 3 (free ++ free ++ waits)) (reads (empty ∷ empty ∷ waitSlot ∷ []))
+    ∷ edge 16 (whole 16 (times 15 free ++ waits)) (reads (replicate 15 empty ++ (waitSlot ∷ [])))
+    ∷ edge 16 (whole 16 (times 16 runs)) (reads (replicate 16 runSlot))
+    ∷ []
+
+-- sixteen slots that hold nothing before these bytes, their counts and the idle one
+abbrev freeBefore : List ℕ → List ℕ
+freeBefore l = front ++ times 16 free ++ l
+
+-- what they read as
+abbrev freeReads : (had : List ℕ) (idle : ℕ) → Said Table
+freeReads ns n = gives (withCounts (tableWith 0xA8A7A6A5A4A3A2A1 (replicate 16 empty)) ns n)
+
+-- R81, R95: each count in its place and in no other, the first, the last two, and all of them; any counts may stand there, beside slots that hold nothing too
+abbrev countEdges : List ImageEdge
+countEdges =
+    edge 16 (freeBefore (replicate 136 0)) (freeReads (replicate 16 0) 0)
+    ∷ edge 16 (freeBefore (replicate 8 255 ++ replicate 128 0)) (freeReads (18446744073709551615 ∷ replicate 15 0) 0)
+    ∷ edge 16 (freeBefore (replicate 120 0 ++ replicate 8 255 ++ replicate 8 0)) (freeReads (replicate 15 0 ++ (18446744073709551615 ∷ [])) 0)
+    ∷ edge 16 (freeBefore (replicate 128 0 ++ replicate 8 255)) (freeReads (replicate 16 0) 18446744073709551615)
+    ∷ edge 16 (freeBefore (replicate 136 255)) (freeReads (replicate 16 18446744073709551615) 18446744073709551615)
+    ∷ edge 16 (set (freeBefore (replicate 136 0)) 153 1) (freeReads (1 ∷ replicate 15 0) 0)
+    ∷ edge 16 (set (freeBefore (replicate 136 0)) 160 1) (freeReads (72057594037927936 ∷ replicate 15 0) 0)
+    ∷ edge 16 (set (freeBefore (replicate 136 0)) 161 1) (freeReads (0 ∷ 1 ∷ replicate 14 0) 0)
+    ∷ edge 16 (set (freeBefore (replicate 136 0)) 280 1) (freeReads (replicate 15 0 ++ (72057594037927936 ∷ [])) 0)
+    ∷ edge 16 (set (freeBefore (replicate 136 0)) 281 1) (freeReads (replicate 16 0) 1)
+    ∷ edge 16 (set (freeBefore (replicate 136 0)) 288 1) (freeReads (replicate 16 0) 72057594037927936)
     ∷ []
 
 -- right bytes cut after so many
@@ -126,35 +174,37 @@ cutAt n l m = edge n (take m l) (breaks m)
 -- R83: each length is refused at its end, or at the image's
 abbrev lengthEdges : List ImageEdge
 lengthEdges =
-    map (cutAt 1 (front ++ runs)) (0 ∷ 1 ∷ 8 ∷ 9 ∷ 10 ∷ 17 ∷ [])
-    ++ edge 1 (front ++ runs ++ (0 ∷ [])) (breaks 18)
-    ∷ edge 1 (front ++ runs ++ runs) (breaks 18)
-    ∷ edge 0 (front ++ (0 ∷ [])) (breaks 9)
-    ∷ cutAt 0 front 8
-    ∷ cutAt 16 (front ++ times 16 runs) 144
-    ∷ cutAt 16 (front ++ times 16 runs) 152
-    ∷ edge 16 (front ++ times 16 runs ++ (0 ∷ [])) (breaks 153)
+    map (cutAt 1 (whole 1 runs)) (0 ∷ 1 ∷ 8 ∷ 9 ∷ 10 ∷ 17 ∷ 18 ∷ 19 ∷ 25 ∷ 26 ∷ 33 ∷ [])
+    ++ edge 1 (whole 1 runs ++ (0 ∷ [])) (breaks 34)
+    ∷ edge 1 (whole 1 (runs ++ runs)) (breaks 34)
+    ∷ edge 0 (whole 0 [] ++ (0 ∷ [])) (breaks 17)
+    ∷ map (cutAt 0 (whole 0 [])) (8 ∷ 9 ∷ 16 ∷ [])
+    ++ map (cutAt 16 (whole 16 (times 16 runs))) (144 ∷ 152 ∷ 153 ∷ 154 ∷ 280 ∷ 281 ∷ 288 ∷ [])
+    ++ edge 16 (whole 16 (times 16 runs) ++ (0 ∷ [])) (breaks 289)
+    ∷ edge 16 (whole 16 (times 16 runs) ++ (0 ∷ 0 ∷ [])) (breaks 289)
     ∷ []
 
--- R83: a wrong byte and a wrong length, the lower of the two; a byte that is missing is not wrong, and neither is one behind the image
+-- R83: a wrong byte and a wrong length, the lower of the two; a byte that is missing is not wrong, and neither is one behind the slots
 abbrev orderEdges : List ImageEdge
 orderEdges =
-    edge 1 (take 13 (set (front ++ free) 11 1)) (breaks 11)
-    ∷ edge 1 (take 12 (set (front ++ free) 11 1)) (breaks 11)
-    ∷ edge 1 (take 10 (set (front ++ free) 11 1)) (breaks 10)
-    ∷ edge 1 (take 10 (front ++ waits)) (breaks 10)
-    ∷ edge 2 (take 11 (front ++ runs ++ free)) (breaks 11)
-    ∷ edge 2 (take 10 (front ++ (3 ∷ []))) (breaks 9)
-    ∷ edge 1 (set (front ++ free) 17 1 ++ (0 ∷ [])) (breaks 17)
-    ∷ edge 1 (front ++ free ++ (3 ∷ [])) (breaks 18)
-    ∷ edge 1 (front ++ free ++ (0 ∷ 1 ∷ [])) (breaks 18)
-    ∷ edge 16 (set (front ++ times 16 free) 152 1 ++ (1 ∷ [])) (breaks 152)
-    ∷ edge 16 (front ++ times 16 free ++ (0 ∷ 1 ∷ [])) (breaks 153)
+    edge 1 (take 13 (set (whole 1 free) 11 1)) (breaks 11)
+    ∷ edge 1 (take 12 (set (whole 1 free) 11 1)) (breaks 11)
+    ∷ edge 1 (take 10 (set (whole 1 free) 11 1)) (breaks 10)
+    ∷ edge 1 (take 10 (whole 1 waits)) (breaks 10)
+    ∷ edge 2 (take 11 (whole 2 (runs ++ free))) (breaks 11)
+    ∷ edge 2 (front ++ (3 ∷ [])) (breaks 9)
+    ∷ edge 1 (set (whole 1 free) 17 1 ++ (0 ∷ [])) (breaks 17)
+    ∷ edge 1 (take 33 (set (whole 1 free) 17 1)) (breaks 17)
+    ∷ edge 1 (whole 1 free ++ (3 ∷ [])) (breaks 34)
+    ∷ edge 1 (whole 1 free ++ (0 ∷ 1 ∷ [])) (breaks 34)
+    ∷ edge 16 (set (whole 16 (times 16 free)) 152 1 ++ (1 ∷ [])) (breaks 152)
+    ∷ edge 16 (take 288 (set (whole 16 (times 16 free)) 152 1)) (breaks 152)
+    ∷ edge 16 (whole 16 (times 16 free) ++ (0 ∷ 1 ∷ [])) (breaks 289)
     ∷ []
 
 -- R81, R83: all of them
 unfoldable pub imageEdges : List ImageEdge
-imageEdges = versionEdges ++ kindEdges ++ zeroEdges ++ slotEdges ++ lengthEdges ++ orderEdges
+imageEdges = versionEdges ++ kindEdges ++ zeroEdges ++ slotEdges ++ countEdges ++ lengthEdges ++ orderEdges
 
 -- R31, R81, R83: what each of them is
 pub image-edges : map (λ (e : ImageEdge). loadWith (e .slots) (e .bytes)) imageEdges ≡ map (λ (e : ImageEdge). e .says) imageEdges
@@ -164,48 +214,49 @@ image-edges = refl
 -- R81: each byte of an image stands where its offset says, for tables of none, one, two and sixteen slots
 pub written-edges : map imageOf (
     under [] ∷ under (runSlot ∷ []) ∷ under (waitSlot ∷ runSlot ∷ []) ∷ under (empty ∷ waitSlot ∷ []) ∷ under (replicate 15 empty ++ (runSlot ∷ [])) ∷ [])
-    ≡ front ∷ (front ++ runs) ∷ (front ++ waits ++ runs) ∷ (front ++ free ++ waits) ∷ (front ++ times 15 free ++ runs) ∷ []
+    ≡ whole 0 [] ∷ whole 1 runs ∷ whole 2 (waits ++ runs) ∷ whole 2 (free ++ waits) ∷ whole 16 (times 15 free ++ runs) ∷ []
 unfolding imageOf
 written-edges = refl
 
 -- R3, R82: the greatest numbers have an image too
-pub greatest-written : imageOf (tableWith 18446744073709551615 (running 65535 65535 65535 65535 ∷ waiting 65535 65535 65535 ∷ []))
-    ≡ 1 ∷ replicate 8 255 ++ (1 ∷ replicate 8 255) ++ (2 ∷ replicate 6 255) ++ (0 ∷ 0 ∷ [])
+pub greatest-written : imageOf (
+    withCounts (tableWith 18446744073709551615 (running 65535 65535 65535 65535 ∷ waiting 65535 65535 65535 ∷ [])) (18446744073709551615 ∷ 0 ∷ []) 18446744073709551615)
+    ≡ 2 ∷ replicate 8 255 ++ (1 ∷ replicate 8 255) ++ (2 ∷ replicate 6 255) ++ (0 ∷ 0 ∷ []) ++ replicate 8 255 ++ replicate 8 0 ++ replicate 8 255
 unfolding imageOf
 greatest-written = refl
 
--- R81: for sixteen slots an image has 153 bytes, for one 18
-pub size-edges : map size (0 ∷ 1 ∷ 16 ∷ []) ≡ 9 ∷ 18 ∷ 153 ∷ []
+-- R81: for sixteen slots an image has 289 bytes, for one 34
+pub size-edges : map size (0 ∷ 1 ∷ 16 ∷ []) ≡ 17 ∷ 34 ∷ 289 ∷ []
 size-edges = refl
 
 -- a table of sixteen slots, and its image
 abbrev sixteen : Table
 sixteen = under (runSlot ∷ waitSlot ∷ replicate 14 empty)
 
-abbrev whole : List ℕ
-whole = front ++ runs ++ waits ++ times 14 free
+abbrev sixteenBytes : List ℕ
+sixteenBytes = whole 16 (runs ++ waits ++ times 14 free)
 
 -- a buffer of n bytes that are no image's
 abbrev lent : ℕ → List ℕ
 lent n = replicate n 0xEE
 
 -- R33, R84: the room for an image, on both sides
-pub room-edges : map storeOf (0 ∷ 9 ∷ 152 ∷ 153 ∷ 154 ∷ 1000 ∷ [])
-    ≡ refuses (refusal 13 0) ∷ refuses (refusal 13 0) ∷ refuses (refusal 13 0) ∷ gives 153 ∷ gives 153 ∷ gives 153 ∷ []
+pub room-edges : map storeOf (0 ∷ 9 ∷ 153 ∷ 288 ∷ 289 ∷ 290 ∷ 1000 ∷ [])
+    ≡ refuses (refusal 13 0) ∷ refuses (refusal 13 0) ∷ refuses (refusal 13 0) ∷ refuses (refusal 13 0) ∷ gives 289 ∷ gives 289 ∷ gives 289 ∷ []
 unfolding storeOf
 room-edges = refl
 
 -- R84: the image at the start of the buffer, and behind it the bytes as they were; all as they were where it does not fit
-pub stored-edges : map (storedIn sixteen) ([] ∷ lent 152 ∷ lent 153 ∷ (lent 153 ++ (0xDD ∷ [])) ∷ (lent 153 ++ (0xDD ∷ 0xCC ∷ 0xBB ∷ [])) ∷ [])
-    ≡ [] ∷ lent 152 ∷ whole ∷ (whole ++ (0xDD ∷ [])) ∷ (whole ++ (0xDD ∷ 0xCC ∷ 0xBB ∷ [])) ∷ []
+pub stored-edges : map (storedIn sixteen) ([] ∷ lent 153 ∷ lent 288 ∷ lent 289 ∷ (lent 289 ++ (0xDD ∷ [])) ∷ (lent 289 ++ (0xDD ∷ 0xCC ∷ 0xBB ∷ [])) ∷ [])
+    ≡ [] ∷ lent 153 ∷ lent 288 ∷ sixteenBytes ∷ (sixteenBytes ++ (0xDD ∷ [])) ∷ (sixteenBytes ++ (0xDD ∷ 0xCC ∷ 0xBB ∷ [])) ∷ []
 unfolding storeOf imageOf
 stored-edges = refl
 
 -- R84: what is handed out: a table with its answer, and with a refusal the empty table of sixteen slots
-pub handed-edges : map (λ (l : List ℕ). handedOut (loadOf l)) (whole ∷ take 152 whole ∷ (whole ++ (0 ∷ [])) ∷ set whole 144 3 ∷ set whole 0 2 ∷ [])
+pub handed-edges : map (λ (l : List ℕ). handedOut (loadOf l)) (sixteenBytes ∷ take 288 sixteenBytes ∷ (sixteenBytes ++ (0 ∷ [])) ∷ set sixteenBytes 144 3 ∷ set sixteenBytes 0 1 ∷ [])
     ≡ record { table = sixteen; answer = LoadAnswer.Read }
-    ∷ record { table = tableWith 0 (replicate 16 empty); answer = LoadAnswer.Refused (refusal 11 152) }
-    ∷ record { table = tableWith 0 (replicate 16 empty); answer = LoadAnswer.Refused (refusal 11 153) }
+    ∷ record { table = tableWith 0 (replicate 16 empty); answer = LoadAnswer.Refused (refusal 11 288) }
+    ∷ record { table = tableWith 0 (replicate 16 empty); answer = LoadAnswer.Refused (refusal 11 289) }
     ∷ record { table = tableWith 0 (replicate 16 empty); answer = LoadAnswer.Refused (refusal 11 144) }
     ∷ record { table = tableWith 0 (replicate 16 empty); answer = LoadAnswer.Refused (refusal 11 0) }
     ∷ []

@@ -1,19 +1,31 @@
--- Four numbers of two bytes as one number of eight, and back (R81).
-use mathlib.Core.Path.{_≡_, sym, ap, _∙_}
+-- Numbers of eight bytes (R81): at an offset, and four numbers of two bytes as one and back.
+use mathlib.Core.Path.{_≡_, refl, sym, ap, ap₂, _∙_}
 use mathlib.Core.List.{List, _∷_, _++_}
-use Prim.Native.Nat.{ℕ, suc, _+_, _*_, _/_, _%_, _<_}
+use Prim.Native.Nat.{ℕ, zero, suc, _+_, _*_, _/_, _%_, _<_}
 use native.Mathlib.Omega.{arith}
+use native.Mathlib.Nat.{add-zero}
 use lib.ListN.{drop}
+use lib.Seq.{getD-drop}
 use borrow.Author.Tests.{ne-eqb}
 use Rattle.line.specs.declared.Run.{Run}
 use Rattle.line.specs.declared.Wait.{Wait}
 use Rattle.line.specs.declared.Held.{Held}
 use Rattle.line.specs.declared.Held.the-variants.{Nothing, Running, Waiting}
 use Rattle.line.specs.Slots.{runWith, waitWith, holding, empty}
-use Rattle.card.specs.Bytes.{le, value}
-use Rattle.card.proofs.Numbers.{two-of}
+use Rattle.card.specs.Bytes.{Bytes, le, value}
+use Rattle.card.proofs.Numbers.{value-lt, two-of}
 use Rattle.image.specs.Image.{slotBytes}
-use Rattle.image.specs.Loading.{byte, FourNarrow, heldIn}
+use Rattle.image.specs.Loading.{byte, heldIn}
+
+value-drop : (n a : ℕ) (l : List ℕ) (at : ℕ) → value n (drop a l) at ≡ value n l (a + at)
+value-drop zero a l at = refl
+value-drop (suc n) a l at =
+    let e : a + suc at ≡ suc (a + at) = omega arith in
+    ap₂ (λ (b v : ℕ). b + 256 * v) (getD-drop a l at 0) (value-drop n a l (suc at) ∙ ap (value n l) e)
+
+-- R81: a number at an offset is the one in front of what is left there
+pub value-front : (n a : ℕ) (l : List ℕ) → value n (drop a l) 0 ≡ value n l a
+value-front n a l = value-drop n a l 0 ∙ ap (value n l) (add-zero a)
 
 -- a number of two bytes below others
 two-more : (n a v : ℕ) → a < 65536 → le (suc (suc n)) (a + 65536 * v) ≡ le 2 a ++ le n v
@@ -33,25 +45,25 @@ value-more : (n : ℕ) (l : List ℕ) (at : ℕ) → value (suc (suc n)) l at �
 value-more n l at = omega arith
 
 -- the four numbers, as the code takes them out of the one
-module _ (l : List ℕ) (h : FourNarrow l) {v : ℕ} (e : v ≡ value 8 l 1) where
+module _ (l : List ℕ) (b : Bytes l) {v : ℕ} (e : v ≡ value 8 l 1) where
   first : v % 65536 ≡ value 2 l 1
-  first = omega (arith, value-more 6 l 1, h .0)
+  first = omega (arith, value-more 6 l 1, value-lt 2 l 1 b)
 
   rest : v / 65536 ≡ value 6 l 3
-  rest = omega (arith, value-more 6 l 1, h .0)
+  rest = omega (arith, value-more 6 l 1, value-lt 2 l 1 b)
 
   second : v / 65536 % 65536 ≡ value 2 l 3
-  second = omega (arith, rest, value-more 4 l 3, h .1)
+  second = omega (arith, rest, value-more 4 l 3, value-lt 2 l 3 b)
 
   half : v / 4294967296 ≡ value 4 l 5
-  half = omega (arith, rest, value-more 4 l 3, h .1)
+  half = omega (arith, rest, value-more 4 l 3, value-lt 2 l 3 b)
 
   third : v / 4294967296 % 65536 ≡ value 2 l 5
-  third = omega (arith, half, value-more 2 l 5, h .2)
+  third = omega (arith, half, value-more 2 l 5, value-lt 2 l 5 b)
 
   -- the last of the four
   pub fourth : v / 281474976710656 % 65536 ≡ value 2 l 7
-  fourth = omega (arith, half, value-more 2 l 5, h .2, h .3)
+  fourth = omega (arith, half, value-more 2 l 5, value-lt 2 l 5 b, value-lt 2 l 7 b)
 
   -- R81: a slot of kind 1 holds the running line of the four numbers
   pub running-in : byte l 0 ≡ 1 → {n p a r : ℕ} → n ≡ v % 65536 → p ≡ v / 65536 % 65536 → a ≡ v / 4294967296 % 65536 → r ≡ v / 281474976710656 % 65536

@@ -24,8 +24,8 @@ use Rattle.image.specs.Answers.{handedOut}
 use Rattle.image.proofs.Eight.{fourth}
 use Rattle.image.proofs.WritesBack.{nothing-wrong}
 use Rattle.image.specs.Image.{version, size}
-use Rattle.card.specs.Bytes.{value}
-use Rattle.image.specs.Loading.{FourNarrow, byte, blankFrom, isWrong, slotWrong, onBy, slotsWrong, lengthWrong, wrongIn, tableIn, unlessWrong, loadWith}
+use Rattle.card.specs.Bytes.{Bytes, value}
+use Rattle.image.specs.Loading.{byte, blankFrom, isWrong, slotWrong, onBy, slotsWrong, lengthWrong, wrongIn, tableIn, unlessWrong, loadWith}
 
 module _ (k : ℕ) where
   -- R83: after kind 0 nothing stands
@@ -111,20 +111,20 @@ zeros-right l z =
 
 module _ (l : List ℕ) where
   -- R83: nothing stands after kind 0
-  pub right-nothing : byte l 0 ≡ 0 → {v : ℕ} → (v ≡ value 8 l 1) × FourNarrow l → {b : Bool} → b ≡ eqb v 0 → b ≡ true → slotWrong l ≡ none
+  pub right-nothing : byte l 0 ≡ 0 → {v : ℕ} → v ≡ value 8 l 1 → {b : Bool} → b ≡ eqb v 0 → b ≡ true → slotWrong l ≡ none
   right-nothing k {v} e f t =
       zeros-right l (λ i h p.
       let f0 = blank-nothing (byte l 0) k in
-      let z : getD l (1 + (i - 1)) 0 ≡ 0 = value-zero 8 l 1 (sym (e .0) ∙ eqb-true v 0 (sym f ∙ t)) (i - 1) (omega arith) in
+      let z : getD l (1 + (i - 1)) 0 ≡ 0 = value-zero 8 l 1 (sym e ∙ eqb-true v 0 (sym f ∙ t)) (i - 1) (omega arith) in
       let j : i ≡ 1 + (i - 1) = omega (arith, f0 .0) in
       rw j z)
 
   -- R83: after kind 2 six bytes are a line's, and the last two are none's
-  pub right-waiting : byte l 0 ≡ 2 → {v : ℕ} → (v ≡ value 8 l 1) × FourNarrow l → {b : Bool} → b ≡ ltb v 281474976710656 → b ≡ true → slotWrong l ≡ none
-  right-waiting k {v} e f t =
+  pub right-waiting : byte l 0 ≡ 2 → Bytes l → {v : ℕ} → v ≡ value 8 l 1 → {b : Bool} → b ≡ ltb v 281474976710656 → b ≡ true → slotWrong l ≡ none
+  right-waiting k bs {v} e f t =
       zeros-right l (λ i h p.
       let f0 = blank-waiting (byte l 0) k in
-      let w : value 2 l 7 ≡ 0 = omega (arith, fourth l (e .1) (e .0), ltb-true v 281474976710656 (sym f ∙ t)) in
+      let w : value 2 l 7 ≡ 0 = omega (arith, fourth l bs e, ltb-true v 281474976710656 (sym f ∙ t)) in
       let z : getD l (7 + (i - 7)) 0 ≡ 0 = value-zero 2 l 7 w (i - 7) (omega (arith, f0 .0)) in
       let j : i ≡ 7 + (i - 7) = omega (arith, f0 .0) in
       rw j z)

@@ -1,5 +1,6 @@
--- The laws of images: numbers in a slot's bytes, the search for a wrong byte, the loops over the slots; the round trips, the refusals, the edges.
+-- The laws of images: numbers of eight bytes, series, the search for a wrong byte, the loops over slots and counts; the round trips, the refusals, the edges.
 pub mod Eight
+pub mod Series
 pub mod ReadsBack
 pub mod WritesBack
 pub mod Exactly

@@ -1,21 +1,25 @@
 -- An image loads as its table (R82), and how long it is.
 use mathlib.Core.Path.{_≡_, refl, sym, ap, ap₂, _∙_}
-use mathlib.Core.List.{List, [], _∷_, _++_}
+use mathlib.Core.List.{List, [], _∷_, _++_, append-assoc}
 use mathlib.Core.Option.{Option, none}
 use Prim.Native.Nat.{ℕ, _+_, _*_, _<_}
 use native.Mathlib.Omega.{arith}
 use lib.ListN.{length, drop, length-append}
+use lib.Seq.{drop-at, drop-drop}
 use borrow.Author.Tests.{eq-eqb}
+use Rattle.periods.specs.Multiples.{All}
 use Rattle.line.specs.declared.Held.{Held}
 use Rattle.line.specs.declared.Held.the-variants.{Nothing, Running, Waiting}
 use Rattle.line.specs.declared.Slot.{Slot}
-use Rattle.line.specs.Slots.{lowest}
+use Rattle.line.specs.Slots.{holding, lowest}
 use Rattle.table.specs.declared.Table.{Table}
-use Rattle.table.specs.Words.{tableWith, Said, gives}
-use Rattle.card.specs.Bytes.{value}
+use Rattle.table.specs.Words.{tableWith, withCounts, Said, gives}
+use Rattle.card.specs.Bytes.{le, value}
 use Rattle.card.proofs.Numbers.{value-le}
-use Rattle.image.specs.Image.{size, nine, byFields, slotBytes, slotsBytes, imageOf, Narrow, AllNarrow, TableWidths}
-use Rattle.image.specs.Loading.{blankFrom, slotWrong, slotsWrong, lengthWrong, wrongIn, heldIn, slotsIn, tableIn, unlessWrong, loadWith}
+use Rattle.image.specs.Image.{version, countsAt, idleAt, size, nine, byFields, slotBytes, slotsBytes, countsBytes, imageOf, Narrow, AllNarrow, InEight, TableWidths}
+use Rattle.image.specs.Loading.{byte, blankFrom, slotWrong, slotsWrong, lengthWrong, wrongIn, heldIn, slotsIn, countsIn, tableIn, unlessWrong, loadWith}
+use Rattle.image.proofs.Eight.{value-front}
+use Rattle.image.proofs.Series.{length-series, series-back}
 
 -- what holds of any kind up to 2 and any four numbers holds of what a slot holds
 pub of-fields : {A : Type 0} (P : A → Type 0) (f : ℕ → ℕ → ℕ → ℕ → ℕ → A) → ((k a b c d : ℕ) → k < 3 → P (f k a b c d)) → (h : Held) → P (byFields f h)
@@ -29,13 +33,19 @@ length-slot h = of-fields (λ l. length l ≡ 9) nine (λ k a b c d q. refl) h
 
 -- R81: so many slots have nine times as many
 pub length-slots : (ss : List Slot) → length (slotsBytes ss) ≡ 9 * length ss
-length-slots [] = refl
-length-slots (s ∷ ss) = omega (arith, length-append (slotBytes (s .held)) (slotsBytes ss), length-slot (s .held), length-slots ss)
+length-slots ss = length-series (λ (s : Slot). slotBytes (s .held)) 9 (λ s. length-slot (s .held)) ss
+
+-- R81: and so many counts eight times
+pub length-counts : (ns : List ℕ) → length (countsBytes ns) ≡ 8 * length ns
+length-counts ns = length-series (le 8) 8 (λ v. refl) ns
 
 -- R81: how long an image is
-pub length-image : (n : ℕ) (t : Table) → length (t .slots) ≡ n → length (imageOf t) ≡ size n
+pub length-image : (n : ℕ) (t : Table) → length (t .slots) ≡ n → length (t .had) ≡ n → length (imageOf t) ≡ size n
 unfolding imageOf
-length-image n t e = omega (arith, length-slots (t .slots))
+length-image n t e f =
+    let s = slotsBytes (t .slots) in
+    let c = countsBytes (t .had) in
+    omega (arith, length-append (s ++ c) (le 8 (t .idle)), length-append s c, length-slots (t .slots), length-counts (t .had))
 
 -- R82: nothing is wrong with a slot's nine bytes, what it holds stands in them, and what follows stands behind them
 pub loads-slot : (h : Held) (x : List ℕ) → Narrow h
@@ -56,31 +66,84 @@ loads-slot (Waiting w) x f =
     let c : value 2 l 5 ≡ w .wait = value-le 2 (w .wait) [] (f .2) in
     (refl, simp (a, b, c), refl)
 
--- R82: the slots one by one, from any offset on
-pub loads-slots : (ss : List Slot) (at : ℕ) → AllNarrow ss
-    → (slotsWrong (length ss) at (slotsBytes ss) ≡ none) × (slotsIn (length ss) (slotsBytes ss) ≡ ss)
+-- R83: nothing is wrong with the slots one by one, from any offset on, whatever follows them
+no-slot-wrong : (ss : List Slot) (at : ℕ) (y : List ℕ) → AllNarrow ss → slotsWrong (length ss) at (slotsBytes ss ++ y) ≡ none
 unfolding slotsWrong
-loads-slots [] at f = (refl, refl)
-loads-slots (s ∷ ss) at f =
-    let e = loads-slot (s .held) (slotsBytes ss) (f .0) in
-    let i = loads-slots ss (at + 9) (f .1) in
-    (rw (e .0, e .2) (i .0), rw (e .1, e .2, i .1))
+no-slot-wrong [] at y f = refl
+no-slot-wrong (s ∷ ss) at y f =
+    let e = loads-slot (s .held) (slotsBytes ss ++ y) (f .0) in
+    rw (append-assoc (slotBytes (s .held)) (slotsBytes ss) y, e .0, e .2) (no-slot-wrong ss (at + 9) y (f .1))
 
--- R83: nothing is wrong with an image
-pub image-right : (n : ℕ) (t : Table) → TableWidths n t → wrongIn n (imageOf t) ≡ none
-unfolding wrongIn lengthWrong imageOf
-image-right n t w =
-    let e : slotsWrong n 9 (slotsBytes (t .slots)) ≡ none = rw (w .slots) at (loads-slots (t .slots) 9 (w .lines) .0) in
-    rw (e, eq-eqb (length (imageOf t)) (size n) (length-image n t (w .slots)))
+-- R82: the slots are what stands in their bytes
+slots-back : (ss : List Slot) (y : List ℕ) → AllNarrow ss → slotsIn (length ss) (slotsBytes ss ++ y) ≡ ss
+slots-back =
+    series-back 9 (λ (x : List ℕ). holding (heldIn x)) (λ (s : Slot). slotBytes (s .held)) (λ (s : Slot). Narrow (s .held))
+    (λ s y f. let e = loads-slot (s .held) y f in (ap holding (e .1), e .2))
 
--- R82: an image loads as its table
-pub loads-back : (n : ℕ) (t : Table) → TableWidths n t → loadWith n (imageOf t) ≡ gives t
-unfolding loadWith imageOf
-loads-back n t w =
-    let c : value 8 (imageOf t) 1 ≡ t .clock = value-le 8 (t .clock) [] (w .clock) in
-    let e : slotsIn n (slotsBytes (t .slots)) ≡ t .slots = rw (w .slots) at (loads-slots (t .slots) 9 (w .lines) .1) in
-    ap (λ (o : Option ℕ). unlessWrong o (tableIn n (imageOf t))) (image-right n t w)
-    ∙ ap₂ (λ (k : ℕ) (ss : List Slot). gives (tableWith k ss)) c e
+-- R82: and the counts in theirs
+counts-back : (ns : List ℕ) (y : List ℕ) → All InEight ns → countsIn (length ns) (countsBytes ns ++ y) ≡ ns
+counts-back = series-back 8 (λ (x : List ℕ). value 8 x 0) (le 8) InEight (λ v y h. (value-le 8 v y h, refl))
+
+-- a table with the code's widths, and what stands in its image behind its front, behind the slots and behind their counts
+module _ (n : ℕ) (t : Table) (w : TableWidths n t) where
+  first-byte : byte (imageOf t) 0 ≡ version
+  unfolding imageOf
+  first-byte = refl
+
+  abbrev tail : List ℕ
+  tail = countsBytes (t .had) ++ le 8 (t .idle)
+
+  behind-front : drop 9 (imageOf t) ≡ slotsBytes (t .slots) ++ tail
+  unfolding imageOf
+  behind-front = append-assoc (slotsBytes (t .slots)) (countsBytes (t .had)) (le 8 (t .idle))
+
+  behind-slots : drop (countsAt n) (imageOf t) ≡ tail
+  behind-slots =
+      sym (drop-drop (9 * n) 9 (imageOf t)) ∙ ap (drop (9 * n)) behind-front
+      ∙ drop-at (slotsBytes (t .slots)) tail (9 * n) (length-slots (t .slots) ∙ ap (λ (k : ℕ). 9 * k) (w .slots))
+
+  behind-counts : drop (idleAt n) (imageOf t) ≡ le 8 (t .idle)
+  behind-counts =
+      sym (drop-drop (8 * n) (countsAt n) (imageOf t)) ∙ ap (drop (8 * n)) behind-slots
+      ∙ drop-at (countsBytes (t .had)) (le 8 (t .idle)) (8 * n) (length-counts (t .had) ∙ ap (λ (k : ℕ). 8 * k) (w .counts))
+
+  slots-stored : slotsWrong n 9 (drop 9 (imageOf t)) ≡ none
+  slots-stored =
+      ap (slotsWrong n 9) behind-front ∙ ap (λ (k : ℕ). slotsWrong k 9 (slotsBytes (t .slots) ++ tail)) (sym (w .slots))
+      ∙ no-slot-wrong (t .slots) 9 tail (w .lines)
+
+  -- R83: nothing is wrong with an image
+  pub image-right : wrongIn n (imageOf t) ≡ none
+  unfolding wrongIn lengthWrong
+  image-right = rw (first-byte, slots-stored, eq-eqb (length (imageOf t)) (size n) (length-image n t (w .slots) (w .counts)))
+
+  clock-back : value 8 (imageOf t) 1 ≡ t .clock
+  unfolding imageOf
+  clock-back = value-le 8 (t .clock) [] (w .clock)
+
+  -- R82: the table in an image is the one that it is of
+  table-back : tableIn n (imageOf t) ≡ t
+  table-back =
+      ap₂ (λ (k : ℕ) (ss : List Slot). withCounts (tableWith k ss) (countsIn n (drop (countsAt n) (imageOf t))) (value 8 (imageOf t) (idleAt n))) clock-back slots
+      ∙ ap₂ (λ (ns : List ℕ) (v : ℕ). withCounts (tableWith (t .clock) (t .slots)) ns v) had idle
+    where
+      slots : slotsIn n (drop 9 (imageOf t)) ≡ t .slots
+      slots =
+          ap (slotsIn n) behind-front ∙ ap (λ (k : ℕ). slotsIn k (slotsBytes (t .slots) ++ tail)) (sym (w .slots))
+          ∙ slots-back (t .slots) tail (w .lines)
+
+      had : countsIn n (drop (countsAt n) (imageOf t)) ≡ t .had
+      had =
+          ap (countsIn n) behind-slots ∙ ap (λ (k : ℕ). countsIn k tail) (sym (w .counts))
+          ∙ counts-back (t .had) (le 8 (t .idle)) (w .had)
+
+      idle : value 8 (imageOf t) (idleAt n) ≡ t .idle
+      idle = sym (value-front 8 (idleAt n) (imageOf t)) ∙ ap (λ (x : List ℕ). value 8 x 0) behind-counts ∙ value-le 8 (t .idle) [] (w .idle)
+
+  -- R82: an image loads as its table
+  pub loads-back : loadWith n (imageOf t) ≡ gives t
+  unfolding loadWith
+  loads-back = ap (λ (o : Option ℕ). unlessWrong o (tableIn n (imageOf t))) image-right ∙ ap gives table-back
 
 -- R82: no two tables have the same image
 pub one-image : (n : ℕ) (t u : Table) → TableWidths n t → TableWidths n u → imageOf t ≡ imageOf u → t ≡ u

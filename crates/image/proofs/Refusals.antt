@@ -19,6 +19,7 @@ use Rattle.table.specs.declared.Refusal.{Refusal}
 use Rattle.table.specs.Words.{refusal, gives, refuses}
 use Rattle.image.specs.Image.{size}
 use Rattle.image.specs.Loading.{byte, blankFrom, isWrong, slotWrong, onBy, slotsWrong, versionWrong, lengthWrong, wrongIn, tableIn, unlessWrong, loadWith}
+use Rattle.image.proofs.Series.{next-drop}
 use Rattle.image.proofs.WritesBack.{loads-says}
 
 -- R83: byte i of the slot in front is wrong: a kind above 2, one of the last eight of a slot that holds nothing, one of the last two of a waiting line
@@ -29,7 +30,7 @@ pub data WrongByte (l : List ℕ) (i : ℕ) : Type 0 where
 
 -- R83: something is wrong at offset p: the first byte, a byte of a slot, the length
 pub data Wrong (n : ℕ) (l : List ℕ) (p : ℕ) : Type 0 where
-  version : p ≡ 0 → (byte l 0 ≡ 1 → ⊥) → Wrong n l p
+  version : p ≡ 0 → (byte l 0 ≡ 2 → ⊥) → Wrong n l p
   slot : (k i : ℕ) → k < n → p ≡ 9 + 9 * k + i → WrongByte (drop (9 + 9 * k) l) i → Wrong n l p
   ending : (length l ≡ size n → ⊥) → p ≡ min (length l) (size n) → Wrong n l p
 
@@ -106,22 +107,18 @@ module _ (l : List ℕ) where
 abbrev InSlots : (n at : ℕ) → List ℕ → ℕ → Type 0
 InSlots n at l q = (k i : ℕ) × (k < n) × (q ≡ at + 9 * k + i) × WrongByte (drop (9 * k) l) i
 
--- the slots behind the one in front
-next-slot : (k : ℕ) (l : List ℕ) → drop (9 * k) (drop 9 l) ≡ drop (9 * suc k) l
-next-slot k l = let e : 9 + 9 * k ≡ 9 * suc k = omega arith in drop-drop (9 * k) 9 l ∙ ap (λ (d : ℕ). drop d l) e
-
 -- the slot in front, or one of those behind it
 first-or : (n at : ℕ) (l : List ℕ) (q : ℕ)
     → ((i : ℕ) × (q ≡ at + i) × WrongByte l i) ⊎ InSlots n (at + 9) (drop 9 l) q → InSlots (suc n) at l q
 first-or n at l q (inl x) = (0, x .0, omega arith, omega (arith, x .1), x .2)
 first-or n at l q (inr x) =
-    (suc (x .0), x .1, omega (arith, x .2), omega (arith, x .3), rw (next-slot (x .0) l) at (x .4))
+    (suc (x .0), x .1, omega (arith, x .2), omega (arith, x .3), rw (next-drop 9 (x .0) l) at (x .4))
 
 or-first : (n at : ℕ) (l : List ℕ) (q k i : ℕ) → k < suc n → q ≡ at + 9 * k + i → WrongByte (drop (9 * k) l) i
     → ((j : ℕ) × (q ≡ at + j) × WrongByte l j) ⊎ InSlots n (at + 9) (drop 9 l) q
 or-first n at l q zero i h e w = inl (i, omega arith, w)
 or-first n at l q (suc k) i h e w =
-    inr (k, i, omega arith, omega arith, rw (next-slot k l) w)
+    inr (k, i, omega arith, omega arith, rw (next-drop 9 k l) w)
 
 -- R83: the lowest wrong byte of n slots
 slots-least : (n at : ℕ) (l : List ℕ) → Least (InSlots n at l) (slotsWrong n at l)
@@ -159,17 +156,17 @@ module _ (n : ℕ) (l : List ℕ) where
 
   -- the three grounds, each by itself
   abbrev OfVersion : ℕ → Type 0
-  OfVersion q = (q ≡ 0) × (byte l 0 ≡ 1 → ⊥)
+  OfVersion q = (q ≡ 0) × (byte l 0 ≡ 2 → ⊥)
 
   abbrev OfLength : ℕ → Type 0
   OfLength q = (length l ≡ size n → ⊥) × (q ≡ min (length l) (size n))
 
   version-least : Least OfVersion (versionWrong l)
-  version-least = go (eqb (byte l 0) 1) refl
+  version-least = go (eqb (byte l 0) 2) refl
     where
-      go : (o : Bool) → eqb (byte l 0) 1 ≡ o → Least OfVersion (pick o none (some 0))
-      go true e = λ q x. x .1 (eqb-true (byte l 0) 1 e)
-      go false e = ((refl, eqb-false (byte l 0) 1 e), λ q x. omega arith)
+      go : (o : Bool) → eqb (byte l 0) 2 ≡ o → Least OfVersion (pick o none (some 0))
+      go true e = λ q x. x .1 (eqb-true (byte l 0) 2 e)
+      go false e = ((refl, eqb-false (byte l 0) 2 e), λ q x. omega arith)
 
   length-least : Least OfLength (lengthWrong (size n) (length l))
   unfolding lengthWrong

@@ -1,23 +1,26 @@
 -- An image that loads is stored byte for byte as it was (R82).
 use mathlib.Core.Path.{_≡_, refl, sym, ap, ap₂, _∙_}
-use mathlib.Core.List.{List, _∷_, _++_}
+use mathlib.Core.List.{List, _∷_, _++_, append-assoc}
 use mathlib.Core.Bool.{Bool, true, false}
 use mathlib.Core.Option.{Option, none, some}
 use Prim.Native.Nat.{ℕ, zero, suc, _+_, _*_, _≤_, _<_}
 use native.Mathlib.Omega.{arith}
 use lib.ListN.{length, drop, length-drop, drop-of-length-le}
-use lib.Seq.{drop-cons}
+use lib.Seq.{drop-cons, drop-drop}
 use lib.Dec.{eqb, ltb}
 use borrow.Author.Tests.{ltb-false, le-leb, eqb-true}
+use Rattle.periods.specs.Multiples.{All}
 use Rattle.line.specs.declared.Held.the-variants.{Nothing, Running, Waiting}
-use Rattle.line.specs.Slots.{pick, orElse}
+use Rattle.line.specs.declared.Slot.{Slot}
+use Rattle.line.specs.Slots.{pick, holding, orElse}
 use Rattle.line.proofs.Search.{lowest-none}
 use Rattle.table.specs.declared.Table.{Table}
 use Rattle.table.specs.Words.{gives}
 use Rattle.card.specs.Bytes.{Bytes, le, value}
 use Rattle.card.proofs.Numbers.{bytes-drop, le-value, value-lt}
-use Rattle.image.specs.Image.{version, size, nine, slotBytes, slotsBytes, imageOf, Narrow, AllNarrow, TableWidths}
-use Rattle.image.specs.Loading.{byte, blankFrom, isWrong, slotWrong, onBy, slotsWrong, versionWrong, lengthWrong, wrongIn, runIn, waitIn, heldIn, slotsIn, tableIn, unlessWrong, loadWith}
+use Rattle.image.specs.Image.{version, countsAt, idleAt, size, nine, slotBytes, slotsBytes, countsBytes, imageOf, Narrow, AllNarrow, InEight, TableWidths}
+use Rattle.image.specs.Loading.{byte, blankFrom, isWrong, slotWrong, onBy, slotsWrong, versionWrong, lengthWrong, wrongIn, runIn, waitIn, heldIn, slotsIn, countsIn, tableIn, unlessWrong, loadWith}
+use Rattle.image.proofs.Series.{next-drop, length-found, series-stand}
 
 -- where a first and a second find none, neither finds one
 pub or-none : (o p : Option ℕ) → orElse o p ≡ none → (o ≡ none) × (p ≡ none)
@@ -89,19 +92,32 @@ module _ (l : List ℕ) (w : slotWrong l ≡ none) where
             (omega arith, omega arith, omega arith, omega arith),
           )
 
--- R82: the bytes of n slots are what the slots hold
-pub slots-stand : (n at : ℕ) (l : List ℕ) → Bytes l → length l ≡ 9 * n → slotsWrong n at l ≡ none
-    → (slotsBytes (slotsIn n l) ≡ l) × (length (slotsIn n l) ≡ n) × AllNarrow (slotsIn n l)
+-- R83: where nothing is wrong with n slots nothing is wrong with one of them
+each-right : (n at : ℕ) (l : List ℕ) → slotsWrong n at l ≡ none → (i : ℕ) → i < n → slotWrong (drop (9 * i) l) ≡ none
 unfolding slotsWrong
-slots-stand zero at l b h w = (sym (drop-of-length-le l {i = 0} (omega arith)), refl, tt)
-slots-stand (suc n) at l b h w =
+each-right zero at l w i h = absurd (omega arith)
+each-right (suc n) at l w zero h = on-none at (slotWrong l) (or-none (onBy at (slotWrong l)) (slotsWrong n (at + 9) (drop 9 l)) w .0)
+each-right (suc n) at l w (suc i) h =
     let v = or-none (onBy at (slotWrong l)) (slotsWrong n (at + 9) (drop 9 l)) w in
-    let s = stands l (on-none at (slotWrong l) (v .0)) b (omega arith) in
-    let i = slots-stand n (at + 9) (drop 9 l) (bytes-drop 9 l b) (omega (arith, length-drop 9 l)) (v .1) in
-    (ap (λ (x : List ℕ). slotBytes (heldIn l) ++ x) (i .0) ∙ sym (s .0), ap suc (i .1), (s .1, i .2))
+    rw (sym (next-drop 9 i l)) (each-right n (at + 9) (drop 9 l) (v .1) i (omega arith))
+
+-- R82: the bytes of n slots are what the slots hold
+slots-stand : (n at : ℕ) (l : List ℕ) → Bytes l → 9 * n ≤ length l → slotsWrong n at l ≡ none
+    → (slotsBytes (slotsIn n l) ++ drop (9 * n) l ≡ l) × AllNarrow (slotsIn n l)
+slots-stand n at l b h w =
+    series-stand 9 (λ (x : List ℕ). holding (heldIn x)) (λ (s : Slot). slotBytes (s .held)) (λ (s : Slot). Narrow (s .held)) n l
+    (λ i k. stands (drop (9 * i) l) (each-right n at l w i k) (bytes-drop (9 * i) l b) (omega (arith, length-drop (9 * i) l)))
+
+-- R82: the bytes of n counts are the counts
+counts-stand : (n : ℕ) (l : List ℕ) → Bytes l → 8 * n ≤ length l
+    → (countsBytes (countsIn n l) ++ drop (8 * n) l ≡ l) × All InEight (countsIn n l)
+counts-stand n l b h =
+    series-stand 8 (λ (x : List ℕ). value 8 x 0) (le 8) InEight n l
+    (λ i k. let c = bytes-drop (8 * i) l b in
+    (le-value 8 (drop (8 * i) l) 0 c (omega (arith, length-drop (8 * i) l)), value-lt 8 (drop (8 * i) l) 0 c))
 
 -- R83: where nothing is wrong the version is right, the slots are, and the length is
-pub nothing-wrong : (n : ℕ) (l : List ℕ) → wrongIn n l ≡ none → (byte l 0 ≡ 1) × (slotsWrong n 9 (drop 9 l) ≡ none) × (length l ≡ size n)
+pub nothing-wrong : (n : ℕ) (l : List ℕ) → wrongIn n l ≡ none → (byte l 0 ≡ version) × (slotsWrong n 9 (drop 9 l) ≡ none) × (length l ≡ size n)
 unfolding wrongIn lengthWrong
 nothing-wrong n l w =
     let v = or-none (versionWrong l) _ w in
@@ -122,18 +138,42 @@ pub loaded-length : (n : ℕ) (l : List ℕ) (t : Table) → loadWith n l ≡ gi
 loaded-length n l t e = nothing-wrong n l (loads-says n l t e .0) .2
 
 -- the version, the clock, and what follows
-front-is : (l : List ℕ) → Bytes l → 9 ≤ length l → byte l 0 ≡ 1 → l ≡ (version ∷ le 8 (value 8 l 1)) ++ drop 9 l
+front-is : (l : List ℕ) → Bytes l → 9 ≤ length l → byte l 0 ≡ version → l ≡ (version ∷ le 8 (value 8 l 1)) ++ drop 9 l
 front-is l b h v =
     drop-cons l 0 0 (omega arith) ∙ ap₂ (λ (k : ℕ) (x : List ℕ). k ∷ x) v (le-value 8 l 1 b (omega arith))
+
+-- the idle count, where nothing follows
+idle-is : (n : ℕ) (l : List ℕ) → Bytes l → length l ≡ size n → le 8 (value 8 l (idleAt n)) ≡ drop (idleAt n) l
+idle-is n l b h =
+    sym (le-value 8 l (idleAt n) b (omega arith)
+    ∙ ap (λ (x : List ℕ). le 8 (value 8 l (idleAt n)) ++ x) (drop-of-length-le l {i = idleAt n + 8} (omega arith)))
+
+-- bytes f, s, c and d one after the other, each up to where the next begins
+joined : (l : List ℕ) (a b : ℕ) (f s c d : List ℕ) → d ≡ drop b (drop a (drop 9 l)) → c ++ drop b (drop a (drop 9 l)) ≡ drop a (drop 9 l)
+    → s ++ drop a (drop 9 l) ≡ drop 9 l → l ≡ f ++ drop 9 l → f ++ s ++ c ++ d ≡ l
+joined l a b f s c d ed ec es ef =
+    append-assoc (f ++ s) c d ∙ ap (λ (x : List ℕ). f ++ s ++ x) (ap (λ (x : List ℕ). c ++ x) ed ∙ ec)
+    ∙ append-assoc f s (drop a (drop 9 l)) ∙ ap (λ (x : List ℕ). f ++ x) es ∙ sym ef
 
 -- R82: the table that stands in right bytes has these bytes as its image
 table-stands : (n : ℕ) (l : List ℕ) → Bytes l → wrongIn n l ≡ none → (imageOf (tableIn n l) ≡ l) × TableWidths n (tableIn n l)
 unfolding imageOf
 table-stands n l b w =
     let v = nothing-wrong n l w in
-    let s = slots-stand n 9 (drop 9 l) (bytes-drop 9 l b) (omega (arith, length-drop 9 l, v .2)) (v .1) in (
-      ap (λ (x : List ℕ). (version ∷ le 8 (value 8 l 1)) ++ x) (s .0) ∙ sym (front-is l b (omega (arith, v .2)) (v .0)),
-      record { slots = s .1; clock = value-lt 8 l 1 b; lines = s .2 },
+    let s = slots-stand n 9 (drop 9 l) (bytes-drop 9 l b) (omega (arith, length-drop 9 l, v .2)) (v .1) in
+    let c = counts-stand n (drop (countsAt n) l) (bytes-drop (countsAt n) l b) (omega (arith, length-drop (countsAt n) l, v .2)) in
+    let d : drop (9 * n) (drop 9 l) ≡ drop (countsAt n) l = drop-drop (9 * n) 9 l in
+    let e : drop (8 * n) (drop (countsAt n) l) ≡ drop (idleAt n) l = drop-drop (8 * n) (countsAt n) l in (
+      joined l (9 * n) (8 * n) (version ∷ le 8 (value 8 l 1)) (slotsBytes (slotsIn n (drop 9 l))) (countsBytes (countsIn n (drop (countsAt n) l))) (le 8 (value 8 l (idleAt n)))
+          (rw (d, e) (idle-is n l b (v .2))) (rw d (c .0)) (s .0) (front-is l b (omega (arith, v .2)) (v .0)),
+      record {
+        slots = length-found 9 (λ (x : List ℕ). holding (heldIn x)) n (drop 9 l);
+        clock = value-lt 8 l 1 b;
+        lines = s .1;
+        counts = length-found 8 (λ (x : List ℕ). value 8 x 0) n (drop (countsAt n) l);
+        had = c .1;
+        idle = value-lt 8 l (idleAt n) b;
+      },
     )
 
 -- R82: an image that loads is stored byte for byte, and its table has the code's widths

@@ -1,8 +1,9 @@
--- The bytes of an image, slot by slot. Lists of any length: sixteen is the code's number.
+-- The bytes of an image, slot by slot and count by count. Lists of any length: sixteen is the code's number.
 use Prim.Native.Nat.{ℕ, _+_, _*_, _<_}
 use mathlib.Core.Path.{_≡_}
 use mathlib.Core.List.{List, [], _∷_, _++_}
 use lib.ListN.{length}
+use Rattle.periods.specs.Multiples.{All}
 use Rattle.line.specs.declared.Held.{Held}
 use Rattle.line.specs.declared.Held.the-variants.{Nothing, Running, Waiting}
 use Rattle.line.specs.declared.Slot.{Slot}
@@ -11,11 +12,24 @@ use Rattle.card.specs.Bytes.{le}
 
 -- R81: the version of the layout
 abbrev pub version : ℕ
-version = 1
+version = 2
 
--- R81: how long the image of a table with n slots is
+-- R81: where the counts begin in the image of a table with n slots
+abbrev pub countsAt : (n : ℕ) → ℕ
+countsAt n = 9 + 9 * n
+
+-- R81: where its idle count stands
+abbrev pub idleAt : (n : ℕ) → ℕ
+idleAt n = countsAt n + 8 * n
+
+-- R81: how long it is
 abbrev pub size : (n : ℕ) → ℕ
-size n = 9 + 9 * n
+size n = idleAt n + 8
+
+-- f's bytes of each, the first one's first
+abbrev pub series : {A : Type 0} → (A → List ℕ) → List A → List ℕ
+series f [] = []
+series f (x ∷ xs) = f x ++ series f xs
 
 -- R81: a kind, and four numbers of two bytes each
 abbrev pub nine : (kind a b c d : ℕ) → List ℕ
@@ -33,12 +47,15 @@ slotBytes h = byFields nine h
 
 -- R81: the slots, slot 0 first
 abbrev pub slotsBytes : List Slot → List ℕ
-slotsBytes [] = []
-slotsBytes (s ∷ ss) = slotBytes (s .held) ++ slotsBytes ss
+slotsBytes ss = series (λ (s : Slot). slotBytes (s .held)) ss
 
--- R81, R82: the version, the clock, the slots; every table has this one image
+-- R81: the counts of the slots, slot 0's first
+abbrev pub countsBytes : List ℕ → List ℕ
+countsBytes ns = series (le 8) ns
+
+-- R81, R82: the version, the clock, the slots, the counts; every table has this one image
 unfoldable pub imageOf : Table → List ℕ
-imageOf t = (version ∷ le 8 (t .clock)) ++ slotsBytes (t .slots)
+imageOf t = (version ∷ le 8 (t .clock)) ++ slotsBytes (t .slots) ++ countsBytes (t .had) ++ le 8 (t .idle)
 
 -- R3: the numbers of what a slot holds have sixteen bits
 abbrev pub Narrow : Held → Type 0
@@ -46,11 +63,17 @@ Narrow h = byFields (λ k a b c d. (a < 65536) × (b < 65536) × (c < 65536) × 
 
 -- R3: the same of every slot
 abbrev pub AllNarrow : List Slot → Type 0
-AllNarrow [] = Unit {0}
-AllNarrow (s ∷ ss) = Narrow (s .held) × AllNarrow ss
+AllNarrow ss = All (λ (s : Slot). Narrow (s .held)) ss
 
--- R2, R3: a table of n slots whose numbers have the code's widths, as every table in code has
+-- R2, R95: a number of sixty-four bits, which eight bytes hold
+abbrev pub InEight : ℕ → Type 0
+InEight v = v < 18446744073709551616
+
+-- R2, R3, R95: a table of n slots whose numbers have the code's widths, as every table in code has
 pub record TableWidths (n : ℕ) (t : Table) : Type 0 where
   pub slots : length (t .slots) ≡ n
-  pub clock : t .clock < 18446744073709551616
+  pub clock : InEight (t .clock)
   pub lines : AllNarrow (t .slots)
+  pub counts : length (t .had) ≡ n
+  pub had : All InEight (t .had)
+  pub idle : InEight (t .idle)

@@ -1,5 +1,5 @@
 -- Loading: which byte of an image is wrong, and the table that stands in it where none is.
-use Prim.Native.Nat.{ℕ, zero, suc, _+_, _<_}
+use Prim.Native.Nat.{ℕ, zero, suc, _+_}
 use mathlib.Core.Bool.{Bool}
 use mathlib.Core.List.{List, [], _∷_}
 use mathlib.Core.Option.{Option, none, some}
@@ -12,9 +12,9 @@ use Rattle.line.specs.declared.Held.the-variants.{Nothing, Running, Waiting}
 use Rattle.line.specs.declared.Slot.{Slot}
 use Rattle.line.specs.Slots.{pick, both, runWith, waitWith, holding, orElse, lowest}
 use Rattle.table.specs.declared.Table.{Table}
-use Rattle.table.specs.Words.{tableWith, refusal, Said, gives, refuses}
+use Rattle.table.specs.Words.{tableWith, withCounts, refusal, Said, gives, refuses}
 use Rattle.card.specs.Bytes.{value}
-use Rattle.image.specs.Image.{version, size}
+use Rattle.image.specs.Image.{version, countsAt, idleAt, size}
 
 -- R81: the byte at an offset; one that is not there counts as 0
 abbrev pub byte : List ℕ → (at : ℕ) → ℕ
@@ -54,10 +54,6 @@ lengthWrong m n = pick (eqb n m) none (some (pick (ltb n m) n m))
 unfoldable pub wrongIn : (n : ℕ) → List ℕ → Option ℕ
 wrongIn n l = orElse (versionWrong l) (orElse (slotsWrong n 9 (drop 9 l)) (lengthWrong (size n) (length l)))
 
--- R3: the four numbers after the first byte have sixteen bits, as every two bytes have
-abbrev pub FourNarrow : List ℕ → Type 0
-FourNarrow l = (value 2 l 1 < 65536) × (value 2 l 3 < 65536) × (value 2 l 5 < 65536) × (value 2 l 7 < 65536)
-
 -- R81: the running line in front
 abbrev pub runIn : List ℕ → Run
 runIn l = runWith (value 2 l 1) (value 2 l 3) (value 2 l 5) (value 2 l 7)
@@ -70,14 +66,22 @@ waitIn l = waitWith (value 2 l 1) (value 2 l 3) (value 2 l 5)
 unfoldable pub heldIn : List ℕ → Held
 heldIn l = pick (eqb (byte l 0) 1) (Running (runIn l)) (pick (eqb (byte l 0) 2) (Waiting (waitIn l)) Nothing)
 
+-- what f finds in front, and so n times, each so many bytes further on
+abbrev pub seriesIn : {A : Type 0} → (width : ℕ) → (List ℕ → A) → (n : ℕ) → List ℕ → List A
+seriesIn w f zero l = []
+seriesIn w f (suc n) l = f l ∷ seriesIn w f n (drop w l)
+
 -- R81: n slots
 abbrev pub slotsIn : (n : ℕ) → List ℕ → List Slot
-slotsIn zero l = []
-slotsIn (suc n) l = holding (heldIn l) ∷ slotsIn n (drop 9 l)
+slotsIn n l = seriesIn 9 (λ (x : List ℕ). holding (heldIn x)) n l
 
--- R81: the clock and n slots
+-- R81: the counts of n slots
+abbrev pub countsIn : (n : ℕ) → List ℕ → List ℕ
+countsIn n l = seriesIn 8 (λ (x : List ℕ). value 8 x 0) n l
+
+-- R81: the clock, n slots and the counts
 abbrev pub tableIn : (n : ℕ) → List ℕ → Table
-tableIn n l = tableWith (value 8 l 1) (slotsIn n (drop 9 l))
+tableIn n l = withCounts (tableWith (value 8 l 1) (slotsIn n (drop 9 l))) (countsIn n (drop (countsAt n) l)) (value 8 l (idleAt n))
 
 -- R31, R83: refused as broken where a byte is wrong
 abbrev pub unlessWrong : Option ℕ → Table → Said Table

@@ -1,38 +1,16 @@
 // A slot's nine bytes: its kind, and its four numbers as one number of eight bytes.
 ghost use mathlib.Core.Path.{_≡_};
 ghost use mathlib.Core.List.{_∷_, _++_};
-ghost use Prim.Native.Nat.{_+_, _*_, _%_, _≤_, _<_};
+ghost use Prim.Native.Nat.{_%_, _≤_};
 ghost use lib.ListN.{length, drop};
 ghost use Rattle.line.specs.Slots.{holding};
-ghost use Rattle.card.specs.Bytes.{le, value};
+ghost use Rattle.card.specs.Bytes.{le};
 ghost use Rattle.image.specs.Image.{slotBytes};
-ghost use Rattle.image.specs.Loading.{FourNarrow, heldIn};
+ghost use Rattle.image.specs.Loading.{heldIn};
+use crate::numbers::eight_at;
+use crate::numbers::put_eight;
 use line::Held;
 use line::Slot;
-
-fn wide(b: u8) -> u64
-    ensures { λ r. ⌜ (r ≡ b) × (r < 256) ⌝ }
-{
-    b as u64
-}
-
-// R81: the number in the eight bytes after the first.
-pub(crate) fn eight(s: &[u8]) -> u64
-    requires { ⌜ 9 ≤ length (now s) ⌝ }
-    ensures { λ r. ⌜ (r ≡ value 8 (now (s .entry)) 1) × FourNarrow (now (s .entry)) ⌝ }
-{
-    let a = wide(s[1]);
-    let b = wide(s[2]);
-    let c = wide(s[3]);
-    let d = wide(s[4]);
-    let e = wide(s[5]);
-    let f = wide(s[6]);
-    let g = wide(s[7]);
-    let h = wide(s[8]);
-    let low = a + b * 256 + c * 65536 + d * 16777216;
-    let high = e + f * 256 + g * 65536 + h * 16777216;
-    low + high * 4294967296
-}
 
 // The lowest two bytes of a number.
 fn lowest(v: u64) -> u16
@@ -46,7 +24,7 @@ pub(crate) fn slot_in(s: &[u8]) -> Slot
     requires { ⌜ 9 ≤ length (now s) ⌝ }
     ensures { λ r. ⌜ r ≡ holding (heldIn (now (s .entry))) ⌝ }
 {
-    let v = eight(s);
+    let v = eight_at(s, 1);
     let first = lowest(v);
     let second = lowest(v / 65536);
     let third = lowest(v / 4294967296);
@@ -79,22 +57,8 @@ pub(crate) fn put_nine(out: &mut [u8], first: u8, v: u64)
     requires { ⌜ 9 ≤ length (now out) ⌝ }
     ensures { λ _. ⌜ now (out .exit) ≡ (first ∷ le 8 v) ++ drop 9 (now (out .entry)) ⌝ }
 {
-    let b = v / 256;
-    let c = b / 256;
-    let d = c / 256;
-    let e = d / 256;
-    let f = e / 256;
-    let g = f / 256;
-    let h = g / 256;
     out[0] = first;
-    out[1] = (v % 256) as u8;
-    out[2] = (b % 256) as u8;
-    out[3] = (c % 256) as u8;
-    out[4] = (d % 256) as u8;
-    out[5] = (e % 256) as u8;
-    out[6] = (f % 256) as u8;
-    out[7] = (g % 256) as u8;
-    out[8] = (h % 256) as u8;
+    put_eight(&mut out[1..], v);
 }
 
 // R81: a slot's nine bytes.

@@ -73,25 +73,25 @@ fn slots_wrong(image: &[u8]) -> Which
 
 // R83: a wrong length, at the lesser of the two.
 fn length_wrong(len: usize) -> Which
-    ensures { λ r. ⌜ slotOf r ≡ lengthWrong 153 len ⌝ }
+    ensures { λ r. ⌜ slotOf r ≡ lengthWrong 289 len ⌝ }
 {
-    if len == 153 {
+    if len == 289 {
         return Which::None;
     }
-    if len < 153 {
+    if len < 289 {
         return Which::At(len);
     }
-    Which::At(153)
+    Which::At(289)
 }
 
-// R81, R83: the first byte is the version, 1.
+// R81, R83: the first byte is the version, 2.
 fn version_wrong(image: &[u8]) -> bool
     ensures { λ r. ⌜ r ≡ not (eqb (byte (now (image .entry)) 0) version) ⌝ }
 {
     if image.len() < 1 {
         return true;
     }
-    image[0] != 1
+    image[0] != 2
 }
 
 // The nine bytes in front, at one look: whether it finds nothing wrong with them.
@@ -100,7 +100,7 @@ fn slot_right(s: &[u8]) -> bool
     ensures { λ r. ⌜ (r ≡ true → slotWrong (now (s .entry)) ≡ none) ⌝ }
 {
     let kind = s[0];
-    let v = crate::fields::eight(s);
+    let v = crate::numbers::eight_at(s, 1);
     match kind {
         0 => v == 0,
         1 => true,

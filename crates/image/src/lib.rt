@@ -1,8 +1,10 @@
 // The table as bytes: any bytes of any length loaded as a table or refused, and a table stored.
 ghost use mathlib.Core.Path.{_≡_};
 ghost use Prim.Native.Nat.{_≤_};
-ghost use lib.ListN.{length};
+ghost use mathlib.Core.List.{_++_};
+ghost use lib.ListN.{length, drop};
 ghost use Rattle.card.specs.Answers.{saidWritten};
+ghost use Rattle.image.specs.Image.{imageOf};
 ghost use Rattle.image.specs.Loading.{tableIn, loadOf};
 ghost use Rattle.image.specs.Answers.{handedOut, storeOf, storedIn};
 ghost use Rattle.table.specs.Words.{refusal, refuses};
@@ -11,8 +13,10 @@ use table::Refusal;
 use table::Table;
 use table::Which;
 
+mod counts; // the counts in an image
 mod fields; // the numbers in a slot's bytes
 mod judge; // which byte is wrong
+mod numbers; // numbers of eight bytes
 mod slots; // the slots in an image
 
 // R84: the image was read, or refused.
@@ -39,10 +43,14 @@ fn broken(at: usize) -> Loaded
 
 // R81: the table in an image that is long enough.
 fn table_in(image: &[u8]) -> Table
-    requires { ⌜ 153 ≤ length (now image) ⌝ }
+    requires { ⌜ 289 ≤ length (now image) ⌝ }
     ensures { λ r. ⌜ r ≡ tableIn 16 (now (image .entry)) ⌝ }
 {
-    Table::new(fields::eight(image), slots::slots_in(image))
+    let mut t = Table::new(numbers::eight_at(image, 1), slots::slots_in(image));
+    let had = counts::counts_in(image);
+    t.had = had;
+    t.idle = numbers::eight_at(image, 281);
+    t
 }
 
 // R31, R83: any bytes of any length. The contract is an equation: it settles all that is handed out.
@@ -58,13 +66,26 @@ pub fn load(image: &[u8]) -> Loaded
     }
 }
 
+// R81: the version and the clock, then the slots, then the counts.
+fn put_image(t: Table, out: &mut [u8])
+    requires { ⌜ 289 ≤ length (now out) ⌝ }
+    ensures { λ _. ⌜ now (out .exit) ≡ imageOf t ++ drop 289 (now (out .entry)) ⌝ }
+{
+    let slots = t.slots;
+    let had = t.had;
+    fields::put_nine(out, 2, t.clock);
+    slots::put_slots(&mut out[9..], slots);
+    counts::put_counts(&mut out[153..], had);
+    numbers::put_eight(&mut out[281..], t.idle);
+}
+
 // R33, R84: a buffer that is too short is left alone. The contract settles the answer and the whole buffer: both parts are equations.
 pub fn store(t: Table, out: &mut [u8]) -> WriteAnswer
     ensures { λ r. ⌜ (saidWritten r ≡ storeOf (length (now (out .entry)))) × (now (out .exit) ≡ storedIn t (now (out .entry))) ⌝ }
 {
-    if out.len() < 153 {
+    if out.len() < 289 {
         return WriteAnswer::Refused(Refusal::new(13, 0));
     }
-    slots::put_image(t, out);
-    WriteAnswer::Length(153)
+    put_image(t, out);
+    WriteAnswer::Length(289)
 }

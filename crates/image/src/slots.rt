@@ -1,13 +1,12 @@
-// The slots in an image, one after the other, and the whole image written.
+// The slots in an image, one after the other.
 ghost use mathlib.Core.Path.{_≡_};
 ghost use mathlib.Core.List.{_++_};
 ghost use Prim.Native.Nat.{_+_, _≤_};
 ghost use lib.ListN.{length, drop};
 ghost use Rattle.line.specs.Slots.{holding};
-ghost use Rattle.image.specs.Image.{slotsBytes, imageOf};
+ghost use Rattle.image.specs.Image.{slotsBytes};
 ghost use Rattle.image.specs.Loading.{heldIn, slotsIn};
 use line::Slot;
-use table::Table;
 
 // The slot at an offset.
 fn slot_at(image: &[u8], at: usize) -> Slot
@@ -34,7 +33,7 @@ pub(crate) fn slots_in(image: &[u8]) -> [Slot; 16]
 }
 
 // R81: the sixteen slots from the buffer's start on.
-fn put_slots(out: &mut [u8], slots: [Slot; 16])
+pub(crate) fn put_slots(out: &mut [u8], slots: [Slot; 16])
     requires { ⌜ 144 ≤ length (now out) ⌝ }
     ensures { λ _. ⌜ now (out .exit) ≡ slotsBytes slots ++ drop 144 (now (out .entry)) ⌝ }
 {
@@ -44,14 +43,4 @@ fn put_slots(out: &mut [u8], slots: [Slot; 16])
         crate::fields::put_slot(&mut out[at..], slots[k]);
         k = k + 1;
     }
-}
-
-// R81: the version and the clock, then the slots.
-pub(crate) fn put_image(t: Table, out: &mut [u8])
-    requires { ⌜ 153 ≤ length (now out) ⌝ }
-    ensures { λ _. ⌜ now (out .exit) ≡ imageOf t ++ drop 153 (now (out .entry)) ⌝ }
-{
-    let slots = t.slots;
-    crate::fields::put_nine(out, 1, t.clock);
-    put_slots(&mut out[9..], slots);
 }

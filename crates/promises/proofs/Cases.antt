@@ -10,12 +10,13 @@ use Rattle.line.specs.Streams.{due, every, endsBefore}
 use Rattle.line.specs.Demand.{lastEnd}
 use Rattle.line.specs.Shares.{periodsIn}
 use Rattle.line.specs.Ends.{endsOf, slack, bound, greatest, anyOf, start}
+use Rattle.table.specs.declared.Table.{Table}
 use Rattle.table.specs.declared.Request.{Request}
 use Rattle.table.specs.Words.{requestWith, emptyTable, refusal}
 use Rattle.table.specs.Ask.{askIn, askOf}
 use Rattle.table.specs.Step.{chosen, advance, stepOf}
 use Rattle.table.specs.Runs.{Act, asking, admitting, stepping, run}
-use Rattle.table.specs.Cases.{tableOf}
+use Rattle.table.specs.Cases.{running, waiting, tableOf, tallied}
 use Rattle.image.specs.Image.{imageOf}
 use Rattle.image.specs.Loading.{blankFrom, slotsWrong, lengthWrong, wrongIn, heldIn, loadWith, loadOf}
 use Rattle.image.specs.Answers.{storeOf, storedIn}
@@ -28,7 +29,7 @@ use Rattle.promises.specs.Images.{NarrowRequest, Narrowed, AllNarrowed, 
 
 -- the version and a clock below 256
 abbrev front : (clock : ℕ) → List ℕ
-front k = 1 ∷ k ∷ 0 ∷ 0 ∷ 0 ∷ 0 ∷ 0 ∷ 0 ∷ 0 ∷ []
+front k = 2 ∷ k ∷ 0 ∷ 0 ∷ 0 ∷ 0 ∷ 0 ∷ 0 ∷ 0 ∷ []
 
 -- a running line whose numbers are below 256
 abbrev runs : (need period age remaining : ℕ) → List ℕ
@@ -42,53 +43,80 @@ waits c p w = 2 ∷ c ∷ 0 ∷ p ∷ 0 ∷ w ∷ 0 ∷ 0 ∷ 0 ∷ []
 abbrev free : ℕ → List ℕ
 free n = replicate (9 * n) 0
 
+-- a count below 256
+abbrev count : ℕ → List ℕ
+count n = n ∷ replicate 7 0
+
+-- counts, one after the other
+abbrev counts : List ℕ → List ℕ
+counts [] = []
+counts (n ∷ ns) = count n ++ counts ns
+
+-- the counts from slot 0 up, 0 for the others, and the idle one
+abbrev ticks : (had : List ℕ) → (idle : ℕ) → List ℕ
+ticks ns n = counts ns ++ (replicate (8 * (16 - length ns)) 0 ++ count n)
+
 -- ---- acts
 
 -- a new line beside lines with these T'
 abbrev new : (T' : List ℕ) (need period : ℕ) → Request
 new ts c p = requestWith (ts ++ replicate (16 - length ts) 0) c p
 
--- some acts from the empty table, and the bytes of the image then
+-- a table, some acts, the table that they lead to, and the bytes of its image
 pub record ImageCase : Type 0 where
+  pub before : Table
   pub acts : List Act
+  pub after : Table
   pub image : List ℕ
 
-abbrev comes : List Act → List ℕ → ImageCase
-comes done l = record { acts = done; image = l }
+abbrev comes : Table → List Act → Table → List ℕ → ImageCase
+comes t done u l = record { before = t; acts = done; after = u; image = l }
 
 -- a line is admitted
 abbrev one : List Act
 one = admitting (new [] 2 4) ∷ []
 
--- two lines are admitted and run for four ticks; then the first is stretched, and the third waits for one tick
-abbrev three : List Act
-three =
-    admitting (new [] 4 8) ∷ admitting (new (8 ∷ []) 4 8) ∷ stepping ∷ stepping ∷ stepping ∷ stepping
-    ∷ admitting (new (16 ∷ 8 ∷ []) 1 4) ∷ []
+-- the table then
+abbrev oneIn : Table
+oneIn = tableOf 0 (running 2 4 0 2 ∷ [])
+
+-- two lines are admitted and run for four ticks
+abbrev two : List Act
+two = admitting (new [] 4 8) ∷ admitting (new (8 ∷ []) 4 8) ∷ replicate 4 stepping
+
+-- the table then
+abbrev atFour : Table
+atFour = tallied (4 ∷ []) 0 (tableOf 4 (running 4 8 4 0 ∷ running 4 8 4 4 ∷ []))
+
+-- then the first is stretched, and the third waits for one tick
+abbrev third : Act
+third = admitting (new (16 ∷ 8 ∷ []) 1 4)
 
 abbrev imageCases : List ImageCase
 imageCases =
-    comes [] (front 0 ++ free 16)
-    ∷ comes (asking (new [] 2 4) ∷ []) (front 0 ++ free 16)
-    ∷ comes (stepping ∷ []) (front 1 ++ free 16)
-    ∷ comes one (front 0 ++ (runs 2 4 0 2 ++ free 15))
-    ∷ comes (one ++ (stepping ∷ stepping ∷ [])) (front 2 ++ (runs 2 4 2 0 ++ free 15))
+    comes emptyTable [] emptyTable (front 0 ++ (free 16 ++ ticks [] 0))
+    ∷ comes emptyTable (asking (new [] 2 4) ∷ []) emptyTable (front 0 ++ (free 16 ++ ticks [] 0))
+    ∷ comes emptyTable (stepping ∷ []) (tallied [] 1 (tableOf 1 [])) (front 1 ++ (free 16 ++ ticks [] 1))
+    ∷ comes emptyTable one oneIn (front 0 ++ (runs 2 4 0 2 ++ (free 15 ++ ticks [] 0)))
+    ∷ comes emptyTable (one ++ (stepping ∷ stepping ∷ [])) (tallied (2 ∷ []) 0 (tableOf 2 (running 2 4 2 0 ∷ []))) (front 2 ++ (runs 2 4 2 0 ++ (free 15 ++ ticks (2 ∷ []) 0)))
     -- R86: an ask that would be granted leaves the bytes; R87: a refused admission, 8 and 5, leaves them too
-    ∷ comes (one ++ (asking (new (8 ∷ []) 1 4) ∷ [])) (front 0 ++ (runs 2 4 0 2 ++ free 15))
-    ∷ comes (one ++ (admitting (new (4 ∷ []) 3 4) ∷ admitting (new (3 ∷ []) 1 4) ∷ [])) (front 0 ++ (runs 2 4 0 2 ++ free 15))
-    ∷ comes three (front 4 ++ (runs 4 16 4 0 ++ (runs 4 8 4 4 ++ (waits 1 4 1 ++ free 13))))
-    ∷ comes (three ++ (stepping ∷ [])) (front 5 ++ (runs 4 16 5 0 ++ (runs 4 8 5 3 ++ (runs 1 4 0 1 ++ free 13))))
+    ∷ comes emptyTable (one ++ (asking (new (8 ∷ []) 1 4) ∷ [])) oneIn (front 0 ++ (runs 2 4 0 2 ++ (free 15 ++ ticks [] 0)))
+    ∷ comes emptyTable (one ++ (admitting (new (4 ∷ []) 3 4) ∷ admitting (new (3 ∷ []) 1 4) ∷ [])) oneIn (front 0 ++ (runs 2 4 0 2 ++ (free 15 ++ ticks [] 0)))
+    ∷ comes emptyTable two atFour (front 4 ++ (runs 4 8 4 0 ++ (runs 4 8 4 4 ++ (free 14 ++ ticks (4 ∷ []) 0))))
+    ∷ comes atFour (third ∷ []) (tallied (4 ∷ []) 0 (tableOf 4 (running 4 16 4 0 ∷ running 4 8 4 4 ∷ waiting 1 4 1 ∷ []))) (front 4 ++ (runs 4 16 4 0 ++ (runs 4 8 4 4 ++ (waits 1 4 1 ++ (free 13 ++ ticks (4 ∷ []) 0)))))
+    ∷ comes atFour (third ∷ stepping ∷ []) (tallied (4 ∷ 1 ∷ []) 0 (tableOf 5 (running 4 16 5 0 ∷ running 4 8 5 3 ∷ running 1 4 0 1 ∷ []))) (front 5 ++ (runs 4 16 5 0 ++ (runs 4 8 5 3 ++ (runs 1 4 0 1 ++ (free 13 ++ ticks (4 ∷ 1 ∷ []) 0)))))
     ∷ []
 
 -- R78: the bytes after the acts over the boundary
-pub image-cases : map (λ (c : ImageCase). imageRun (c .acts) (imageOf emptyTable)) imageCases ≡ map (λ (c : ImageCase). c .image) imageCases
+pub image-cases : map (λ (c : ImageCase). imageRun (c .acts) (imageOf (c .before))) imageCases ≡ map (λ (c : ImageCase). c .image) imageCases
 unfolding euclid gcdOf lcmOf frameFrom total lowest due lastEnd mapAt periodsIn every endsBefore endsOf slack bound greatest anyOf start askIn askOf chosen advance stepOf imageOf blankFrom slotsWrong lengthWrong wrongIn heldIn loadWith storeOf
 image-cases = refl
 
--- R78: and the image of the table after the same acts
-pub table-cases : map (λ (c : ImageCase). imageOf (run (c .acts) emptyTable)) imageCases ≡ map (λ (c : ImageCase). c .image) imageCases
+-- R78: they are the image of the table after the same acts
+pub table-cases : (map (λ (c : ImageCase). run (c .acts) (c .before)) imageCases ≡ map (λ (c : ImageCase). c .after) imageCases)
+    × (map (λ (c : ImageCase). imageOf (c .after)) imageCases ≡ map (λ (c : ImageCase). c .image) imageCases)
 unfolding euclid gcdOf lcmOf frameFrom total lowest due lastEnd mapAt periodsIn every endsBefore endsOf slack bound greatest anyOf start askIn askOf chosen advance stepOf imageOf
-table-cases = refl
+table-cases = (refl, refl)
 
 -- ---- answers
 
@@ -103,7 +131,7 @@ stepAfter done = stepFor (loadOf (imageRun done (imageOf emptyTable)))
 -- R86, R88: the start with its slot, refusals 8 and 5, the slot that ran, and 255 where none did
 pub answer-cases :
     (askAfter [] (new [] 2 4) ∷ askAfter one (new (8 ∷ []) 1 4) ∷ askAfter one (new (4 ∷ []) 3 4) ∷ askAfter one (new (3 ∷ []) 1 4)
-    ∷ stepAfter [] ∷ stepAfter one ∷ stepAfter three ∷ stepAfter (one ++ (stepping ∷ stepping ∷ [])) ∷ [])
+    ∷ stepAfter [] ∷ stepAfter one ∷ stepAfter (two ++ (third ∷ [])) ∷ stepAfter (one ++ (stepping ∷ stepping ∷ [])) ∷ [])
     ≡ (grantedAs 0 0 ∷ grantedAs 1 0 ∷ refusedAs (refusal 8 0) ∷ refusedAs (refusal 5 0)
     ∷ grantedAs 0 255 ∷ grantedAs 0 0 ∷ grantedAs 0 1 ∷ grantedAs 0 255 ∷ [])
 unfolding euclid gcdOf lcmOf frameFrom total lowest due lastEnd mapAt periodsIn every endsBefore endsOf slack bound greatest anyOf start askIn askOf chosen advance stepOf imageOf blankFrom slotsWrong lengthWrong wrongIn heldIn loadWith storeOf
@@ -135,9 +163,9 @@ before-the-last r u = ap (λ (x : Result). x .number) (u .goes-on (omega arith) 
 
 -- ---- limits
 
--- R85: of other bytes, 153 become the image of the empty table, 152 are left, and of 154 one is left behind it
-pub empty-edges : map (λ (n : ℕ). storedIn emptyTable (replicate n 7)) (153 ∷ 152 ∷ 154 ∷ [])
-    ≡ imageOf emptyTable ∷ replicate 152 7 ∷ (imageOf emptyTable ++ (7 ∷ [])) ∷ []
+-- R85: of other bytes, 289 become the image of the empty table, 288 are left, and of 290 one is left behind it
+pub empty-edges : map (λ (n : ℕ). storedIn emptyTable (replicate n 7)) (289 ∷ 288 ∷ 290 ∷ [])
+    ≡ imageOf emptyTable ∷ replicate 288 7 ∷ (imageOf emptyTable ++ (7 ∷ [])) ∷ []
 unfolding imageOf storeOf
 empty-edges = refl
 

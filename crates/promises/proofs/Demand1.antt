@@ -42,7 +42,7 @@ use Rattle.image.specs.Answers.{handedOut, saidLoaded, storeOf, storedIn}
 use Rattle.calls.specs.declared.Result.{Result}
 use Rattle.calls.specs.Results.{grantedAs, resultAt, resultOf}
 use Rattle.calls.specs.Cards.{lineFor, saidPut, rewriteFor, rewrittenFor}
-use Rattle.calls.specs.Tables.{changed, askedAs, askFor, afterAdmit, ranAs, stepFor, afterStep, ReadyFor}
+use Rattle.calls.specs.Tables.{changed, askedAs, askFor, afterAdmit, ranAs, stepFor, afterStep, ReadyFor, countsFor, countsAfter}
 use Rattle.calls.specs.Moves.{eighteen, writeCardFor, cardAfter, readCardFor, imageAfter, numbersAfter}
 use Rattle.image.proofs.Exactly.{said-loaded}
 use Rattle.promises.specs.Contracts.{Drives}
@@ -88,6 +88,7 @@ fixed-answer = record {
   admit-image = λ l q. by-equations _ _;
   step-image = λ l. by-equations _ _;
   ready-image = λ l. ready-one (loadOf l);
+  counts-image = λ l ns. by-equations _ _;
   write-image = λ l q out. by-equations _ _;
   read-image = λ card l ns x y m n j k p q. (p .0 ∙ sym (q .0), p .1 ∙ sym (q .1), p .2 ∙ sym (q .2));
 }
@@ -165,6 +166,10 @@ step-kept (gives t) l h = go (saysRan (stepOf t .outcome)) h
     go (gives o) h = absurd (h refl)
     go (refuses x) h = refl
 
+counts-kept : (s : Said Table) (ns : List ℕ) → (countsFor s .number ≡ 0 → ⊥) → countsAfter s ns ≡ ns
+counts-kept (refuses x) ns h = refl
+counts-kept (gives t) ns h = absurd (h refl)
+
 -- R17: a refusal changes no table and no lent byte
 pub refusal-keeps : RefusalKeeps
 refusal-keeps = record {
@@ -191,6 +196,7 @@ refusal-keeps = record {
   empty-image = λ l r m h e. h .1 ∙ filled-kept 0 (storeOf (length l)) (imageOf emptyTable) l (λ z. e (ap (λ (x : Result). x .number) (h .0) ∙ z));
   admit-image = λ l q r m h e. h .1 ∙ admit-kept (loadOf l) q l (λ z. e (ap (λ (x : Result). x .number) (h .0) ∙ z));
   step-image = λ l r m h e. h .1 ∙ step-kept (loadOf l) l (λ z. e (ap (λ (x : Result). x .number) (h .0) ∙ z));
+  counts-image = λ l ns r m h e. h .1 ∙ counts-kept (loadOf l) ns (λ z. e (ap (λ (x : Result). x .number) (h .0) ∙ z));
   write-image = λ l q out r m h e. h .1 ∙ card-kept (loadOf l) q out (λ z. e (ap (λ (x : Result). x .number) (h .0) ∙ z));
   read-image = λ card l ns r m n h e.
       let k = image-kept (readOf card) l ns (λ z. e (ap (λ (x : Result). x .number) (h .0) ∙ z)) in

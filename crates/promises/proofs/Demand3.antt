@@ -38,7 +38,7 @@ unfailing t g = record {
 }
   where
     goes : t .clock < 2 ^ 48 → saysRan (stepOf t .outcome) ≡ gives (slotOf (whichOf (choose (t .slots))))
-    goes h = ap (λ (s : Stepped). saysRan (s .outcome)) (fine-step t (g .fine) h)
+    goes h = ap (λ (s : Stepped). saysRan (s .outcome)) (fine-step t (g .fine) (g .within) h)
 
     last : 2 ^ 48 ≤ t .clock → saysRan (stepOf t .outcome) ≡ refuses (refusal 15 0)
     last h = ap (λ (s : Stepped). saysRan (s .outcome)) (at-last t h)

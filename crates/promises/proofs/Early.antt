@@ -13,16 +13,18 @@ use Rattle.line.specs.declared.Held.the-variants.{Nothing, Running, Waiting}
 use Rattle.table.specs.declared.Table.{Table}
 use Rattle.table.specs.declared.Request.{Request}
 use Rattle.table.specs.declared.Stepped.{Stepped}
-use Rattle.line.specs.Slots.{at, Each, Waits, lowestOf}
+use Rattle.line.specs.Slots.{at, Each, isNothing, Waits, lowestOf}
 use Rattle.table.specs.Words.{refusal, gives, refuses}
 use Rattle.line.specs.Sound.{Sound}
 use Rattle.line.specs.Demand.{demands, newDemand, endOf, lastEnd, Smooth}
 use Rattle.table.specs.Grounds.{entry, asked}
 use Rattle.line.specs.Stretch.{stretch}
 use Rattle.line.specs.Shares.{frame}
+use Rattle.table.specs.Counts.{accounted}
 use Rattle.table.specs.Ask.{says, askOf}
 use Rattle.table.specs.Admit.{admittedAt}
 use Rattle.table.specs.Step.{saysRan, choose, serve, refusedStep, ticked, advance, stepOf}
+use Rattle.table.proofs.Counts.{tick-within, put-within}
 use Rattle.table.proofs.Step.{slot-of-which}
 use Rattle.line.specs.Tick.{short}
 use Rattle.theory.specs.Fine.{May, Kept}
@@ -32,7 +34,7 @@ use Rattle.theory.proofs.Tail.{last-within, no-excess-from-last-end}
 use Rattle.theory.proofs.Granted.{says-start, granted}
 use Rattle.line.proofs.Stretched.{length-stretched, at-stretched}
 use Rattle.theory.proofs.Pump.{sound-serve, sound-pass, earliest-may, demands-now, excess-kept}
-use Rattle.theory.proofs.Step.{short-none, none-unsound, choose-earliest, advanced}
+use Rattle.theory.proofs.Step.{short-none, sound-faultless, choose-earliest, advanced}
 use Rattle.theory.proofs.Admitted.{admitted-demands, admitted-sound}
 use Rattle.promises.specs.Demand3.{stepped, Sixteen, Misses}
 use Rattle.promises.proofs.Good.{slot-empty, admitted-slots}
@@ -40,22 +42,22 @@ use Rattle.promises.proofs.Good.{slot-empty, admitted-slots}
 -- ---- a table with excess ahead
 
 -- the step of a sound table before the last tick is the tick of its own choice, refused or not
-sound-step : (t : Table) → Each Sound (t .slots) → t .clock < 2 ^ 48 → stepOf t ≡ advance (choose (t .slots)) t
+sound-step : (t : Table) → Each Sound (t .slots) → accounted t ≤ t .clock → t .clock < 2 ^ 48 → stepOf t ≡ advance (choose (t .slots)) t
 unfolding stepOf
-sound-step t s h = rw (lt-leb (2 ^ 48) (t .clock) h, none-unsound (t .slots) s)
+sound-step t s w h = rw (lt-leb (2 ^ 48) (t .clock) h, sound-faultless t s w)
 
-short-step : (t : Table) (i : ℕ) → Each Sound (t .slots) → t .clock < 2 ^ 48 → lowestOf short (serve (choose (t .slots)) (t .slots)) ≡ some i
+short-step : (t : Table) (i : ℕ) → Each Sound (t .slots) → accounted t ≤ t .clock → t .clock < 2 ^ 48 → lowestOf short (serve (choose (t .slots)) (t .slots)) ≡ some i
     → stepOf t ≡ refusedStep t 14 i
 unfolding advance
-short-step t i s h e = sound-step t s h ∙ rw e
+short-step t i s w h e = sound-step t s w h ∙ rw e
 
 -- R77: n ticks ahead there is excess: a step before that reports 14
-pub runs-short : (n last : ℕ) (t : Table) → Each Sound (t .slots) → t .clock + n < last → last ≤ 2 ^ 48
+pub runs-short : (n last : ℕ) (t : Table) → Each Sound (t .slots) → accounted t ≤ t .clock → t .clock + n < last → last ≤ 2 ^ 48
     → n < demands (t .clock) (t .slots) (t .clock + n) → Misses t last
-runs-short zero last t s b l x =
+runs-short zero last t s w b l x =
     let z : t .clock + 0 ≡ t .clock = omega arith in
     absurd (omega (arith, demands-now (t .clock) (t .slots) s, rw z at x))
-runs-short (suc n) last t s b l x = go (lowestOf short (serve o (t .slots))) refl (runs-short n last next)
+runs-short (suc n) last t s within b l x = go (lowestOf short (serve o (t .slots))) refl (runs-short n last next)
   where
     o : Option ℕ
     o = choose (t .slots)
@@ -78,13 +80,13 @@ runs-short (suc n) last t s b l x = go (lowestOf short (serve o (t .slots))) ref
             subst (λ (s : Stepped). (p : Option ℕ) × (saysRan (stepOf (stepped m (s .table)) .outcome) ≡ gives p)) (sym e) (w .goes m (omega arith))
 
     go : (p : Option ℕ) → lowestOf short (serve o (t .slots)) ≡ p
-        → (Each Sound (next .slots) → next .clock + n < last → last ≤ 2 ^ 48 → n < demands (next .clock) (next .slots) (next .clock + n) → Misses next last)
+        → (Each Sound (next .slots) → accounted next ≤ next .clock → next .clock + n < last → last ≤ 2 ^ 48 → n < demands (next .clock) (next .slots) (next .clock + n) → Misses next last)
         → Misses t last
     go (some i) e rest = record {
       steps = 0;
       slot = i;
       goes = λ m h. absurd (not-suc-le-zero h);
-      misses = ap (λ (s : Stepped). saysRan (s .outcome)) (short-step t i s (omega arith) e);
+      misses = ap (λ (s : Stepped). saysRan (s .outcome)) (short-step t i s within (omega arith) e);
       before = omega arith;
     }
     go none e rest =
@@ -94,8 +96,8 @@ runs-short (suc n) last t s b l x = go (lowestOf short (serve o (t .slots))) ref
         let a : t .clock + suc n ≡ t .clock + 1 + n = omega arith in
         let c : demands (t .clock + 1) (next .slots) (t .clock + 1 + n) ≡ demands (suc (t .clock)) (next .slots) (t .clock + suc n) =
         rw (add-one (t .clock), ← add-one (t .clock), a) refl in
-        later (rest (sound-pass (serve o (t .slots)) (sound-serve o (t .slots) m s)) (omega arith) l (omega (arith, y .0, c)))
-        (sound-step t s (omega arith) ∙ advanced o t v)
+        later (rest (sound-pass (serve o (t .slots)) (sound-serve o (t .slots) m s)) (omega (arith, within, tick-within o (t .had) (t .idle))) (omega arith) l (omega (arith, y .0, c)))
+        (sound-step t s within (omega arith) ∙ advanced o t v)
 
 -- ---- a start that is not smooth
 
@@ -154,5 +156,6 @@ no-earlier t q r r' six e late less =
     (omega (arith, d .new-some, d .new-fits)) late in
     runs-short (w .0) (lastEnd (t .clock) l) (admittedAt t q r')
     (rw s (admitted-sound l (g .slot) (q .need) (q .period) (r' - t .clock) (d .sound) (d .new-some) (d .new-fits)))
+    (omega (arith, g .within, put-within (lowestOf isNothing (t .slots)) (t .had)))
     (w .1) (omega (arith, last-near t q six (g .none-waits), g .early))
     (rw s (omega (arith, same, w .2)))

@@ -14,12 +14,14 @@ use Rattle.line.specs.Streams.{due, every, endsBefore}
 use Rattle.line.specs.Demand.{lastEnd}
 use Rattle.line.specs.Shares.{periodsIn}
 use Rattle.line.specs.Ends.{endsOf, slack, bound, greatest, anyOf, start}
-use Rattle.table.specs.Words.{requestWith}
+use Rattle.line.proofs.Search.{true-false}
+use Rattle.table.specs.Words.{requestWith, emptyTable}
 use Rattle.table.specs.Ask.{askIn, askOf}
 use Rattle.table.specs.Step.{chosen, advance, stepOf}
-use Rattle.table.specs.Runs.{Act, asking, admitting, stepping, run, trace, times}
+use Rattle.table.specs.Runs.{Act, asking, admitting, stepping, run, trace, times, idles, since}
 use Rattle.table.specs.Cases.{running, tableOf, caseA}
 use Rattle.promises.specs.Demand3.{admitted-table, Unstretched, Misses, Sixteen}
+use Rattle.promises.specs.Counted.{Unplaced}
 use Rattle.promises.specs.Example.{toCaseA, onFromCaseA}
 use Rattle.promises.proofs.Demand3.{has-all-its-need}
 use Rattle.promises.proofs.Example.{case-A-admitted}
@@ -63,6 +65,10 @@ no-stretch = (((λ h s. omega (arith, s .1)), tt), ((λ h s. s), tt))
 
 -- ---- the list of slots that ran
 
+-- a line is admitted and runs for a period; then another is, and both run
+abbrev twoLines : List Act
+twoLines = admitting (requestWith (replicate 16 0) 1 2) ∷ stepping ∷ stepping ∷ admitting (requestWith (2 ∷ replicate 15 0) 1 4) ∷ stepping ∷ stepping ∷ []
+
 -- R76: in case A slot 2 waits five ticks, and of the four ticks from its start on it gets one
 pub trace-A : trace onFromCaseA (admitted-table toCaseA (caseA .request)) ≡ replicate 8 (some 1) ++ (some 2 ∷ [])
 unfolding euclid gcdOf lcmOf frameFrom total lowest due lastEnd mapAt periodsIn every endsBefore endsOf slack bound greatest anyOf start askIn askOf chosen advance stepOf
@@ -73,6 +79,23 @@ pub times-edges : (times 1 (some 1 ∷ none ∷ some 2 ∷ some 1 ∷ []) ≡ 2)
     × (trace (stepping ∷ []) ending ≡ [])
 unfolding lowest chosen advance stepOf
 times-edges = (refl, refl, refl)
+
+-- R79: what ran before an admission counts for the slots that were there, and not for the new line's; a slot that none was put into has the whole list
+pub since-edges : (since 1 twoLines ≡ some 0 ∷ some 1 ∷ []) × (since 0 twoLines ≡ some 0 ∷ none ∷ some 0 ∷ some 1 ∷ []) × (since 2 twoLines ≡ some 0 ∷ none ∷ some 0 ∷ some 1 ∷ [])
+unfolding euclid gcdOf lcmOf frameFrom total lowest due lastEnd mapAt periodsIn every endsBefore endsOf slack bound greatest anyOf start askIn askOf chosen advance stepOf
+since-edges = (refl, refl, refl)
+
+-- R79: who has had what then, and how many ticks were idle
+pub had-edges : (run twoLines emptyTable .had ≡ 2 ∷ 1 ∷ replicate 14 0) × (run twoLines emptyTable .idle ≡ 1) × (run twoLines emptyTable .clock ≡ 4)
+    × (idles (some 1 ∷ none ∷ some 2 ∷ none ∷ none ∷ []) ≡ 3)
+unfolding euclid gcdOf lcmOf frameFrom total lowest due lastEnd mapAt periodsIn every endsBefore endsOf slack bound greatest anyOf start askIn askOf chosen advance stepOf
+had-edges = (refl, refl, refl, refl)
+
+-- R79: the admission puts a line into slot 2 and into no other; an ask that is granted and a refused admission put none
+pub placed-edges : (Unplaced 2 (admitting (caseA .request) ∷ []) (caseA .table) → ⊥) × Unplaced 1 (admitting (caseA .request) ∷ []) (caseA .table)
+    × Unplaced 2 (asking (caseA .request) ∷ admitting (requestWith (replicate 16 0) 1 4) ∷ []) (caseA .table)
+unfolding euclid gcdOf lcmOf frameFrom total lowest due lastEnd mapAt periodsIn every endsBefore endsOf slack bound greatest anyOf start askIn askOf chosen advance stepOf
+placed-edges = ((λ u. true-false refl (u .0)), (refl, tt), (refl, (refl, tt)))
 
 -- nine ticks, and then at 17, when slot 2 has had its period, it is stretched
 abbrev stretchedAfter : List Act

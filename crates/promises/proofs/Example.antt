@@ -1,6 +1,7 @@
--- The premises of R75 to R77 are met: by the run to case A, its admission, and the nine ticks after it.
+-- The premises of R75 to R77 and of R79 are met: by the run to case A, its admission, and the nine ticks after it.
 use Prim.Native.Nat.{ℕ, zero, suc, _+_, _^_, _≤_, _<_}
 use mathlib.Core.Path.{_≡_, refl}
+use mathlib.Core.List.{[], _∷_}
 use native.Mathlib.Omega.{arith}
 use lib.ListN.{getD, replicate}
 use Rattle.periods.specs.Multiples.{euclid, gcdOf, lcmOf, frameFrom}
@@ -14,13 +15,14 @@ use Rattle.table.specs.Ask.{askIn, askOf}
 use Rattle.table.specs.Admit.{admittedAt}
 use Rattle.table.specs.Step.{chosen, advance, stepOf}
 use Rattle.table.specs.Runs.{run}
-use Rattle.table.specs.Cases.{caseA}
+use Rattle.table.specs.Cases.{tallied, caseA}
 use Rattle.promises.specs.Demand3.{Admission, admitted-table, Unstretched, Sixteen, Misses}
+use Rattle.promises.specs.Counted.{Unplaced}
 use Rattle.promises.specs.Example.{toCaseA, onFromCaseA}
 use Rattle.promises.proofs.Demand3.{no-earlier-start}
 
--- R73: a run
-pub comes-to-case-A : run toCaseA emptyTable ≡ caseA .table
+-- R73, R97: a run, in which slot 0 has had all eight ticks
+pub comes-to-case-A : run toCaseA emptyTable ≡ tallied (8 ∷ []) 0 (caseA .table)
 unfolding euclid gcdOf lcmOf frameFrom total lowest due lastEnd mapAt periodsIn every endsBefore endsOf slack bound greatest anyOf start askIn askOf chosen advance stepOf
 comes-to-case-A = refl
 
@@ -37,6 +39,10 @@ case-A-goes-on = omega arith
 -- R76: none of them stretches slot 2
 pub case-A-unstretched : Unstretched 2 (13 + 4) onFromCaseA (admitted-table toCaseA (caseA .request))
 case-A-unstretched = ((λ h s. s), ((λ h s. s), ((λ h s. s), ((λ h s. s), ((λ h s. s), ((λ h s. s), ((λ h s. s), ((λ h s. s), ((λ h s. s), tt)))))))))
+
+-- R79: and no other line is put there
+pub case-A-unplaced : Unplaced 2 onFromCaseA (admitted-table toCaseA (caseA .request))
+case-A-unplaced = (refl, (refl, (refl, (refl, (refl, (refl, (refl, (refl, (refl, tt)))))))))
 
 -- earlier than 13, at 8 say, a period is missed before 32
 zeros : (n i : ℕ) → getD (replicate n 0) i 0 < 2 ^ 16

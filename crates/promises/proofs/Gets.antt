@@ -16,23 +16,19 @@ use Rattle.table.specs.Admit.{newLine}
 use Rattle.table.specs.Step.{choose, serve, pass, ticked, stepOf}
 use Rattle.table.specs.Runs.{Act, asking, admitting, stepping, after, run, ranIn, trace, isSlot, times}
 use Rattle.table.proofs.Step.{length-serve, slot-of-which}
-use Rattle.theory.specs.Fine.{May, Kept}
+use Rattle.theory.specs.Fine.{Kept}
 use Rattle.theory.proofs.Numbers.{split}
-use Rattle.theory.proofs.Pump.{never-short, earliest-may}
+use Rattle.theory.proofs.Pump.{never-short}
 use Rattle.theory.proofs.Step.{choose-earliest}
 use Rattle.theory.proofs.Trace.{at-pass, length-tick, is-passed, owed-or-got, not-served, nearer, not-yet}
 use Rattle.promises.specs.Demand3.{Unstretched}
 use Rattle.promises.proofs.Good.{Good, at-last, good-after}
-use Rattle.promises.proofs.Kept.{admit-clock, admit-length, admit-running, admit-kept, admit-waiting, step-table, clock-after}
+use Rattle.promises.proofs.Kept.{choice-may, admit-clock, admit-length, admit-running, admit-kept, admit-waiting, step-table, clock-after}
 
 -- a run never sets the clock back
 pub clock-run : (more : List Act) (t : Table) → Good t → t .clock ≤ run more t .clock
 clock-run [] t g = omega arith
 clock-run (a ∷ rest) t g = omega (arith, clock-after a t g, clock-run rest (after a t) (good-after a t g))
-
--- the choice serves nobody who is not owed
-choice-may : (t : Table) → May (choose (t .slots)) (t .slots)
-choice-may t = earliest-may (choose (t .slots)) (t .slots) (choose-earliest (t .slots))
 
 -- what holds after the tick, and of the list with its slot in front, holds after a step and of its trace
 by-tick : (Q : Table → List (Option ℕ) → Type 0) (rest : List Act) (t : Table) → Good t → t .clock < 2 ^ 48

@@ -1,4 +1,4 @@
--- What every act keeps: the table is fine for some common multiple, and the clock is within its limit.
+-- What every act keeps: the table is fine for some common multiple, accounts for no more than its clock, and the clock is within its limit.
 use mathlib.Core.Path.{_≡_, refl, sym, ap, _∙_, subst}
 use mathlib.Core.List.{List, [], _∷_}
 use mathlib.Core.Option.{Option, some}
@@ -19,9 +19,11 @@ use Rattle.line.specs.Stretch.{stretch}
 use Rattle.line.specs.Shares.{frame}
 use Rattle.table.specs.Ask.{askOf}
 use Rattle.table.specs.Admit.{newLine, putAt, admittedAt, admitWith}
-use Rattle.table.specs.Step.{refusedStep, stepOf}
+use Rattle.table.specs.Counts.{accounted}
+use Rattle.table.specs.Step.{choose, refusedStep, stepOf}
 use Rattle.table.specs.Runs.{Act, asking, admitting, stepping, after, run}
 use Rattle.line.proofs.Search.{lowest-is}
+use Rattle.table.proofs.Counts.{tick-within, put-within}
 use Rattle.theory.specs.Fine.{Fine}
 use Rattle.theory.specs.Given.{Granted}
 use Rattle.theory.proofs.Numbers.{split}
@@ -31,15 +33,16 @@ use Rattle.line.proofs.Stretched.{length-stretched, at-stretched}
 use Rattle.theory.proofs.Admitted.{admitted-fine, empty-fine}
 use Rattle.theory.proofs.Step.{fine-step, fine-stepped}
 
--- R73: what every table that a run reaches has: it is fine for some common multiple, and its clock is no later than the last tick
+-- R73: what every table that a run reaches has: it is fine for some common multiple, accounts for no more than its clock, and this is no later than the last tick
 pub record Good (t : Table) : Type 0 where
   pub multiple : ℕ
   pub fine : Fine multiple (t .clock) (t .slots)
+  pub within : accounted t ≤ t .clock
   pub clock-in : t .clock ≤ 2 ^ 48
 
 -- R4: the empty table is good
 pub good-empty : Good emptyTable
-good-empty = record { multiple = 1; fine = empty-fine 0 16; clock-in = omega arith }
+good-empty = record { multiple = 1; fine = empty-fine 0 16; within = omega arith; clock-in = omega arith }
 
 -- ---- an admission
 
@@ -67,6 +70,7 @@ good-admitted t q r g =
           (admitted-fine (frame (asked t q) (q .period)) (t .clock) (asked t q) (g .slot) (q .need) (q .period) r (d .sound)
           (d .some-frame) (d .divides) (d .new-divides) (d .eight) (d .new-some) (d .new-fits)
           (e .2) (e .3) (g .least .smooth));
+      within = omega (arith, g .within, put-within (lowestOf isNothing (t .slots)) (t .had));
       clock-in = omega (arith, g .early);
     }
 
@@ -87,8 +91,11 @@ good-after (admitting q) t g = go (askOf t q) refl
     go (Refused x) e = g
 good-after stepping t g =
     split (2 ^ 48) (t .clock) (λ h. subst Good (sym (ap (λ (s : Stepped). s .table) (at-last t h))) g)
-    (λ h. let e : stepOf t .table .clock ≡ t .clock + 1 = ap (λ (s : Stepped). s .table .clock) (fine-step t (g .fine) h) in
-    record { multiple = g .multiple; fine = fine-stepped t (g .fine) h; clock-in = omega arith })
+    (λ h. let e = fine-step t (g .fine) (g .within) h in
+    let c : stepOf t .table .clock ≡ t .clock + 1 = ap (λ (s : Stepped). s .table .clock) e in
+    let w : accounted (stepOf t .table) ≤ stepOf t .table .clock =
+    subst (λ (s : Stepped). accounted (s .table) ≤ s .table .clock) (sym e) (omega (arith, g .within, tick-within (choose (t .slots)) (t .had) (t .idle))) in
+    record { multiple = g .multiple; fine = fine-stepped t (g .fine) (g .within) h; within = w; clock-in = omega arith })
 
 -- R73: and so does every run
 pub good-run : (acts : List Act) (t : Table) → Good t → Good (run acts t)

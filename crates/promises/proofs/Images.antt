@@ -4,7 +4,7 @@ use mathlib.Core.List.{List, [], _∷_, _++_, append-nil}
 use mathlib.Core.Option.{Option}
 use Prim.Native.Nat.{ℕ, _^_}
 use native.Mathlib.Omega.{arith}
-use lib.ListN.{length, drop-of-length-le}
+use lib.ListN.{length, replicate, drop-of-length-le}
 use Rattle.table.specs.declared.Table.{Table}
 use Rattle.table.specs.declared.Request.{Request}
 use Rattle.table.specs.declared.Answer.{Answer}
@@ -26,7 +26,7 @@ use Rattle.calls.specs.Tables.{changed, askFor, admittedIn, afterAdmit, ranAs, 
 use Rattle.promises.specs.Demand3.{Unfailing}
 use Rattle.promises.specs.Images.{AllNarrowed, imageBy, imageRun, LeftByContract, EmptyImage, ActsAlike, AnswersAlike, ImageRuns, ImageLoads, UnfailingStep, NeverMissedOnImages}
 use Rattle.promises.proofs.Demand3.{never-missed}
-use Rattle.promises.proofs.Widths.{narrow-empty, wide-after}
+use Rattle.promises.proofs.Widths.{narrow-empty, wide-after, wide-within}
 
 -- R85, R87, R88: the bytes that the contracts leave
 pub left-by-contract : LeftByContract
@@ -35,7 +35,7 @@ left-by-contract = record { empty = λ l r m h. h .1; admit = λ l q r m h. h .1
 -- R84: a buffer of an image's length holds the stored image and nothing else
 pub stored-over : (u : Table) (l : List ℕ) → length l ≡ size 16 → storedIn u l ≡ imageOf u
 stored-over u l e =
-    stored-is u l (omega arith) ∙ ap (λ (x : List ℕ). imageOf u ++ x) (drop-of-length-le l {i = 153} (omega arith)) ∙ append-nil (imageOf u)
+    stored-is u l (omega arith) ∙ ap (λ (x : List ℕ). imageOf u ++ x) (drop-of-length-le l {i = 289} (omega arith)) ∙ append-nil (imageOf u)
 
 -- R85: the image of the empty table
 pub empty-image : EmptyImage
@@ -45,7 +45,7 @@ empty-image l e = stored-over emptyTable l e
 
 module _ (t : Table) (w : TableWidths 16 t) where
   over : (u : Table) → storedIn u (imageOf t) ≡ imageOf u
-  over u = stored-over u (imageOf t) (length-image 16 t (w .slots))
+  over u = stored-over u (imageOf t) (length-image 16 t (w .slots) (w .counts))
 
   admit-image : (q : Request) → admittedIn t q (imageOf t) ≡ imageOf (after (admitting q) t)
   admit-image q = go (askOf t q)
@@ -78,7 +78,7 @@ answers-alike t w = (λ q. ap (λ (s : Said Table). askFor s q) (loads-back 16 t
 
 -- R4: the empty table has the code's widths
 pub wide-empty : TableWidths 16 emptyTable
-wide-empty = record { slots = refl; clock = omega arith; lines = narrow-empty 16 }
+wide-empty = record { slots = refl; clock = omega arith; lines = narrow-empty 16; counts = refl; had = wide-within (replicate 16 0) (omega arith); idle = omega arith }
 
 -- R78: a run from the image of any table with the code's widths
 pub image-run-from : (acts : List Act) (t : Table) → AllNarrowed acts → TableWidths 16 t → (imageRun acts (imageOf t) ≡ imageOf (run acts t)) × TableWidths 16 (run acts t)

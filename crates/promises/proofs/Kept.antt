@@ -21,11 +21,13 @@ use Rattle.table.specs.Ask.{says, askOf}
 use Rattle.table.specs.Admit.{newLine, putAt, admittedAt, admitWith}
 use Rattle.table.specs.Step.{choose, ticked, stepOf}
 use Rattle.table.specs.Runs.{Act, asking, admitting, stepping, after}
+use Rattle.theory.specs.Fine.{May}
 use Rattle.theory.specs.Given.{Granted}
 use Rattle.theory.proofs.Numbers.{split}
 use Rattle.theory.proofs.Granted.{granted}
 use Rattle.line.proofs.Stretched.{length-stretched, at-stretched}
-use Rattle.theory.proofs.Step.{fine-step}
+use Rattle.theory.proofs.Pump.{earliest-may}
+use Rattle.theory.proofs.Step.{fine-step, choose-earliest}
 use Rattle.theory.proofs.Trace.{is-stretched}
 use Rattle.promises.specs.Demand3.{Stretches}
 use Rattle.promises.proofs.Good.{Good, at-last, slot-empty, admitted-slots}
@@ -40,16 +42,28 @@ admit-clock t q = go (askOf t q)
     go (Start r) = refl
     go (Refused x) = refl
 
-length-put : (o : Option ℕ) (s : Slot) (l : List Slot) → length (putAt o s l) ≡ length l
-length-put none s l = refl
-length-put (some k) s l = length-set l k s
+length-put : {A : Type 0} (o : Option ℕ) (x : A) (l : List A) → length (putAt o x l) ≡ length l
+length-put none x l = refl
+length-put (some k) x l = length-set l k x
 
--- an admission leaves the number of slots as it was
+-- an admission at any start leaves the number of slots as it was
+pub length-admitted : (t : Table) (q : Request) (r : ℕ) → length (admittedAt t q r .slots) ≡ length (t .slots)
+length-admitted t q r = length-put (lowestOf isNothing (t .slots)) (holding (newLine (q .need) (q .period) (r - t .clock))) (asked t q) ∙ length-stretched (t .slots) (entry q)
+
+-- and so does a refused one
 pub admit-length : (t : Table) (q : Request) → length (after (admitting q) t .slots) ≡ length (t .slots)
 admit-length t q = go (askOf t q)
   where
     go : (a : Answer) → length (admitWith t q a .table .slots) ≡ length (t .slots)
-    go (Start r) = length-put (lowestOf isNothing (t .slots)) (holding (newLine (q .need) (q .period) (r - t .clock))) (asked t q) ∙ length-stretched (t .slots) (entry q)
+    go (Start r) = length-admitted t q r
+    go (Refused x) = refl
+
+-- an admission leaves as many counts
+pub admit-counts : (t : Table) (q : Request) → length (after (admitting q) t .had) ≡ length (t .had)
+admit-counts t q = go (askOf t q)
+  where
+    go : (a : Answer) → length (admitWith t q a .table .had) ≡ length (t .had)
+    go (Start r) = length-put (lowestOf isNothing (t .slots)) 0 (t .had)
     go (Refused x) = refl
 
 -- the new line stands in the slot it was given
@@ -110,7 +124,11 @@ admit-waiting t q j C P w e b = go (askOf t q) refl
 
 -- before the last tick it is the tick of the step's own choice
 pub step-table : (t : Table) → Good t → t .clock < 2 ^ 48 → stepOf t ≡ ticked (choose (t .slots)) t
-step-table t g h = fine-step t (g .fine) h
+step-table t g h = fine-step t (g .fine) (g .within) h
+
+-- the choice serves nobody who is not owed
+pub choice-may : (t : Table) → May (choose (t .slots)) (t .slots)
+choice-may t = earliest-may (choose (t .slots)) (t .slots) (choose-earliest (t .slots))
 
 -- an act never sets the clock back
 pub clock-after : (a : Act) (t : Table) → Good t → t .clock ≤ after a t .clock

@@ -3,6 +3,7 @@ pub mod Good
 pub mod Kept
 pub mod Gets
 pub mod Early
+pub mod Counted
 pub mod Numbered
 pub mod Told
 pub mod Demand1

@@ -1,6 +1,6 @@
 -- No refusal has the number 0, so that a result's number is 0 exactly where something is granted (R63).
 use mathlib.Core.Path.{_≡_, refl, sym, ap, _∙_}
-use mathlib.Core.Bool.{Bool, true, false, not}
+use mathlib.Core.Bool.{Bool, true, false}
 use mathlib.Core.Logic.{⊎-elim}
 use mathlib.Core.List.{List, [], _∷_}
 use mathlib.Core.Option.{Option, none, some}
@@ -19,14 +19,15 @@ use Rattle.table.specs.Words.{refusal, Said, gives, refuses}
 use Rattle.table.specs.Grounds.{Late, Full, Waiters, Unsound, Shorter, Misfit, Wide, Overload, Behind, Short, Row, row, grounds, FirstOf, Answers}
 use Rattle.table.specs.Ask.{says, askOf}
 use Rattle.table.specs.Admit.{admitWith}
+use Rattle.table.specs.Counts.{fault}
 use Rattle.table.specs.Step.{saysRan, choose, serve, refusedStep, stepUnless, advance, stepOf}
 use Rattle.line.specs.Tick.{short}
-use Rattle.line.specs.Sound.{sound}
 use Rattle.theory.proofs.Answers.{ask-answers}
 use Rattle.card.proofs.Grounds.{Refuses, read-refuses}
 use Rattle.card.specs.Card.{Card, cardOf}
 use Rattle.card.specs.Reading.{readWith, readOf}
 use Rattle.card.specs.Answers.{lengthOf, unlessWaiting, writeOf}
+use Rattle.image.specs.Image.{size}
 use Rattle.image.specs.Loading.{wrongIn, tableIn, unlessWrong, loadWith, loadOf}
 use Rattle.image.specs.Answers.{storeOf}
 use Rattle.reply.specs.Line.{fits}
@@ -106,7 +107,7 @@ advance-numbered o t = step-unless (lowestOf short (serve o (t .slots))) 14 t _ 
 pub step-numbered : (t : Table) → Numbered (saysRan (stepOf t .outcome))
 unfolding stepOf
 step-numbered t =
-    go (leb (2 ^ 48) (t .clock)) _ (step-unless (lowestOf (λ h. not (sound h)) (t .slots)) 4 t (advance (choose (t .slots)) t) (λ e. omega arith) (advance-numbered (choose (t .slots)) t))
+    go (leb (2 ^ 48) (t .clock)) _ (step-unless (fault t) 4 t (advance (choose (t .slots)) t) (λ e. omega arith) (advance-numbered (choose (t .slots)) t))
   where
     go : (b : Bool) (s : Stepped) → Numbered (saysRan (s .outcome)) → Numbered (saysRan (pick b (refusedStep t 15 0) s .outcome))
     go true s k = λ e. omega arith
@@ -130,7 +131,7 @@ room-numbered false n = λ e. omega arith
 -- R84: a buffer's
 pub store-numbered : (room : ℕ) → Numbered (storeOf room)
 unfolding storeOf
-store-numbered room = room-numbered (leb 153 room) 153
+store-numbered room = room-numbered (leb (size 16) room) (size 16)
 
 -- R59: the writer's
 pub write-numbered : (t : Table) (q : Request) (room : ℕ) → Numbered (writeOf t q room)

@@ -2,6 +2,7 @@
 use mathlib.Core.Path.{_≡_, refl, sym, ap, _∙_}
 use mathlib.Core.Option.{Option}
 use Prim.Native.Nat.{ℕ}
+use mathlib.Core.List.{List}
 use lib.ListN.{length}
 use Rattle.table.specs.declared.Table.{Table}
 use Rattle.table.specs.declared.Request.{Request}
@@ -12,7 +13,7 @@ use Rattle.card.specs.Twin.{turnedOf}
 use Rattle.image.specs.Loading.{loadOf}
 use Rattle.calls.specs.declared.Result.{Result}
 use Rattle.calls.specs.Cards.{lineFor}
-use Rattle.calls.specs.Tables.{askedAs, askFor, ranAs, stepFor, ReadyFor}
+use Rattle.calls.specs.Tables.{askedAs, askFor, ranAs, stepFor, ReadyFor, seventeen, countsFor, countsAfter}
 use Rattle.promises.specs.Demand1.{ToldApart}
 use Rattle.promises.proofs.Numbered.{Numbered, zero-grants, ask-numbered, step-numbered, load-numbered, store-numbered, put-numbered, rewrite-numbered, run-numbered, card-numbered, image-numbered}
 
@@ -39,6 +40,10 @@ ready-told : (s : Said Table) (r : Result) → Numbered s → ReadyFor s r → r
 ready-told (gives t) r h k e = (t, refl)
 ready-told (refuses x) r h k e = absurd (h (number-is k e))
 
+counts-told : (s : Said Table) (ns : List ℕ) → Numbered s → countsFor s .number ≡ 0 → (t : Table) × (s ≡ gives t) × (countsAfter s ns ≡ seventeen t)
+counts-told (gives t) ns h e = (t, refl, refl)
+counts-told (refuses x) ns h e = absurd (h e)
+
 -- R63: a result with the number 0 is a grant, whichever operation gave it
 pub told-apart : ToldApart
 told-apart = record {
@@ -50,6 +55,7 @@ told-apart = record {
   admit-image = λ l q r m h e. ask-told (loadOf l) q (load-numbered 16 l) (number-is (h .0) e);
   step-image = λ l r m h e. step-told (loadOf l) (load-numbered 16 l) (number-is (h .0) e);
   ready-image = λ l r h e. ready-told (loadOf l) r (load-numbered 16 l) h e;
+  counts-image = λ l ns r m h e. let c = counts-told (loadOf l) ns (load-numbered 16 l) (number-is (h .0) e) in (c .0, c .1, h .1 ∙ c .2);
   write-image = λ l q out r m h e. zero-grants 0 _ (card-numbered l q (length out)) (number-is (h .0) e);
   read-image = λ card l ns r m n h e. zero-grants 0 _ (image-numbered card (length l)) (number-is (h .0) e);
 }

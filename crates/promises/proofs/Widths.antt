@@ -1,13 +1,14 @@
 -- Every act keeps the code's widths: numbers of sixteen bits stay so in a tick and in an admission, and the clock ends long before its own width.
 use mathlib.Core.Path.{_≡_, refl, sym, _∙_, subst}
-use mathlib.Core.Bool.{Bool, true, false, not}
+use mathlib.Core.Bool.{Bool, true, false}
 use mathlib.Core.List.{List, [], _∷_}
 use mathlib.Core.Option.{Option, none, some}
-use Prim.Native.Nat.{ℕ, zero, suc, _+_, _-_, _^_, _<_}
+use Prim.Native.Nat.{ℕ, zero, suc, _+_, _-_, _^_, _≤_, _<_}
 use native.Mathlib.Omega.{arith}
 use borrow.Author.Tests.{lt-ltb, le-ltb, lt-leb}
 use lib.Dec.{ltb}
 use lib.ListN.{set, replicate}
+use Rattle.periods.specs.Multiples.{All}
 use Rattle.line.specs.declared.Held.{Held}
 use Rattle.line.specs.declared.Held.the-variants.{Nothing, Running, Waiting}
 use Rattle.line.specs.declared.Slot.{Slot}
@@ -17,16 +18,17 @@ use Rattle.table.specs.declared.Answer.{Answer}
 use Rattle.table.specs.declared.Answer.the-variants.{Start, Refused}
 use Rattle.table.specs.declared.Stepped.{Stepped}
 use Rattle.line.specs.Slots.{pick, waitWith, holding, empty, begun, slotAt, at, mapAt, isNothing, lowestOf}
-use Rattle.line.specs.Sound.{sound}
 use Rattle.line.specs.Demand.{endOf, lastEnd}
 use Rattle.line.specs.Stretch.{stretch, stretched}
 use Rattle.line.specs.Tick.{served, passed, servedSlot, short}
+use Rattle.table.specs.Counts.{sum, accounted, fault, hadAfter}
 use Rattle.table.specs.Grounds.{entry, asked}
 use Rattle.table.specs.Ask.{askOf}
 use Rattle.table.specs.Admit.{newLine, putAt, admitWith}
 use Rattle.table.specs.Step.{choose, serve, pass, stepUnless, ticked, advance, stepOf}
 use Rattle.table.specs.Runs.{Act, asking, admitting, stepping, after}
-use Rattle.image.specs.Image.{Narrow, AllNarrow, TableWidths}
+use Rattle.table.proofs.Counts.{faultless, length-had, tick-within}
+use Rattle.image.specs.Image.{Narrow, AllNarrow, InEight, TableWidths}
 use Rattle.theory.proofs.Numbers.{split}
 use Rattle.theory.proofs.Tail.{last-within}
 use Rattle.theory.proofs.Start.{least-by-last}
@@ -34,7 +36,7 @@ use Rattle.theory.proofs.Granted.{granted}
 use Rattle.theory.proofs.Trace.{length-tick}
 use Rattle.promises.specs.Images.{NarrowRequest, Narrowed}
 use Rattle.promises.proofs.Good.{at-last}
-use Rattle.promises.proofs.Kept.{admit-clock, admit-length}
+use Rattle.promises.proofs.Kept.{admit-clock, admit-length, admit-counts}
 
 -- ---- slot by slot
 
@@ -82,23 +84,33 @@ narrow-pass : (l : List Slot) → AllNarrow l → AllNarrow (pass l)
 narrow-pass [] n = tt
 narrow-pass (s ∷ l) n = (narrow-passed (s .held) (n .0), narrow-pass l (n .1))
 
--- R45: a tick before the last
-wide-ticked : (o : Option ℕ) (t : Table) → TableWidths 16 t → t .clock < 2 ^ 48 → TableWidths 16 (ticked o t .table)
-wide-ticked o t w h = record {
-  slots = length-tick o (t .slots) ∙ w .slots;
-  clock = omega arith;
-  lines = narrow-pass (serve o (t .slots)) (narrow-serve o (t .slots) (w .lines));
-}
+-- R95: counts that add up to a number of 64 bits have no more
+pub wide-within : (l : List ℕ) → sum l < 2 ^ 64 → All InEight l
+wide-within [] h = tt
+wide-within (n ∷ l) h = (omega arith, wide-within l (omega arith))
+
+-- R45, R97: a tick before the last, of a table that accounts for no more than its clock
+wide-ticked : (o : Option ℕ) (t : Table) → TableWidths 16 t → accounted t ≤ t .clock → t .clock < 2 ^ 48 → TableWidths 16 (ticked o t .table)
+wide-ticked o t w a h =
+    let s = tick-within o (t .had) (t .idle) in
+    record {
+      slots = length-tick o (t .slots) ∙ w .slots;
+      clock = omega arith;
+      lines = narrow-pass (serve o (t .slots)) (narrow-serve o (t .slots) (w .lines));
+      counts = length-had o (t .had) ∙ w .counts;
+      had = wide-within (hadAfter o (t .had)) (omega (arith, s));
+      idle = omega (arith, s);
+    }
 
 wide-unless : (o : Option ℕ) (n : ℕ) (t : Table) (s : Stepped) → TableWidths 16 t → TableWidths 16 (s .table) → TableWidths 16 (stepUnless o n t s .table)
 wide-unless none n t s v w = w
 wide-unless (some k) n t s v w = v
 
-wide-advance : (o : Option ℕ) (t : Table) → TableWidths 16 t → t .clock < 2 ^ 48 → TableWidths 16 (advance o t .table)
+wide-advance : (o : Option ℕ) (t : Table) → TableWidths 16 t → accounted t ≤ t .clock → t .clock < 2 ^ 48 → TableWidths 16 (advance o t .table)
 unfolding advance
-wide-advance o t w h = wide-unless (lowestOf short (serve o (t .slots))) 14 t (ticked o t) w (wide-ticked o t w h)
+wide-advance o t w a h = wide-unless (lowestOf short (serve o (t .slots))) 14 t (ticked o t) w (wide-ticked o t w a h)
 
-early-step : (t : Table) → t .clock < 2 ^ 48 → stepOf t ≡ stepUnless (lowestOf (λ h. not (sound h)) (t .slots)) 4 t (advance (choose (t .slots)) t)
+early-step : (t : Table) → t .clock < 2 ^ 48 → stepOf t ≡ stepUnless (fault t) 4 t (advance (choose (t .slots)) t)
 unfolding stepOf
 early-step t h = rw (lt-leb (2 ^ 48) (t .clock) h)
 
@@ -107,8 +119,11 @@ pub wide-step : (t : Table) → TableWidths 16 t → TableWidths 16 (stepOf t .t
 wide-step t w =
     split (2 ^ 48) (t .clock)
     (λ h. subst (λ (s : Stepped). TableWidths 16 (s .table)) (sym (at-last t h)) w)
-    (λ h. subst (λ (s : Stepped). TableWidths 16 (s .table)) (sym (early-step t h))
-    (wide-unless (lowestOf (λ x. not (sound x)) (t .slots)) 4 t (advance (choose (t .slots)) t) w (wide-advance (choose (t .slots)) t w h)))
+    (λ h. subst (λ (s : Stepped). TableWidths 16 (s .table)) (sym (early-step t h)) (go h (fault t) refl))
+  where
+    go : t .clock < 2 ^ 48 → (o : Option ℕ) → fault t ≡ o → TableWidths 16 (stepUnless o 4 t (advance (choose (t .slots)) t) .table)
+    go h none e = wide-advance (choose (t .slots)) t w (faultless t e .1) h
+    go h (some k) e = w
 
 -- ---- an admission
 
@@ -158,12 +173,29 @@ narrow-admitted t q f n = go (askOf t q) refl
         (narrow-new (q .need) (q .period) (r - t .clock) (f .0) (f .1) (wait-near t q r lines e)) lines
     go (Refused x) e = n
 
+-- R42: a count becomes 0
+wide-put : (o : Option ℕ) (l : List ℕ) → All InEight l → All InEight (putAt o 0 l)
+wide-put none l w = w
+wide-put (some k) [] w = tt
+wide-put (some zero) (n ∷ l) w = (omega arith, w .1)
+wide-put (some (suc k)) (n ∷ l) w = (w .0, wide-put (some k) l (w .1))
+
+wide-counts : (t : Table) (q : Request) → TableWidths 16 t → All InEight (after (admitting q) t .had) × InEight (after (admitting q) t .idle)
+wide-counts t q w = go (askOf t q)
+  where
+    go : (a : Answer) → All InEight (admitWith t q a .table .had) × InEight (admitWith t q a .table .idle)
+    go (Start r) = (wide-put (lowestOf isNothing (t .slots)) (t .had) (w .had), w .idle)
+    go (Refused x) = (w .had, w .idle)
+
 -- R42: an admission keeps the code's widths, granted or not
 pub wide-admit : (t : Table) (q : Request) → NarrowRequest q → TableWidths 16 t → TableWidths 16 (after (admitting q) t)
 wide-admit t q f w = record {
   slots = admit-length t q ∙ w .slots;
   clock = rw (admit-clock t q) (w .clock);
   lines = narrow-admitted t q f (w .lines);
+  counts = admit-counts t q ∙ w .counts;
+  had = wide-counts t q w .0;
+  idle = wide-counts t q w .1;
 }
 
 -- R3, R73: every act keeps the code's widths

@@ -25,7 +25,7 @@ use Rattle.image.specs.Answers.{handedOut, storeOf, storedIn}
 use Rattle.calls.specs.declared.Result.{Result}
 use Rattle.calls.specs.Results.{resultOf}
 use Rattle.calls.specs.Cards.{lineFor, putOf, rewriteAs, rewrittenOf, runOf}
-use Rattle.calls.specs.Tables.{askFor, afterAdmit, stepFor, afterStep, ReadyFor}
+use Rattle.calls.specs.Tables.{askFor, afterAdmit, stepFor, afterStep, ReadyFor, countsFor, countsAfter}
 use Rattle.calls.specs.Moves.{writeCardFor, cardAfter, readCardFor, imageAfter, numbersAfter}
 
 -- R48: step, and driven, which steps a table of its own
@@ -89,6 +89,10 @@ StepsImage l r m = (r ≡ stepFor (loadOf l)) × (m ≡ afterStep (loadOf l) l)
 -- R89: trimthuel_ready, which is lent no byte to write
 abbrev pub ReadiesImage : (image : List ℕ) → Result → Type 0
 ReadiesImage l r = ReadyFor (loadOf l) r
+
+-- R98: trimthuel_counts answers r and leaves the numbers m
+abbrev pub CountsImage : (image numbers : List ℕ) → Result → List ℕ → Type 0
+CountsImage l ns r m = (r ≡ countsFor (loadOf l)) × (m ≡ countsAfter (loadOf l) ns)
 
 -- R91: trimthuel_write_card answers r and leaves the bytes m in the buffer
 abbrev pub WritesImage : (image : List ℕ) → Request → (buffer : List ℕ) → Result → List ℕ → Type 0

@@ -29,8 +29,9 @@ use Rattle.image.specs.Loading.{loadOf}
 use Rattle.image.specs.Answers.{saidLoaded, storeOf}
 use Rattle.calls.specs.declared.Result.{Result}
 use Rattle.calls.specs.Cards.{lineFor, putOf, rewriteOf, runOf}
+use Rattle.calls.specs.Tables.{seventeen}
 use Rattle.calls.specs.Moves.{writeCardFor, readCardFor}
-use Rattle.promises.specs.Contracts.{Steps, Drives, Reads, Writes, Puts, Loads, Stores, AnswersCard, Rewrites, RunsCard, Empties, AsksImage, AdmitsImage, StepsImage, ReadiesImage, WritesImage, ReadsImage}
+use Rattle.promises.specs.Contracts.{Steps, Drives, Reads, Writes, Puts, Loads, Stores, AnswersCard, Rewrites, RunsCard, Empties, AsksImage, AdmitsImage, StepsImage, ReadiesImage, CountsImage, WritesImage, ReadsImage}
 
 -- ---- one fixed answer
 
@@ -70,6 +71,7 @@ pub record FixedAnswer : Type 0 where
   pub admit-image : (l : List ℕ) (q : Request) → Both (AdmitsImage l q)
   pub step-image : (l : List ℕ) → Both (StepsImage l)
   pub ready-image : (l : List ℕ) → One (ReadiesImage l)
+  pub counts-image : (l ns : List ℕ) → Both (CountsImage l ns)
   pub write-image : (l : List ℕ) (q : Request) (out : List ℕ) → Both (WritesImage l q out)
   pub read-image : (card l ns : List ℕ) → Three (ReadsImage card l ns)
 
@@ -97,6 +99,7 @@ pub record RefusalKeeps : Type 0 where
   pub empty-image : (l : List ℕ) (r : Result) (m : List ℕ) → Empties l r m → (r .number ≡ 0 → ⊥) → m ≡ l
   pub admit-image : (l : List ℕ) (q : Request) (r : Result) (m : List ℕ) → AdmitsImage l q r m → (r .number ≡ 0 → ⊥) → m ≡ l
   pub step-image : (l : List ℕ) (r : Result) (m : List ℕ) → StepsImage l r m → (r .number ≡ 0 → ⊥) → m ≡ l
+  pub counts-image : (l ns : List ℕ) (r : Result) (m : List ℕ) → CountsImage l ns r m → (r .number ≡ 0 → ⊥) → m ≡ ns
   pub write-image : (l : List ℕ) (q : Request) (out : List ℕ) (r : Result) (m : List ℕ) → WritesImage l q out r m → (r .number ≡ 0 → ⊥) → m ≡ out
   pub read-image : (card l ns : List ℕ) (r : Result) (m n : List ℕ) → ReadsImage card l ns r m n → (r .number ≡ 0 → ⊥) → (m ≡ l) × (n ≡ ns)
 
@@ -115,6 +118,7 @@ pub record ToldApart : Type 0 where
   pub step-image : (l : List ℕ) (r : Result) (m : List ℕ) → StepsImage l r m → r .number ≡ 0
       → (t : Table) × (loadOf l ≡ gives t) × ((o : Option ℕ) × (saysRan (stepOf t .outcome) ≡ gives o))
   pub ready-image : (l : List ℕ) (r : Result) → ReadiesImage l r → r .number ≡ 0 → (t : Table) × (loadOf l ≡ gives t)
+  pub counts-image : (l ns : List ℕ) (r : Result) (m : List ℕ) → CountsImage l ns r m → r .number ≡ 0 → (t : Table) × (loadOf l ≡ gives t) × (m ≡ seventeen t)
   pub write-image : (l : List ℕ) (q : Request) (out : List ℕ) (r : Result) (m : List ℕ) → WritesImage l q out r m → r .number ≡ 0
       → (n : ℕ) × (writeCardFor (loadOf l) q (length out) ≡ gives n)
   pub read-image : (card l ns : List ℕ) (r : Result) (m n : List ℕ) → ReadsImage card l ns r m n → r .number ≡ 0

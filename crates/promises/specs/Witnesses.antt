@@ -7,7 +7,7 @@ use Rattle.table.specs.declared.Request.{Request}
 use Rattle.table.specs.declared.Refusal.{Refusal}
 use Rattle.line.specs.Slots.{empty}
 use Rattle.table.specs.Words.{refusal, refuses}
-use Rattle.table.specs.Cases.{CaseLine, Case, line, running, waiting, tableOf, tableFor, requestFor, case, caseA, caseG, caseI, caseJ, caseL}
+use Rattle.table.specs.Cases.{CaseLine, Case, line, running, waiting, tableOf, tallied, tableFor, requestFor, case, caseA, caseG, caseI, caseJ, caseL}
 use Rattle.card.specs.Layout.{TA}
 use Rattle.card.specs.Card.{cardOf}
 
@@ -19,13 +19,14 @@ waitingTable = tableOf 0 (running 1 4 0 1 ∷ empty ∷ waiting 1 4 3 ∷ [])
 abbrev pub sixteenLines : List CaseLine
 sixteenLines = replicate 16 (line 1 64 64 0 1)
 
--- R20: 1 to 10
+-- R20: 1 to 10, both parts of 4
 unfoldable pub askMeets : List Case
 askMeets =
     case (2 ^ 48 - 65536 + 1) [] 1 4 (refuses (refusal 1 0))
     ∷ case 0 sixteenLines 1 64 (refuses (refusal 2 0))
     ∷ record { table = waitingTable; request = requestFor [] 1 4; answer = refuses (refusal 3 2) }
     ∷ case 0 (line 1 4 4 0 1 ∷ line 5 4 4 0 0 ∷ []) 1 4 (refuses (refusal 4 1))
+    ∷ record { table = tallied (1 ∷ []) 0 (tableOf 0 []); request = requestFor [] 1 4; answer = refuses (refusal 4 0) }
     ∷ case 0 (line 1 4 4 0 1 ∷ line 1 4 3 0 1 ∷ []) 1 4 (refuses (refusal 5 1))
     ∷ case 0 [] 5 4 (refuses (refusal 6 0))
     ∷ caseL
@@ -39,10 +40,11 @@ pub record Meets : Type 0 where
   pub table : Table
   pub refused : Refusal
 
--- R20: 4, 14 and 15. A line that is owed two ticks one tick before its end stands in slot 1.
+-- R20: 4 in both its parts, 14 and 15. A line that is owed two ticks one tick before its end stands in slot 1.
 unfoldable pub stepMeets : List Meets
 stepMeets =
     record { table = tableFor 0 (line 1 4 4 0 1 ∷ line 5 4 4 0 0 ∷ []); refused = refusal 4 1 }
+    ∷ record { table = tallied (1 ∷ []) 0 (tableOf 0 []); refused = refusal 4 0 }
     ∷ record { table = tableFor 0 (line 1 4 4 0 1 ∷ line 2 4 4 3 2 ∷ []); refused = refusal 14 1 }
     ∷ record { table = tableFor (2 ^ 48) []; refused = refusal 15 0 }
     ∷ []

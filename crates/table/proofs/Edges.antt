@@ -17,7 +17,7 @@ use Rattle.line.specs.Shares.{frame, periodsIn}
 use Rattle.table.specs.Ask.{says, askIn, askOf}
 use Rattle.line.specs.Ends.{endsOf, slack, bound, greatest, anyOf, start}
 use Rattle.table.specs.Admit.{admitOf}
-use Rattle.table.specs.Cases.{CaseLine, Case, line, running, waiting, tableOf, tableFor, case, caseA, caseC, caseG, caseK, caseL}
+use Rattle.table.specs.Cases.{CaseLine, Case, line, running, waiting, tableOf, tableFor, tallied, case, caseA, caseC, caseG, caseK, caseL}
 
 abbrev refused : (number place : ℕ) → Said ℕ
 refused n k = refuses (refusal n k)
@@ -32,6 +32,10 @@ row t q a = record { table = t; request = q; answer = a }
 -- a line in slot 1, above one that is in order
 abbrev second : CaseLine → Said ℕ → Case
 second b a = case 0 (line 1 8 8 0 1 ∷ b ∷ []) 1 4 a
+
+-- these counts at clock 9, where a line runs in slot 0
+abbrev tallying : (had : List ℕ) → (idle : ℕ) → Said ℕ → Case
+tallying ns n a = row (tallied ns n (tableOf 9 (running 1 8 0 1 ∷ []))) (everyPeriod 8 1 4) a
 
 -- ---- each limit, met and passed
 
@@ -93,6 +97,27 @@ places =
     ∷ case 0 (line 1 8 8 0 1 ∷ line 1 8 7 0 1 ∷ line 1 8 7 0 1 ∷ []) 1 4 (refused 5 1)
     ∷ []
 
+-- R96: as many as the clock, and one more, of a slot that holds a line, of one that does not, and idle; sums that would wrap in 64 bits do not
+abbrev counts : List Case
+counts =
+    tallying (3 ∷ 0 ∷ 4 ∷ []) 2 (gives 9)
+    ∷ tallying (4 ∷ 0 ∷ 4 ∷ []) 2 (refused 4 0)
+    ∷ tallying (3 ∷ 0 ∷ 5 ∷ []) 2 (refused 4 0)
+    ∷ tallying (3 ∷ 0 ∷ 4 ∷ []) 3 (refused 4 0)
+    ∷ tallying [] 0 (gives 9)
+    ∷ tallying ((2 ^ 63) ∷ (2 ^ 63) ∷ []) 0 (refused 4 0)
+    ∷ tallying ((2 ^ 64 - 1) ∷ []) 1 (refused 4 0)
+    ∷ []
+
+-- R18, R24: waiting lines before the counts, unsound lines before them too, and the counts before a period that would be shortened; beside each the first is mended
+abbrev countOrders : List Case
+countOrders =
+    row (tallied (9 ∷ []) 0 (tableOf 5 (running 1 8 0 1 ∷ waiting 1 8 3 ∷ []))) (everyPeriod 8 1 8) (refused 3 1)
+    ∷ row (tallied (9 ∷ []) 0 (tableOf 5 (running 1 8 0 1 ∷ running 9 8 0 0 ∷ []))) (everyPeriod 7 1 8) (refused 4 1)
+    ∷ row (tallied (9 ∷ []) 0 (tableOf 5 (running 1 8 0 1 ∷ running 1 8 0 1 ∷ []))) (everyPeriod 7 1 8) (refused 4 0)
+    ∷ row (tallied (5 ∷ []) 0 (tableOf 5 (empty ∷ running 1 8 0 1 ∷ []))) (everyPeriod 7 1 8) (refused 5 1)
+    ∷ []
+
 -- ---- the order: two neighbouring grounds hold, and beside it the first is mended
 
 abbrev neighbours : List Case
@@ -119,7 +144,7 @@ neighbours =
 
 -- all of them
 unfoldable pub askEdges : List Case
-askEdges = clocks ++ (slots ++ (soundness ++ (stretches ++ (newLines ++ (frames ++ (loads ++ (places ++ neighbours)))))))
+askEdges = clocks ++ (slots ++ (soundness ++ (counts ++ (stretches ++ (newLines ++ (frames ++ (loads ++ (places ++ (countOrders ++ neighbours)))))))))
 
 -- R18, R19, R21 to R30: each ground on both sides of its edge, its place, and its order with the next
 pub ask-edges : map (λ (c : Case). says (askOf (c .table) (c .request))) askEdges ≡ map (λ (c : Case). c .answer) askEdges
@@ -141,7 +166,8 @@ last-end-edges = refl
 
 -- R4, R2: the empty table
 pub empty-edges : (emptyTable .clock ≡ 0) × (length (emptyTable .slots) ≡ 16) × (map (λ (s : Slot). s .held) (emptyTable .slots) ≡ replicate 16 Nothing)
-empty-edges = (refl, refl, refl)
+    × (emptyTable .had ≡ replicate 16 0) × (emptyTable .idle ≡ 0)
+empty-edges = (refl, refl, refl, refl, refl)
 
 -- ---- admit
 
@@ -153,15 +179,16 @@ pub record AdmitEdge : Type 0 where
 abbrev admits : Case → Table → AdmitEdge
 admits c t = record { asks = c; leaves = t }
 
--- a later start waits, one tick or more; one at the clock runs; a slot between others is the lowest empty one; a refusal keeps the table
+-- a later start waits, one tick or more; one at the clock runs; a slot between others is the lowest empty one, and its count alone is 0 then; a refusal keeps the table
 unfoldable pub admitEdges : List AdmitEdge
 admitEdges =
     admits caseA (tableOf 8 (running 8 32 8 0 ∷ running 8 16 8 8 ∷ waiting 1 4 5 ∷ []))
     ∷ admits (case 10 (line 3 10 20 7 0 ∷ line 3 10 10 8 2 ∷ []) 1 2 (gives 11)) (tableOf 10 (running 3 20 7 0 ∷ running 3 10 8 2 ∷ waiting 1 2 1 ∷ []))
     ∷ admits caseC (tableOf 0 (running 3 5 0 3 ∷ []))
-    ∷ admits (row (tableOf 7 (running 1 8 2 1 ∷ empty ∷ running 2 8 3 1 ∷ empty ∷ [])) (everyPeriod 16 3 16) (gives 7))
-    (tableOf 7 (running 1 16 2 1 ∷ running 3 16 0 3 ∷ running 2 16 3 1 ∷ []))
+    ∷ admits (row (tallied (1 ∷ 2 ∷ 1 ∷ 2 ∷ []) 1 (tableOf 7 (running 1 8 2 1 ∷ empty ∷ running 2 8 3 1 ∷ empty ∷ []))) (everyPeriod 16 3 16) (gives 7))
+    (tallied (1 ∷ 0 ∷ 1 ∷ 2 ∷ []) 1 (tableOf 7 (running 1 16 2 1 ∷ running 3 16 0 3 ∷ running 2 16 3 1 ∷ [])))
     ∷ admits caseG (tableFor 0 (line 4 8 8 4 3 ∷ []))
+    ∷ admits (tallying (4 ∷ 3 ∷ 2 ∷ []) 1 (refused 4 0)) (tallied (4 ∷ 3 ∷ 2 ∷ []) 1 (tableOf 9 (running 1 8 0 1 ∷ [])))
     ∷ []
 
 -- R42, R43: the answer and the whole table

@@ -1,4 +1,5 @@
 -- The laws of the table: the choice, the step, the cases and the edges.
+pub mod Counts
 pub mod Choice
 pub mod Step
 pub mod Order

@@ -1,7 +1,7 @@
 -- The step's branches, over plain values: what each return shows, from what the calls ensure; and that a refused step keeps the table.
 use Prim.Native.Nat.{ℕ, _+_, _^_, _≤_, _<_}
-use mathlib.Core.Path.{_≡_, refl, ap, ap₂, sym, _∙_}
-use mathlib.Core.Bool.{Bool, true, false, not}
+use mathlib.Core.Path.{_≡_, refl, ap, ap₂, sym, _∙_, subst}
+use mathlib.Core.Bool.{Bool, true, false}
 use mathlib.Core.Option.{Option, none, some}
 use mathlib.Core.List.{List, [], _∷_, map}
 use native.Mathlib.Omega.{arith}
@@ -19,7 +19,7 @@ use Rattle.table.specs.declared.Outcome.the-variants.{Ran, Refused}
 use Rattle.table.specs.declared.Stepped.{Stepped}
 use Rattle.line.specs.Slots.{pick, empty, slotAt, at, mapAt, lowestOf}
 use Rattle.table.specs.Words.{withSlots, laterWith, slotOf, whichOf}
-use Rattle.line.specs.Sound.{sound}
+use Rattle.table.specs.Counts.{fault, counting}
 use Rattle.table.specs.Step.{choose, serve, servedAt, pass, refusedStep, stepUnless, ticked, advance, stepOf}
 use Rattle.line.specs.Tick.{servedSlot, passedSlot, short}
 use Rattle.line.proofs.Read.{read-any}
@@ -42,6 +42,10 @@ module _ {t₀ t : Table} (v : OnlySlots t₀ t) where
   -- with the slots that are wanted it is the table that is wanted
   pub only-end : {l : List Slot} → t .slots ≡ l → t ≡ withSlots t₀ l
   only-end e = v .same ∙ ap (withSlots t₀) e
+
+-- the table t at another clock
+abbrev clocked : ℕ → Table → Table
+clocked k t = record { clock = k; slots = t .slots; had = t .had; idle = t .idle }
 
 -- serving leaves the number of slots as it was
 pub length-serve : (o : Option ℕ) (l : List Slot) → length (serve o l) ≡ length l
@@ -85,14 +89,15 @@ pub slot-of-which : (o : Option ℕ) → slotOf (whichOf o) ≡ o
 slot-of-which none = refl
 slot-of-which (some k) = refl
 
--- a tick of t, with the slot o served, that has come to slot i: in v the slots below it are a tick later, and none of their periods ends short
+-- a tick of t, with the slot o served, that has come to slot i: in v it is counted, the slots below i are a tick later, and none of their periods ends short
 pub record Ticking (o : Option ℕ) (t v : Table) (i : ℕ) : Type 0 where
+  pub counted : OnlySlots (counting o t) v
   pub later : Mapping (λ k s. passedSlot (slotAt (serve o (t .slots)) k)) 16 (t .slots) (v .slots) i
   pub fine : Looking (λ k. short (at (serve o (t .slots)) k)) (length (serve o (t .slots))) i
 
 -- no slot is passed
-pub tick-start : (o : Option ℕ) {t : Table} → length (t .slots) ≡ 16 → Ticking o t t 0
-tick-start o e = record { later = map-start _ e; fine = look-start _ _ }
+pub tick-start : (o : Option ℕ) {t v : Table} → length (t .slots) ≡ 16 → v ≡ counting o t → Ticking o t v 0
+tick-start o {t} e n = subst (λ (v : Table). Ticking o t v 0) (sym n) (record { counted = only-none; later = map-start _ e; fine = look-start _ _ })
 
 module _ {o : Option ℕ} {t v : Table} {i : ℕ} (x : Ticking o t v i) where
   inside : i < 16 → i < length (serve o (t .slots))
@@ -114,13 +119,14 @@ module _ {o : Option ℕ} {t v : Table} {i : ℕ} (x : Ticking o t v i) where
 
     -- R45 to R47: it does not, and the slot is a tick later
     pub tick-on : {r : Slot} → b ≡ false → r ≡ passedSlot s → Ticking o t (withSlots v (set (v .slots) i r)) (i + 1)
-    tick-on z f = record { later = map-on (x .later) d h (f ∙ ap passedSlot tick-here); fine = look-on (x .fine) (inside h) (tick-sees ∙ z) }
+    tick-on z f = record { counted = only-on (x .counted) _; later = map-on (x .later) d h (f ∙ ap passedSlot tick-here); fine = look-on (x .fine) (inside h) (tick-sees ∙ z) }
 
-  -- all slots are passed
-  pub tick-end : 16 ≤ i → (lowestOf short (serve o (t .slots)) ≡ none) × (v .slots ≡ pass (serve o (t .slots)))
+  -- all slots are passed: what is left is the clock
+  pub tick-end : 16 ≤ i → (lowestOf short (serve o (t .slots)) ≡ none) × (clocked (t .clock + 1) v ≡ laterWith (counting o t) (pass (serve o (t .slots))))
   tick-end h =
       let n = length-serve o (t .slots) in
-      (look-end (x .fine) (omega (arith, x .later .long)), map-end (x .later) h ∙ map-from passedSlot (t .slots) (serve o (t .slots)) (sym n))
+      let e = map-end (x .later) h ∙ map-from passedSlot (t .slots) (serve o (t .slots)) (sym n) in
+      (look-end (x .fine) (omega (arith, x .later .long)), ap (clocked (t .clock + 1)) (only-end (x .counted) e))
 
 module _ (t : Table) (w : Which) where
   advance-by : (o : Option ℕ) → lowestOf short (serve (slotOf w) (t .slots)) ≡ o → stepUnless o 14 t (ticked (slotOf w) t) ≡ advance (slotOf w) t
@@ -132,10 +138,10 @@ module _ (t : Table) (w : Which) where
   advance-short {k} e = advance-by (some k) e
 
   -- R45 to R47: none does, and every slot is a tick later
-  pub advance-fine : {l : List Slot} {next : Table} → (lowestOf short (serve (slotOf w) (t .slots)) ≡ none) × (l ≡ pass (serve (slotOf w) (t .slots)))
-      → next ≡ laterWith t l → _≡_ {A = Stepped} (record { table = next; outcome = Ran w }) (advance (slotOf w) t)
-  advance-fine e en =
-      ap₂ (λ (x : Table) (y : Which). let s : Stepped = record { table = x; outcome = Ran y } in s) (en ∙ ap (laterWith t) (e .1)) (which-of w)
+  pub advance-fine : {next : Table} → (lowestOf short (serve (slotOf w) (t .slots)) ≡ none) × (next ≡ laterWith (counting (slotOf w) t) (pass (serve (slotOf w) (t .slots))))
+      → _≡_ {A = Stepped} (record { table = next; outcome = Ran w }) (advance (slotOf w) t)
+  advance-fine e =
+      ap₂ (λ (x : Table) (y : Which). let s : Stepped = record { table = x; outcome = Ran y } in s) (e .1) (which-of w)
       ∙ advance-by none (e .0)
 
 module _ (t : Table) where
@@ -145,17 +151,17 @@ module _ (t : Table) where
   step-late h = rw (le-leb (2 ^ 48) (t .clock) h)
 
   module _ (early : t .clock < 2 ^ 48) where
-    step-by : (o : Option ℕ) → lowestOf (λ h. not (sound h)) (t .slots) ≡ o → stepUnless o 4 t (advance (choose (t .slots)) t) ≡ stepOf t
+    step-by : (o : Option ℕ) → fault t ≡ o → stepUnless o 4 t (advance (choose (t .slots)) t) ≡ stepOf t
     unfolding stepOf
     step-by o e = rw (lt-leb (2 ^ 48) (t .clock) early) (ap (λ (p : Option ℕ). stepUnless p 4 t (advance (choose (t .slots)) t)) (sym e))
 
-    -- R24: with an unsound line it is refused with 4 at the lowest
-    pub step-unsound : {k : ℕ} → lowestOf (λ h. not (sound h)) (t .slots) ≡ some k → refusedStep t 4 k ≡ stepOf t
-    step-unsound {k} e = step-by (some k) e
+    -- R24: with an unsound line, or too many counts, it is refused with 4 there
+    pub step-faulty : {k : ℕ} → fault t ≡ some k → refusedStep t 4 k ≡ stepOf t
+    step-faulty {k} e = step-by (some k) e
 
     -- R44: else the tick goes to the choice
-    pub step-fine : (w : Which) → (lowestOf (λ h. not (sound h)) (t .slots) ≡ none) × (slotOf w ≡ choose (t .slots)) → advance (slotOf w) t ≡ stepOf t
-    step-fine w e = ap (λ (o : Option ℕ). advance o t) (e .1) ∙ step-by none (e .0)
+    pub step-fine : (w : Which) → fault t ≡ none → slotOf w ≡ choose (t .slots) → advance (slotOf w) t ≡ stepOf t
+    step-fine w e g = ap (λ (o : Option ℕ). advance o t) g ∙ step-by none e
 
 module _ (t : Table) (x : Refusal) where
   abbrev Keeps : Stepped → Type 0
@@ -182,5 +188,4 @@ module _ (t : Table) (x : Refusal) where
   unfolding stepOf
   refused-keeps =
       let s : Stepped = advance (choose (t .slots)) t in
-      let o : Option ℕ = lowestOf (λ h. not (sound h)) (t .slots) in
-      keeps-pick (leb (2 ^ 48) (t .clock)) (stepUnless o 4 t s) (keeps-unless o 4 s (advance-keeps (choose (t .slots))))
+      keeps-pick (leb (2 ^ 48) (t .clock)) (stepUnless (fault t) 4 t s) (keeps-unless (fault t) 4 s (advance-keeps (choose (t .slots))))

@@ -1,5 +1,5 @@
 -- The step, R44 to R48, by computation: what so many steps of a table say, and the table that they leave.
-use Prim.Native.Nat.{ℕ, zero, suc, _-_, _^_}
+use Prim.Native.Nat.{ℕ, zero, suc, _+_, _-_, _^_}
 use mathlib.Core.Path.{_≡_, refl}
 use mathlib.Core.List.{List, [], _∷_, _++_, map}
 use mathlib.Core.Option.{Option, none, some}
@@ -9,7 +9,7 @@ use Rattle.table.specs.declared.Table.{Table}
 use Rattle.line.specs.Slots.{empty, lowest}
 use Rattle.table.specs.Words.{refusal, Said, gives, refuses}
 use Rattle.table.specs.Step.{saysRan, chosen, advance, stepOf}
-use Rattle.table.specs.Cases.{running, waiting, tableOf}
+use Rattle.table.specs.Cases.{running, waiting, tableOf, tallied}
 
 -- a table, what each step from it says, and the table that they leave
 pub record StepCase : Type 0 where
@@ -33,32 +33,36 @@ steps t s u = record { before = t; says = s; next = u }
 abbrev keeps : Table → Said (Option ℕ) → StepCase
 keeps t s = steps t (s ∷ []) t
 
--- case A admitted: the new line starts at 13, and every line is renewed at least once
+-- case A admitted: the new line starts at 13, every line is renewed at least once, and each tick counts for who had it or as idle
 abbrev caseA : StepCase
 caseA =
     steps (tableOf 8 (running 8 32 8 0 ∷ running 8 16 8 8 ∷ waiting 1 4 5 ∷ []))
     (replicate 8 (ran 1) ++ (ran 2 ∷ ran 2 ∷ ran 1 ∷ ran 1 ∷ ran 1 ∷ ran 2 ∷ ran 1 ∷ ran 1 ∷ ran 1 ∷ ran 2 ∷ ran 1 ∷ ran 1 ∷ nobody ∷ ran 2 ∷ nobody ∷ nobody ∷ ran 1 ∷ ran 2 ∷ []))
-    (tableOf 34 (running 8 32 2 8 ∷ running 8 16 2 7 ∷ running 1 4 1 0 ∷ []))
+    (tallied (0 ∷ 17 ∷ 6 ∷ []) 3 (tableOf 34 (running 8 32 2 8 ∷ running 8 16 2 7 ∷ running 1 4 1 0 ∷ [])))
 
 -- R44: the lowest of equal ends
 abbrev equalEnds : StepCase
 equalEnds =
     steps (tableOf 0 (empty ∷ running 2 4 0 2 ∷ running 2 4 0 2 ∷ [])) (ran 1 ∷ ran 1 ∷ ran 2 ∷ ran 2 ∷ [])
-    (tableOf 4 (empty ∷ running 2 4 0 2 ∷ running 2 4 0 2 ∷ []))
+    (tallied (0 ∷ 2 ∷ 2 ∷ []) 0 (tableOf 4 (empty ∷ running 2 4 0 2 ∷ running 2 4 0 2 ∷ [])))
 
 -- R44: the least end; nobody once nobody is owed
 abbrev leastEnd : StepCase
 leastEnd =
     steps (tableOf 0 (running 1 9 2 1 ∷ running 1 8 2 1 ∷ [])) (ran 1 ∷ ran 0 ∷ nobody ∷ [])
-    (tableOf 3 (running 1 9 5 0 ∷ running 1 8 5 0 ∷ []))
+    (tallied (1 ∷ 1 ∷ []) 1 (tableOf 3 (running 1 9 5 0 ∷ running 1 8 5 0 ∷ [])))
 
--- R46: a period ends and begins anew
+-- R46: a period ends and begins anew, and the counts go on
 abbrev renewal : StepCase
-renewal = steps (tableOf 0 (running 3 4 3 1 ∷ running 2 4 3 0 ∷ [])) (ran 0 ∷ []) (tableOf 1 (running 3 4 0 3 ∷ running 2 4 0 2 ∷ []))
+renewal =
+    steps (tallied (7 ∷ 5 ∷ []) 3 (tableOf 20 (running 3 4 3 1 ∷ running 2 4 3 0 ∷ []))) (ran 0 ∷ [])
+    (tallied (8 ∷ 5 ∷ []) 3 (tableOf 21 (running 3 4 0 3 ∷ running 2 4 0 2 ∷ [])))
 
--- R47: one line starts; the other waits on
+-- R47: one line starts; the other waits on; their counts stay
 abbrev starts : StepCase
-starts = steps (tableOf 0 (waiting 2 5 1 ∷ waiting 2 5 2 ∷ [])) (nobody ∷ []) (tableOf 1 (running 2 5 0 2 ∷ waiting 2 5 1 ∷ []))
+starts =
+    steps (tallied (4 ∷ 6 ∷ []) 0 (tableOf 10 (waiting 2 5 1 ∷ waiting 2 5 2 ∷ []))) (nobody ∷ [])
+    (tallied (4 ∷ 6 ∷ []) 1 (tableOf 11 (running 2 5 0 2 ∷ waiting 2 5 1 ∷ [])))
 
 -- R34: the tick is slot 0's, and slot 1 ends short
 abbrev endsShort : StepCase
@@ -77,9 +81,46 @@ orders =
     ∷ keeps (tableOf (2 ^ 48 - 1) (empty ∷ running 0 4 0 0 ∷ [])) (refused 4 1)
     ∷ []
 
--- a step of a line alone in slot 3, which nobody else's numbers touch
-abbrev third : Slot → Said (Option ℕ) → Slot → StepCase
-third s a u = steps (tableOf 0 (empty ∷ empty ∷ empty ∷ s ∷ [])) (a ∷ []) (tableOf 1 (empty ∷ empty ∷ empty ∷ u ∷ []))
+-- R95, R96: at this clock and with these counts, a line that is owed has the tick, or the step is refused with 4 at place 0
+abbrev tallyAt : (clock : ℕ) → List ℕ → (idle : ℕ) → Table
+tallyAt k ns n = tallied ns n (tableOf k (running 2 9 1 1 ∷ []))
+
+-- R96: as many as the clock, and one more; any count alone may be too many, that of a slot that holds nothing and the idle one included; sums that would wrap
+-- in 64 bits do not
+abbrev tooMany : List StepCase
+tooMany =
+    steps (tallyAt 30 (12 ∷ 0 ∷ 8 ∷ []) 10) (ran 0 ∷ []) (tallied (13 ∷ 0 ∷ 8 ∷ []) 10 (tableOf 31 (running 2 9 2 0 ∷ [])))
+    ∷ keeps (tallyAt 30 (13 ∷ 0 ∷ 8 ∷ []) 10) (refused 4 0)
+    ∷ keeps (tallyAt 30 (12 ∷ 0 ∷ 9 ∷ []) 10) (refused 4 0)
+    ∷ keeps (tallyAt 30 (12 ∷ 0 ∷ 8 ∷ []) 11) (refused 4 0)
+    ∷ keeps (tallyAt 30 (replicate 15 0 ++ (31 ∷ [])) 0) (refused 4 0)
+    ∷ steps (tallyAt 30 (replicate 15 0 ++ (30 ∷ [])) 0) (ran 0 ∷ []) (tallied (1 ∷ (replicate 14 0 ++ (30 ∷ []))) 0 (tableOf 31 (running 2 9 2 0 ∷ [])))
+    ∷ keeps (tallyAt 30 ((2 ^ 63) ∷ (2 ^ 63) ∷ []) 0) (refused 4 0)
+    ∷ keeps (tallyAt 30 (replicate 16 (2 ^ 60)) 5) (refused 4 0)
+    ∷ keeps (tallyAt 30 ((2 ^ 64 - 1) ∷ []) 1) (refused 4 0)
+    ∷ keeps (tallyAt (2 ^ 48 - 1) ((2 ^ 48) ∷ []) 0) (refused 4 0)
+    ∷ steps (tallyAt (2 ^ 48 - 1) ((2 ^ 48 - 1) ∷ []) 0) (ran 0 ∷ []) (tallied ((2 ^ 48) ∷ []) 0 (tableOf (2 ^ 48) (running 2 9 2 0 ∷ [])))
+    ∷ []
+
+-- R48, R96: the lines before the counts, these before 14, and 15 before them; beside each the first fault is mended
+abbrev countOrders : List StepCase
+countOrders =
+    keeps (tallied (1 ∷ []) 0 (tableOf 0 (running 1 4 3 1 ∷ running 1 4 3 1 ∷ running 0 4 0 0 ∷ []))) (refused 4 2)
+    ∷ keeps (tallied (1 ∷ []) 0 (tableOf 0 (running 1 4 3 1 ∷ running 1 4 3 1 ∷ running 1 4 0 0 ∷ []))) (refused 4 0)
+    ∷ keeps (tableOf 0 (running 1 4 3 1 ∷ running 1 4 3 1 ∷ running 1 4 0 0 ∷ [])) (refused 14 1)
+    ∷ keeps (tallyAt (2 ^ 48) ((2 ^ 48 + 1) ∷ []) 0) (refused 15 0)
+    ∷ []
+
+-- a step of a line alone in slot 3, which nobody else's numbers touch: it has the tick, or nobody has
+abbrev third : Slot → Said (Option ℕ) → (had idle : ℕ) → Slot → StepCase
+third s a h n u =
+    steps (tableOf 0 (empty ∷ empty ∷ empty ∷ s ∷ [])) (a ∷ []) (tallied (0 ∷ 0 ∷ 0 ∷ h ∷ []) n (tableOf 1 (empty ∷ empty ∷ empty ∷ u ∷ [])))
+
+abbrev serves : (before after : Slot) → StepCase
+serves s u = third s (ran 3) 1 0 u
+
+abbrev rests : (before after : Slot) → StepCase
+rests s u = third s nobody 0 1 u
 
 abbrev unsound : Slot → StepCase
 unsound s = keeps (tableOf 0 (empty ∷ empty ∷ empty ∷ s ∷ [])) (refused 4 3)
@@ -87,30 +128,30 @@ unsound s = keeps (tableOf 0 (empty ∷ empty ∷ empty ∷ s ∷ [])) (refused 
 -- R5, R24: each number of a running and of a waiting line at its edge, and beyond it alone
 abbrev soundness : List StepCase
 soundness =
-    third (running 1 4 0 0) nobody (running 1 4 1 0)
+    rests (running 1 4 0 0) (running 1 4 1 0)
     ∷ unsound (running 0 4 0 0)
-    ∷ third (running 4 4 0 0) nobody (running 4 4 1 0)
+    ∷ rests (running 4 4 0 0) (running 4 4 1 0)
     ∷ unsound (running 5 4 0 0)
-    ∷ third (running 2 4 0 2) (ran 3) (running 2 4 1 1)
+    ∷ serves (running 2 4 0 2) (running 2 4 1 1)
     ∷ unsound (running 2 4 0 3)
-    ∷ third (running 2 4 3 0) nobody (running 2 4 0 2)
+    ∷ rests (running 2 4 3 0) (running 2 4 0 2)
     ∷ unsound (running 2 4 4 0)
-    ∷ third (running 2 65535 65533 1) (ran 3) (running 2 65535 65534 0)
-    ∷ third (waiting 1 4 2) nobody (waiting 1 4 1)
+    ∷ serves (running 2 65535 65533 1) (running 2 65535 65534 0)
+    ∷ rests (waiting 1 4 2) (waiting 1 4 1)
     ∷ unsound (waiting 0 4 2)
-    ∷ third (waiting 4 4 2) nobody (waiting 4 4 1)
+    ∷ rests (waiting 4 4 2) (waiting 4 4 1)
     ∷ unsound (waiting 5 4 2)
-    ∷ third (waiting 4 4 1) nobody (running 4 4 0 4)
+    ∷ rests (waiting 4 4 1) (running 4 4 0 4)
     ∷ unsound (waiting 4 4 0)
     ∷ []
 
 -- R7, R35: the last tick is reached, and not left
 abbrev lastTick : StepCase
-lastTick = steps (tableOf (2 ^ 48 - 1) (running 1 4 0 1 ∷ [])) (ran 0 ∷ refused 15 0 ∷ []) (tableOf (2 ^ 48) (running 1 4 1 0 ∷ []))
+lastTick = steps (tableOf (2 ^ 48 - 1) (running 1 4 0 1 ∷ [])) (ran 0 ∷ refused 15 0 ∷ []) (tallied (1 ∷ []) 0 (tableOf (2 ^ 48) (running 1 4 1 0 ∷ [])))
 
 -- all of them
 unfoldable pub stepCases : List StepCase
-stepCases = caseA ∷ equalEnds ∷ leastEnd ∷ renewal ∷ starts ∷ endsShort ∷ lowestShort ∷ lastTick ∷ (orders ++ soundness)
+stepCases = caseA ∷ equalEnds ∷ leastEnd ∷ renewal ∷ starts ∷ endsShort ∷ lowestShort ∷ lastTick ∷ (orders ++ (soundness ++ (tooMany ++ countOrders)))
 
 -- what n steps of t say, and the table that they leave
 abbrev pub stepped : ℕ → Table → List (Said (Option ℕ)) × Table

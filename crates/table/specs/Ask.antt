@@ -12,7 +12,7 @@ use Rattle.table.specs.declared.Answer.{Answer}
 use Rattle.table.specs.declared.Answer.the-variants.{Start, Refused}
 use Rattle.line.specs.Slots.{both, at, total, isNothing, isWaiting, lowest, lowestOf}
 use Rattle.table.specs.Words.{refusal, Said, gives, refuses}
-use Rattle.line.specs.Sound.{sound}
+use Rattle.table.specs.Counts.{fault}
 use Rattle.line.specs.Demand.{lastEnd}
 use Rattle.table.specs.Grounds.{entry, asked}
 use Rattle.line.specs.Shares.{frame, share, claim, full}
@@ -54,7 +54,7 @@ askOf t q =
     refusedIf (ltb (2 ^ 48 - 65536) (t .clock)) 1
     (refusedIf (isNone (lowestOf isNothing (t .slots))) 2
     (refusedAt (lowestOf isWaiting (t .slots)) 3
-    (refusedAt (lowestOf (λ h. not (sound h)) (t .slots)) 4
+    (refusedAt (fault t) 4
     (refusedAt (lowest (λ i. shrunk (entry q i) (at (t .slots) i)) (length (t .slots))) 5
     (refusedIf (not (both (leb 1 (q .need)) (leb (q .need) (q .period)))) 6
     (askIn (t .clock) (frame (asked t q) (q .period)) (asked t q) (q .need) (q .period)))))))

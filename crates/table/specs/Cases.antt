@@ -7,7 +7,7 @@ use Rattle.line.specs.declared.Slot.{Slot}
 use Rattle.table.specs.declared.Table.{Table}
 use Rattle.table.specs.declared.Request.{Request}
 use Rattle.line.specs.Slots.{runWith, waitWith, holding, empty}
-use Rattle.table.specs.Words.{tableWith, requestWith, refusal, Said, gives, refuses}
+use Rattle.table.specs.Words.{tableWith, withCounts, requestWith, refusal, Said, gives, refuses}
 
 -- a line of a case: C, T, T', age, remaining
 pub record CaseLine : Type 0 where
@@ -38,6 +38,10 @@ waiting C T w = holding (Waiting (waitWith C T w))
 -- the slots from 0 up; the others hold nothing
 abbrev pub tableOf : (clock : ℕ) → List Slot → Table
 tableOf t0 l = tableWith t0 (l ++ replicate (16 - length l) empty)
+
+-- the table t with these counts from slot 0 up, 0 for the others, and this idle count
+abbrev pub tallied : (had : List ℕ) → (idle : ℕ) → Table → Table
+tallied ns n t = withCounts t (ns ++ replicate (16 - length ns) 0) n
 
 -- the slot of a line of a case
 abbrev pub caseSlot : CaseLine → Slot

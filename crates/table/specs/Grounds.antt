@@ -9,8 +9,9 @@ use Rattle.line.specs.declared.Slot.{Slot}
 use Rattle.table.specs.declared.Table.{Table}
 use Rattle.table.specs.declared.Request.{Request}
 use Rattle.table.specs.declared.Refusal.{Refusal}
-use Rattle.line.specs.Slots.{at, total, Waits, Lowest}
+use Rattle.line.specs.Slots.{at, Each, total, Waits, Lowest}
 use Rattle.table.specs.Words.{refusal, Said, gives, refuses}
+use Rattle.table.specs.Counts.{accounted}
 use Rattle.line.specs.Sound.{Sound}
 use Rattle.line.specs.Demand.{demands, newDemand, excess, Least}
 use Rattle.line.specs.Shares.{frame, share, claim, full}
@@ -38,9 +39,11 @@ Full t q k = ((i : ℕ) → i < length (t .slots) → at (t .slots) i ≡ Nothin
 abbrev pub Waiters : Table → Request → ℕ → Type 0
 Waiters t q = Lowest (λ i. Waits (at (t .slots) i)) (length (t .slots))
 
--- R24: a line is not sound
+-- R24: a line is not sound; or every line is, and more ticks are accounted for than have gone by, R96
 abbrev pub Unsound : Table → Request → ℕ → Type 0
-Unsound t q = Lowest (λ i. Sound (at (t .slots) i) → ⊥) (length (t .slots))
+Unsound t q k =
+    Lowest (λ i. Sound (at (t .slots) i) → ⊥) (length (t .slots)) k
+    ⊎ (Each Sound (t .slots) × (t .clock < accounted t) × (k ≡ 0))
 
 -- R25: a period would be shortened
 abbrev pub Shorter : Table → Request → ℕ → Type 0

@@ -1,6 +1,5 @@
 -- The step of the pump, R44 to R48: who gets the tick, the table a tick later, and the refusals 15, 4, 14.
 use Prim.Native.Nat.{ℕ, zero, suc, _^_, _≤_, _<_}
-use mathlib.Core.Bool.{not}
 use mathlib.Core.List.{List, map}
 use mathlib.Core.Option.{Option, none, some}
 use lib.Dec.{ltb, leb, eqb}
@@ -12,7 +11,7 @@ use Rattle.table.specs.declared.Outcome.the-variants.{Ran, Refused}
 use Rattle.table.specs.declared.Stepped.{Stepped}
 use Rattle.line.specs.Slots.{pick, slotAt, at, lowestOf}
 use Rattle.table.specs.Words.{slotOf, laterWith, refusal, Said, gives, refuses, whichOf}
-use Rattle.line.specs.Sound.{sound}
+use Rattle.table.specs.Counts.{fault, counting}
 use Rattle.table.specs.Admit.{putAt}
 use Rattle.line.specs.Tick.{Owed, isOwed, toEnd, servedSlot, short, passedSlot}
 
@@ -70,9 +69,9 @@ abbrev pub stepUnless : Option ℕ → ℕ → Table → Stepped → Stepped
 stepUnless none n t s = s
 stepUnless (some k) n t s = refusedStep t n k
 
--- R45, R48: the tick in which the slot named, or none, is served, where no period ends short
+-- R45, R48: the tick in which the slot named, or none, is served, counted (R97), where no period ends short
 abbrev pub ticked : Option ℕ → Table → Stepped
-ticked o t = record { table = laterWith t (pass (serve o (t .slots))); outcome = Ran (whichOf o) }
+ticked o t = record { table = laterWith (counting o t) (pass (serve o (t .slots))); outcome = Ran (whichOf o) }
 
 -- R45, R48: a tick in which the slot named, or none, is served
 unfoldable pub advance : Option ℕ → Table → Stepped
@@ -82,4 +81,4 @@ advance o t = stepUnless (lowestOf short (serve o (t .slots))) 14 t (ticked o t)
 unfoldable pub stepOf : Table → Stepped
 stepOf t =
     pick (leb (2 ^ 48) (t .clock)) (refusedStep t 15 0)
-    (stepUnless (lowestOf (λ h. not (sound h)) (t .slots)) 4 t (advance (choose (t .slots)) t))
+    (stepUnless (fault t) 4 t (advance (choose (t .slots)) t))

@@ -1,8 +1,8 @@
--- The table, R2 and R4, a request, R6, a refusal, R17, how each is made, and what an answer says.
+-- The table, R2, R4 and R95, a request, R6, a refusal, R17, how each is made, and what an answer says.
 use Prim.Native.Nat.{ℕ, _+_}
 use mathlib.Core.List.{List}
 use mathlib.Core.Option.{Option, none, some}
-use lib.ListN.{replicate}
+use lib.ListN.{length, replicate}
 use Rattle.table.specs.declared.Table.{Table}
 use Rattle.table.specs.declared.Request.{Request}
 use Rattle.table.specs.declared.Refusal.{Refusal}
@@ -13,17 +13,29 @@ use Rattle.line.specs.Slots.{empty}
 
 -- ---- makers: a table, a request and a refusal are made here alone, so that they can grow
 
--- R2: a table of this clock and these slots, and nothing else is known of it
+-- R2, R95: a table of this clock and these slots, and every count 0
 abbrev pub tableWith : (clock : ℕ) → List Slot → Table
-tableWith k l = record { clock = k; slots = l }
+tableWith k l = record { clock = k; slots = l; had = replicate (length l) 0; idle = 0 }
+
+-- R2, R95: the table t with these slots and these counts of them
+abbrev pub withLines : Table → List Slot → (had : List ℕ) → Table
+withLines t l ns = record { clock = t .clock; slots = l; had = ns; idle = t .idle }
 
 -- R2: the table t with these slots
 abbrev pub withSlots : Table → List Slot → Table
-withSlots t l = record { clock = t .clock; slots = l }
+withSlots t l = withLines t l (t .had)
+
+-- R95: the table t with these counts
+abbrev pub withCounts : Table → (had : List ℕ) → (idle : ℕ) → Table
+withCounts t ns n = record { clock = t .clock; slots = t .slots; had = ns; idle = n }
+
+-- R72: the table t with every count 0, as a card carries it
+abbrev pub uncounted : Table → Table
+uncounted t = tableWith (t .clock) (t .slots)
 
 -- R45: the table t a tick later, with these slots
 abbrev pub laterWith : Table → List Slot → Table
-laterWith t l = record { clock = t .clock + 1; slots = l }
+laterWith t l = record { clock = t .clock + 1; slots = l; had = t .had; idle = t .idle }
 
 -- R6: a request of these T' and this new line
 abbrev pub requestWith : (stretched : List ℕ) → (Cn Tn : ℕ) → Request
@@ -35,7 +47,7 @@ refusal n k = record { number = n; place = k }
 
 -- ----
 
--- R4, R2: clock 0, and nothing in any slot
+-- R4, R2: clock 0, nothing in any slot, and every count 0
 abbrev pub emptyTable : Table
 emptyTable = tableWith 0 (replicate 16 empty)
 

@@ -4,12 +4,15 @@ ghost use Rattle.line.specs.Slots.{lowestOf};
 ghost use Rattle.line.specs.Tick.{is};
 ghost use Rattle.table.specs.Words.{tableWith, requestWith, refusal, emptyTable, slotOf};
 
+mod account; // what each line has had
 mod pump; // the step
 
-// R2: the clock and the slots.
+// R2: the clock and the slots; R95: what the present line of each slot has had, and the ticks in which none ran.
 pub struct Table {
     pub clock: u64,
     pub slots: [line::Slot; 16],
+    pub had: [u64; 16],
+    pub idle: u64,
 }
 
 // R6: a stretched period for each slot, and the new line. Entries of slots that hold no running line are not looked at.
@@ -81,17 +84,19 @@ impl Request {
 }
 
 impl Table {
-    // R2: a table of this clock and these slots.
+    // R2: a table of this clock and these slots, with every count 0.
     pub fn new(clock: u64, slots: [line::Slot; 16]) -> Table
         ensures { λ r. ⌜ r ≡ tableWith clock slots ⌝ }
     {
         Table {
             clock: clock,
             slots: slots,
+            had: [0; 16],
+            idle: 0,
         }
     }
 
-    // R4: clock 0, and nothing in any slot.
+    // R4: clock 0, nothing in any slot, and every count 0.
     pub fn empty() -> Table
         ensures { λ r. ⌜ r ≡ emptyTable ⌝ }
     {

@@ -1,7 +1,8 @@
 // The step of the pump, R44 to R48: who gets the tick, the table a tick later, and the refusals 15, 4, 14.
 ghost use mathlib.Core.Path.{_≡_};
-ghost use Prim.Native.Nat.{_+_, _^_, _<_};
+ghost use Prim.Native.Nat.{_^_, _≤_, _<_};
 ghost use Rattle.table.specs.Words.{slotOf};
+ghost use Rattle.table.specs.Counts.{accounted};
 ghost use Rattle.table.specs.Turn.{Turns};
 ghost use Rattle.table.specs.Step.{servedAt, refusedStep, advance, stepOf};
 use crate::Outcome;
@@ -72,10 +73,10 @@ impl Table {
 
     // R45 to R48: a tick in which the slot named, or none, is served: what each slot holds then, or 14 at the lowest whose period ends short (R34).
     fn advance(self, w: Which) -> Stepped
-        requires { ⌜ self .clock < 2 ^ 48 ⌝ }
+        requires { ⌜ (self .clock < 2 ^ 48) × (accounted self ≤ self .clock) ⌝ }
         ensures { λ r. ⌜ r ≡ advance (slotOf w) self ⌝ }
     {
-        let mut next = self;
+        let mut next = self.counting(w);
         let mut i: usize = 0;
         while i < 16 {
             let old = self.slots[i];
@@ -94,7 +95,7 @@ impl Table {
         }
     }
 
-    // R48: 15, then 4, then 14.
+    // R48: 15, then 4, the lines before the counts, then 14.
     pub fn step(self) -> Stepped
         ensures { λ r. ⌜ r ≡ stepOf self ⌝ }
     {
@@ -103,7 +104,12 @@ impl Table {
         }
         match self.choose() {
             Turn::Unsound(k) => self.refused(4, k),
-            Turn::Of(w) => self.advance(w),
+            Turn::Of(w) => {
+                if self.overcounted() {
+                    return self.refused(4, 0);
+                }
+                self.advance(w)
+            }
         }
     }
 }

@@ -1,5 +1,5 @@
 -- The computed answer is a right answer: each test decides its ground, in the order of R18.
-use mathlib.Core.Path.{_≡_, refl, ap}
+use mathlib.Core.Path.{_≡_, refl, ap, _∙_}
 use mathlib.Core.Logic.{inl, inr}
 use mathlib.Core.Bool.{Bool, true, false, not}
 use mathlib.Core.List.{List, [], _∷_}
@@ -14,10 +14,11 @@ use Rattle.table.specs.declared.Table.{Table}
 use Rattle.table.specs.declared.Request.{Request}
 use Rattle.table.specs.declared.Refusal.{Refusal}
 use Rattle.table.specs.declared.Answer.{Answer}
-use Rattle.line.specs.Slots.{both, at, Each, total, isNothing, isWaiting, Waits, lowest, lowestOf}
+use Rattle.line.specs.Slots.{pick, both, at, Each, total, isNothing, isWaiting, Waits, orElse, lowest, lowestOf}
 use Rattle.table.specs.Words.{Said, gives, refuses}
 use Rattle.line.specs.Sound.{Sound, sound}
 use Rattle.line.specs.Demand.{lastEnd}
+use Rattle.table.specs.Counts.{accounted, fault}
 use Rattle.table.specs.Grounds.{entry, asked, Late, Full, Waiters, Unsound, Shorter, Misfit, Wide, Overload, Behind, Short, Row, row, AnswersBy, Answers}
 use Rattle.line.specs.Stretch.{Shrunk, shrunk}
 use Rattle.line.specs.Shares.{frame, share, claim, full}
@@ -25,11 +26,12 @@ use Rattle.table.specs.Ask.{says, isNone, refusedAt, refusedIf, askIn, askOf}
 use Rattle.line.specs.Ends.{endsOf, anyOf, shortAt}
 use Rattle.line.proofs.Search.{true-false, lowest-is, lowest-none}
 use Rattle.line.proofs.Sound.{sound-says, unsound-says, shrunk-says, shrunk-not}
+use Rattle.table.proofs.Counts.{faultless}
 use Rattle.theory.specs.Fine.{Longer}
 use Rattle.theory.proofs.Start.{start-least}
 use Rattle.theory.proofs.Ten.{alone-without-short-end, found-short}
 use Rattle.theory.proofs.Stretched.{sound-stretched}
-use Rattle.theory.proofs.Tests.{lowest-of, none-of, nothing-says, some-of, none-is, fits-says, fits-not}
+use Rattle.theory.proofs.Tests.{lowest-of, none-of, all-sound, nothing-says, some-of, none-is, fits-says, fits-not}
 use Rattle.theory.proofs.Granted.{given}
 
 -- ---- one row of the refusals' table
@@ -53,6 +55,27 @@ row-at : (n : ℕ) (H : Table → Request → ℕ → Type 0) (rs : List Row) (t
     → (o ≡ none → AnswersBy rs t q (says a)) → AnswersBy (row n H ∷ rs) t q (says (refusedAt o n a))
 row-at n H rs t q (some k) a holds fails rest = inl (k, holds k refl, refl)
 row-at n H rs t q none a holds fails rest = pass-row (row n H) rs t q (says a) (λ x h. fails refl (h .0) (h .1)) (rest refl)
+
+-- ---- ground 4, which has two parts
+
+-- R24, R96: the fault that is found is a ground
+fault-holds : (t : Table) (q : Request) (k : ℕ) → fault t ≡ some k → Unsound t q k
+fault-holds t q k = go (lowestOf (λ h. not (sound h)) (t .slots)) refl (ltb (t .clock) (accounted t)) refl
+  where
+    l : List Slot
+    l = t .slots
+
+    go : (o : Option ℕ) → lowestOf (λ h. not (sound h)) l ≡ o → (b : Bool) → ltb (t .clock) (accounted t) ≡ b → orElse o (pick b (some 0) none) ≡ some k → Unsound t q k
+    go (some j) e b g z =
+        inl (lowest-of (λ i. Sound (at l i) → ⊥) (λ i. not (sound (at l i))) (length l) k
+        (λ i e. unsound-says (at l i) (not-true (sound (at l i)) e)) (λ i u e. u (sound-says (at l i) (not-false (sound (at l i)) e))) (e ∙ z))
+    go none e true g z = let y : k ≡ 0 = cc in inr (all-sound l e, ltb-true (t .clock) (accounted t) g, y)
+    go none e false g z = let y : _≡_ {A = ℕ} 0 1 = cc in absurd (omega arith)
+
+-- R24, R96: and where none is found there is no ground
+fault-fails : (t : Table) (q : Request) → fault t ≡ none → (k : ℕ) → Unsound t q k → ⊥
+fault-fails t q e k (inl h) = h .here (all-sound (t .slots) (faultless t e .0) k (h .inside))
+fault-fails t q e k (inr h) = omega (arith, faultless t e .1, h .1)
 
 -- ---- grounds 7 to 10
 
@@ -102,9 +125,7 @@ ask-answers t q =
     (λ e2. row-at 3 Waiters _ t q (lowestOf isWaiting l) _
     (λ k e. lowest-of (λ i. Waits (at l i)) (λ i. isWaiting (at l i)) n k (λ i v. v) (λ i v e. true-false v e) e)
     (λ e k h. none-of (λ i. Waits (at l i)) (λ i. isWaiting (at l i)) n (λ i v e. true-false v e) e k (h .inside) (h .here))
-    (λ e3. row-at 4 Unsound _ t q (lowestOf (λ h. not (sound h)) l) _
-    (λ k e. lowest-of (λ i. Sound (at l i) → ⊥) (λ i. not (sound (at l i))) n k (λ i e. unsound-says (at l i) (not-true (sound (at l i)) e)) (λ i u e. u (sound-says (at l i) (not-false (sound (at l i)) e))) e)
-    (λ e k h. h .here (sound-says (at l k) (not-false (sound (at l k)) (lowest-none (λ i. not (sound (at l i))) n e k (h .inside)))))
+    (λ e3. row-at 4 Unsound _ t q (fault t) _ (fault-holds t q) (fault-fails t q)
     (λ e4. row-at 5 Shorter _ t q (lowest (λ i. shrunk (entry q i) (at l i)) n) _
     (λ k e. lowest-of (λ i. Shrunk (entry q i) (at l i)) (λ i. shrunk (entry q i) (at l i)) n k (λ i. shrunk-says (entry q i) (at l i)) (λ i. shrunk-not (entry q i) (at l i)) e)
     (λ e k h. none-of (λ i. Shrunk (entry q i) (at l i)) (λ i. shrunk (entry q i) (at l i)) n (λ i. shrunk-not (entry q i) (at l i)) e k (h .inside) (h .here))
@@ -114,7 +135,7 @@ ask-answers t q =
     (λ e6. let f = fits-says (q .need) (q .period) (not-false (both (leb 1 (q .need)) (leb (q .need) (q .period))) e6) in
     let longer : Longer l (entry q) = none-of (λ i. Shrunk (entry q i) (at l i)) (λ i. shrunk (entry q i) (at l i)) n (λ i. shrunk-not (entry q i) (at l i)) e5 in
     from-seven t q
-    (sound-stretched l (entry q) longer (λ i b. sound-says (at l i) (not-false (sound (at l i)) (lowest-none (λ i. not (sound (at l i))) n e4 i b))))
+    (sound-stretched l (entry q) longer (all-sound l (faultless t e4 .0)))
     (f .0) (f .1)))))))
   where
     l : List Slot

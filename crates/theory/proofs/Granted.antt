@@ -15,21 +15,23 @@ use Rattle.table.specs.declared.Answer.{Answer}
 use Rattle.table.specs.declared.Answer.the-variants.{Start, Refused}
 use Rattle.line.specs.Slots.{both, at, Each, total, isNothing, isWaiting, Waits, lowest, lowestOf}
 use Rattle.table.specs.Words.{gives}
-use Rattle.line.specs.Sound.{Sound, sound}
+use Rattle.line.specs.Sound.{Sound}
 use Rattle.line.specs.Demand.{lastEnd, Least, newDemand}
+use Rattle.table.specs.Counts.{fault}
 use Rattle.table.specs.Grounds.{entry, asked}
 use Rattle.line.specs.Stretch.{Shrunk, shrunk}
 use Rattle.line.specs.Shares.{periodsIn, frame, share, claim, full}
 use Rattle.table.specs.Ask.{says, isNone, refusedAt, refusedIf, askIn, askOf}
 use Rattle.line.specs.Ends.{start, endsOf, anyOf, shortAt}
-use Rattle.line.proofs.Search.{true-false, lowest-none}
-use Rattle.line.proofs.Sound.{sound-says, shrunk-not}
+use Rattle.line.proofs.Search.{true-false}
+use Rattle.line.proofs.Sound.{shrunk-not}
+use Rattle.table.proofs.Counts.{faultless}
 use Rattle.theory.specs.Fine.{Longer}
 use Rattle.theory.specs.Given.{Given, Alone, Granted}
 use Rattle.theory.proofs.Start.{start-least}
 use Rattle.theory.proofs.Ten.{alone-without-short-end}
 use Rattle.theory.proofs.Stretched.{sound-stretched}
-use Rattle.theory.proofs.Tests.{none-of, some-of, fits-says, periods-divide, periods-pos}
+use Rattle.theory.proofs.Tests.{none-of, all-sound, some-of, fits-says, periods-divide, periods-pos}
 
 -- the frame is a common multiple, and with sums 8 and 9 it gives what the theory of the start asks
 pub given : (t : Table) (q : Request) → Each Sound (asked t q) → 1 ≤ q .need → q .need ≤ q .period
@@ -91,12 +93,13 @@ granted t q r e =
     let p1 = past-if (ltb (2 ^ 48 - 65536) (t .clock)) 1 _ r e in
     let p2 = past-if (isNone (lowestOf isNothing l)) 2 _ r (p1 .1) in
     let p3 = past-at (lowestOf isWaiting l) 3 _ r (p2 .1) in
-    let p4 = past-at (lowestOf (λ h. not (sound h)) l) 4 _ r (p3 .1) in
+    let p4 = past-at (fault t) 4 _ r (p3 .1) in
+    let clean = faultless t (p4 .0) in
     let p5 = past-at (lowest (λ i. shrunk (entry q i) (at l i)) n) 5 _ r (p4 .1) in
     let p6 = past-if (not (both (leb 1 (q .need)) (leb (q .need) (q .period)))) 6 _ r (p5 .1) in
     let k = some-of (lowestOf isNothing l) (p2 .0) in
     let waits = none-of (λ i. Waits (at l i)) (λ i. isWaiting (at l i)) n (λ i v e. true-false v e) (p3 .0) in
-    let sounds : Each Sound l = λ i b. sound-says (at l i) (not-false (sound (at l i)) (lowest-none (λ i. not (sound (at l i))) n (p4 .0) i b)) in
+    let sounds = all-sound l (clean .0) in
     let longer : Longer l (entry q) = none-of (λ i. Shrunk (entry q i) (at l i)) (λ i. shrunk (entry q i) (at l i)) n (λ i. shrunk-not (entry q i) (at l i)) (p5 .0) in
     let f = fits-says (q .need) (q .period) (not-false (both (leb 1 (q .need)) (leb (q .need) (q .period))) (p6 .0)) in
     let w = granted-load t q r (sound-stretched l (entry q) longer sounds) (f .0) (f .1) (p6 .1) in
@@ -106,6 +109,7 @@ granted t q r e =
       lowest-empty = k .1;
       none-waits = waits;
       sound = sounds;
+      within = clean .1;
       longer = longer;
       given = w .0;
       alone = w .1;

@@ -3,7 +3,7 @@ use mathlib.Core.Path.{_≡_, refl, ap}
 use mathlib.Core.Bool.{true, false, not}
 use mathlib.Core.Option.{Option, none, some}
 use mathlib.Core.List.{List}
-use Prim.Native.Nat.{ℕ, _^_, _<_}
+use Prim.Native.Nat.{ℕ, _^_, _≤_, _<_}
 use native.Mathlib.Numerals.{add-one}
 use native.Mathlib.Omega.{arith}
 use borrow.Author.Tests.{lt-ltb, le-ltb, lt-leb}
@@ -16,10 +16,12 @@ use Rattle.table.specs.declared.Table.{Table}
 use Rattle.line.specs.Slots.{pick, at, Each, lowestOf}
 use Rattle.line.specs.Sound.{Sound, sound}
 use Rattle.line.specs.Streams.{asks, ofStream}
+use Rattle.table.specs.Counts.{accounted, fault}
 use Rattle.table.specs.Step.{Earliest, choose, serve, ticked, advance, stepOf}
 use Rattle.line.specs.Tick.{short}
 use Rattle.line.proofs.Search.{true-false, none-found, lowest-none}
 use Rattle.line.proofs.Sound.{says-sound}
+use Rattle.table.proofs.Counts.{no-fault}
 use Rattle.table.proofs.Choice.{chosen-is, chosen-earliest}
 use Rattle.theory.specs.Fine.{Fine, Closes, Kept, Lag}
 use Rattle.theory.proofs.Numbers.{split}
@@ -69,21 +71,25 @@ pub advanced : (o : Option ℕ) (t : Table) → Each Kept (serve o (t .slots)) �
 unfolding advance
 advanced o t v = rw (none-short (serve o (t .slots)) v)
 
+-- R24: nor a fault, where no more ticks are accounted for than have gone by
+pub sound-faultless : (t : Table) → Each Sound (t .slots) → accounted t ≤ t .clock → fault t ≡ none
+sound-faultless t s w = no-fault t (none-unsound (t .slots) s) w
+
 -- R48, R74: the step of a fine table is not refused
-pub fine-step : {M : ℕ} (t : Table) → Fine M (t .clock) (t .slots) → t .clock < 2 ^ 48 → stepOf t ≡ ticked (choose (t .slots)) t
+pub fine-step : {M : ℕ} (t : Table) → Fine M (t .clock) (t .slots) → accounted t ≤ t .clock → t .clock < 2 ^ 48 → stepOf t ≡ ticked (choose (t .slots)) t
 unfolding stepOf
-fine-step t f b =
-    rw (lt-leb (2 ^ 48) (t .clock) b, none-unsound (t .slots) (f .sound))
+fine-step t f w b =
+    rw (lt-leb (2 ^ 48) (t .clock) b, sound-faultless t (f .sound) w)
     (advanced (choose (t .slots)) t (never-short (choose (t .slots)) f (choose-earliest (t .slots))))
 
 -- R74: and the table after it is fine
-pub fine-stepped : {M : ℕ} (t : Table) → Fine M (t .clock) (t .slots) → t .clock < 2 ^ 48 → Fine M (stepOf t .table .clock) (stepOf t .table .slots)
-fine-stepped {M} t f b =
-    rw (fine-step t f b, add-one) (fine-kept (choose (t .slots)) f (choose-earliest (t .slots)))
+pub fine-stepped : {M : ℕ} (t : Table) → Fine M (t .clock) (t .slots) → accounted t ≤ t .clock → t .clock < 2 ^ 48 → Fine M (stepOf t .table .clock) (stepOf t .table .slots)
+fine-stepped {M} t f w b =
+    rw (fine-step t f w b, add-one) (fine-kept (choose (t .slots)) f (choose-earliest (t .slots)))
 
 -- R29, R48: a step of a fine table leaves nobody further behind
-pub lag-stepped : {M : ℕ} (t : Table) → Fine M (t .clock) (t .slots) → Lag M (t .slots) → t .clock < 2 ^ 48 → Lag M (stepOf t .table .slots)
-lag-stepped {M} t f g b =
+pub lag-stepped : {M : ℕ} (t : Table) → Fine M (t .clock) (t .slots) → accounted t ≤ t .clock → Lag M (t .slots) → t .clock < 2 ^ 48 → Lag M (stepOf t .table .slots)
+lag-stepped {M} t f w g b =
     let o = choose (t .slots) in
     let e = choose-earliest (t .slots) in
-    rw (fine-step t f b) (lag-kept o (f .sound) (f .shares) (earliest-busy o (t .slots) e) (never-short o f e) g)
+    rw (fine-step t f w b) (lag-kept o (f .sound) (f .shares) (earliest-busy o (t .slots) e) (never-short o f e) g)

@@ -1,25 +1,27 @@
 -- What the computed tests of the grounds say, and that the frame divides by every period.
 use mathlib.Core.Path.{_≡_, refl}
-use mathlib.Core.Bool.{Bool, true, false}
+use mathlib.Core.Bool.{Bool, true, false, not}
 use mathlib.Core.List.{List, [], _∷_}
 use mathlib.Core.Option.{Option, none, some}
 use Prim.Native.Nat.{ℕ, zero, suc, _∣_, _≤_, _<_}
 use native.Mathlib.Nat.{not-suc-le-zero}
 use native.Mathlib.Omega.{arith}
-use borrow.Author.Tests.{leb-true, leb-false}
+use borrow.Author.Tests.{not-false, leb-true, leb-false}
 use lib.Dec.{leb}
+use lib.ListN.{length}
 use Rattle.periods.specs.Multiples.{All}
 use Rattle.periods.proofs.Lists.{all-appended, all-of-each}
 use Rattle.line.specs.declared.Held.{Held}
 use Rattle.line.specs.declared.Held.the-variants.{Nothing, Running, Waiting}
 use Rattle.line.specs.declared.Stream.{Stream}
 use Rattle.line.specs.declared.Slot.{Slot}
-use Rattle.line.specs.Slots.{both, Each, isNothing, Lowest, lowest}
-use Rattle.line.specs.Sound.{Sound}
+use Rattle.line.specs.Slots.{both, at, Each, isNothing, Lowest, lowest, lowestOf}
+use Rattle.line.specs.Sound.{Sound, sound}
 use Rattle.line.specs.Streams.{asks, ofStream, byStream, Measures, Proper}
 use Rattle.line.specs.Shares.{periodsIn, Divides}
 use Rattle.table.specs.Ask.{isNone}
 use Rattle.line.proofs.Search.{true-false, lowest-is, lowest-none}
+use Rattle.line.proofs.Sound.{sound-says}
 use Rattle.line.proofs.Streams.{sound-asks}
 
 -- R19: a search finds the lowest of which P holds, where its test says P
@@ -37,6 +39,10 @@ lowest-of P test n k yes-is no-not e =
 pub none-of : (P : ℕ → Type 0) (test : ℕ → Bool) (n : ℕ) → ((i : ℕ) → P i → test i ≡ false → ⊥)
     → lowest test n ≡ none → (i : ℕ) → i < n → P i → ⊥
 none-of P test n no-not e i b p = no-not i p (lowest-none test n e i b)
+
+-- R24: where no unsound line is found every line is sound
+pub all-sound : (l : List Slot) → lowestOf (λ h. not (sound h)) l ≡ none → Each Sound l
+all-sound l e i b = sound-says (at l i) (not-false (sound (at l i)) (lowest-none (λ i. not (sound (at l i))) (length l) e i b))
 
 -- R22: the test says that a slot is empty
 pub nothing-says : (h : Held) → isNothing h ≡ true → h ≡ Nothing

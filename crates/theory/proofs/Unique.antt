@@ -37,6 +37,13 @@ lowest-one P n j k p q =
 zero-one : (P : Type 0) (j k : ℕ) → P × (j ≡ 0) → P × (k ≡ 0) → j ≡ k
 zero-one P j k p q = p .1 ∙ sym (q .1)
 
+-- R24, R96: an unsound line excludes the second part of ground 4
+unsound-one : (t : Table) (q : Request) (j k : ℕ) → Unsound t q j → Unsound t q k → j ≡ k
+unsound-one t q j k (inl p) (inl r) = lowest-one _ _ j k p r
+unsound-one t q j k (inl p) (inr r) = absurd (p .here (r .0 j (p .inside)))
+unsound-one t q j k (inr p) (inl r) = absurd (r .here (p .0 k (r .inside)))
+unsound-one t q j k (inr p) (inr r) = p .2 ∙ sym (r .2)
+
 all-one : (t : Table) (q : Request) → AllOne grounds t q
 all-one t q = (
   row-one 1 Late t q (zero-one _),
@@ -45,7 +52,7 @@ all-one t q = (
     (
       row-one 3 Waiters t q (lowest-one _ _),
       (
-        row-one 4 Unsound t q (lowest-one _ _),
+        row-one 4 Unsound t q (unsound-one t q),
         (
           row-one 5 Shorter t q (lowest-one _ _),
           (

@@ -12,6 +12,7 @@ use Rattle.line.specs.Slots.{at, Each, total, isNothing, Waits, lowestOf}
 use Rattle.line.specs.Sound.{Sound}
 use Rattle.line.specs.Streams.{byStream, EndAt}
 use Rattle.line.specs.Demand.{demands, newDemand, Least}
+use Rattle.table.specs.Counts.{accounted}
 use Rattle.table.specs.Grounds.{entry, asked}
 use Rattle.line.specs.Shares.{frame, Divides, share, claim, full}
 use Rattle.theory.specs.Fine.{Longer}
@@ -46,6 +47,7 @@ pub record Granted (t : Table) (q : Request) (r : ℕ) : Type 0 where
   pub lowest-empty : lowestOf isNothing (t .slots) ≡ some slot
   pub none-waits : Each (λ h. Waits h → ⊥) (t .slots)
   pub sound : Each Sound (t .slots)
+  pub within : accounted t ≤ t .clock
   pub longer : Longer (t .slots) (entry q)
   pub given : Given (frame (asked t q) (q .period)) (asked t q) (q .need) (q .period)
   pub alone : Alone (t .clock) (asked t q)

@@ -7,7 +7,7 @@ use crate::types::{Refusal, Request};
 use std::fmt;
 
 /// R93: the version of the boundary.
-const VERSION: u64 = 2;
+const VERSION: u64 = 3;
 
 /// R63: the slot of a result that is none.
 pub const NO_SLOT: u64 = 255;
@@ -39,6 +39,7 @@ pub enum Act {
     Admit(NewLine),
     Step,
     Ready,
+    Counts,
     Lamp(u64),
     WriteCard(NewLine),
     ReadCard,
@@ -57,6 +58,7 @@ impl Act {
             Act::Admit(_) => "admit",
             Act::Step => "step",
             Act::Ready => "ready",
+            Act::Counts => "counts",
             Act::Lamp(_) => "lamp",
             Act::WriteCard(_) => "write_card",
             Act::ReadCard => "read_card",
@@ -79,6 +81,7 @@ impl Act {
             ["admit", need, period] => Act::Admit(line(need, period)?),
             ["step"] => Act::Step,
             ["ready"] => Act::Ready,
+            ["counts"] => Act::Counts,
             ["lamp", number] => Act::Lamp(number.parse().ok()?),
             ["write_card", need, period] => Act::WriteCard(line(need, period)?),
             ["read_card"] => Act::ReadCard,
@@ -183,6 +186,10 @@ fn attempt(act: &Act, desk: &mut Desk) -> Result<Told, Refusal> {
         }
         Act::Step => images::step(desk.image.part_mut()).map(Told::slot),
         Act::Ready => images::ready(desk.image.part()).map(|word| Told::value(word.into())),
+        Act::Counts => {
+            let (image, lent) = (desk.image.part(), desk.counts.array_mut());
+            images::counts(image, lent).map(Told::value)
+        }
         Act::Lamp(number) => Ok(Told::value(rules::lamp(*number))),
         Act::WriteCard(line) => {
             let request = desk.request(line);
@@ -218,6 +225,7 @@ mod tests {
             out: Lent::new(&vec![FILL; out], GUARD),
             stretched: Lent::new(&case_a().1.stretched, GUARD.into()),
             numbers: Lent::new(&[FILL.into(); 18], GUARD.into()),
+            counts: Lent::new(&[FILL.into(); 17], GUARD.into()),
         }
     }
 
@@ -244,7 +252,7 @@ mod tests {
     #[test]
     fn numbers_alone() {
         let desk = on_table(&EMPTY);
-        changes_nothing(Act::Version, &desk, Told::value(2));
+        changes_nothing(Act::Version, &desk, Told::value(3));
         for (number, blinks) in [(0, 0), (3, 1), (4, 2), (15, 5), (16, 0), (1 << 32 | 1, 0)] {
             changes_nothing(Act::Lamp(number), &desk, Told::value(blinks));
         }
@@ -252,9 +260,9 @@ mod tests {
 
     #[test]
     fn the_empty_table_in_a_lent_buffer() {
-        changes_nothing(Act::Empty, &desk(&[FILL; 152], 0), refused(13, 0));
-        let mut lent = desk(&[FILL; 155], 0);
-        assert_eq!(should(&Act::Empty, &mut lent), Told::value(153));
+        changes_nothing(Act::Empty, &desk(&[FILL; 288], 0), refused(13, 0));
+        let mut lent = desk(&[FILL; 291], 0);
+        assert_eq!(should(&Act::Empty, &mut lent), Told::value(289));
         let wanted = [image::bytes(&EMPTY), vec![FILL; 2]].concat();
         assert_eq!(lent, desk(&wanted, 0));
     }
@@ -276,13 +284,20 @@ mod tests {
             assert_eq!(should(&Act::Step, &mut now), Told::value(1));
         }
         changes_nothing(Act::Ready, &now, Told::value(0b110));
+        // R98: the card's table came with every count 0, so that these do not add up to the clock.
+        assert_eq!(should(&Act::Counts, &mut now), Told::value(16));
+        let mut counts = [0; 17];
+        counts[1] = 8;
+        assert_eq!(now.counts.part(), counts);
     }
 
     #[test]
     fn a_step_that_serves_nothing() {
         let mut now = on_table(&EMPTY);
         assert_eq!(should(&Act::Step, &mut now), Told::value(255));
-        assert_eq!(now, on_table(&Table { clock: 1, ..EMPTY }));
+        let mut next = Table { clock: 1, ..EMPTY };
+        next.counts.idle = 1;
+        assert_eq!(now, on_table(&next));
         let last = Table {
             clock: LAST_TICK,
             ..EMPTY
@@ -312,7 +327,7 @@ mod tests {
             Act::Ready,
             Act::WriteCard(ZEROS.into()),
         ];
-        for act in acts {
+        for act in acts.into_iter().chain([Act::Counts]) {
             changes_nothing(act, &desk(&bytes, 0), refused(11, 152));
             changes_nothing(act, &desk(&bytes[..80], 0), refused(11, 80));
         }
@@ -321,6 +336,25 @@ mod tests {
         for (act, (number, place)) in acts.into_iter().zip(grounds) {
             changes_nothing(act, &desk(&bytes, 0), refused(number, place));
         }
+    }
+
+    /// R98: any counts are shown, the idle count last, also where the lines and the sum would be refused.
+    #[test]
+    fn counts_of_any_table() {
+        let mut table = Table { clock: 5, ..EMPTY };
+        table.slots[3] = Content::Waiting(Wait {
+            need: 0,
+            period: 0,
+            wait: 0,
+        });
+        let counts: [u64; 17] = std::array::from_fn(|place| u64::MAX - place as u64);
+        table.counts.had.copy_from_slice(&counts[..16]);
+        table.counts.idle = counts[16];
+        let mut wanted = on_table(&table);
+        wanted.counts = Lent::new(&counts, GUARD.into());
+        let mut now = on_table(&table);
+        assert_eq!(should(&Act::Counts, &mut now), Told::value(5));
+        assert_eq!(now, wanted);
     }
 
     #[test]
@@ -344,12 +378,12 @@ mod tests {
 
     #[test]
     fn a_card_to_its_table() {
-        changes_nothing(Act::ReadCard, &desk(&[FILL; 152], 0), refused(13, 0));
+        changes_nothing(Act::ReadCard, &desk(&[FILL; 288], 0), refused(13, 0));
         let mut cut = desk(&[], 0);
         cut.card = Lent::new(&CARD_A[..33], GUARD);
         changes_nothing(Act::ReadCard, &cut, refused(11, 22));
-        let mut now = desk(&[FILL; 154], 0);
-        assert_eq!(should(&Act::ReadCard, &mut now), Told::value(153));
+        let mut now = desk(&[FILL; 290], 0);
+        assert_eq!(should(&Act::ReadCard, &mut now), Told::value(289));
         let mut wanted = desk(&[image::bytes(&case_a().0), vec![FILL]].concat(), 0);
         let mut numbers = [0; 18];
         (numbers[0], numbers[1]) = (32, 16);

@@ -3,7 +3,7 @@
 use super::act::NewLine;
 use super::images::NUMBERS;
 use crate::image;
-use crate::types::{Request, EMPTY, LONGEST_CARD, SLOTS};
+use crate::types::{Request, COUNTS, EMPTY, LONGEST_CARD, SLOTS};
 
 /// How many bytes or numbers stand on each side of what is lent.
 pub const GUARD: usize = 16;
@@ -70,6 +70,8 @@ pub struct Desk {
     pub stretched: Lent<u16>,
     /// R92: where a card's request is written, eighteen numbers.
     pub numbers: Lent<u16>,
+    /// R98: where a table's counts are written, seventeen numbers.
+    pub counts: Lent<u64>,
 }
 
 impl Desk {
@@ -81,17 +83,19 @@ impl Desk {
             out: Lent::new(&[0; LONGEST_CARD], 0),
             stretched: Lent::new(&[0; SLOTS], 0),
             numbers: Lent::new(&[0; NUMBERS], 0),
+            counts: Lent::new(&[0; COUNTS], 0),
         }
     }
 
     /// What is lent to be written into is of this length, and full of this byte, as are all guards.
     pub fn lend(&mut self, length: usize, fill: u8) {
-        let wide = u16::from_le_bytes([fill, fill]);
+        let (wide, widest) = (u16::from_le_bytes([fill; 2]), u64::from_le_bytes([fill; 8]));
         self.image.guard(fill);
         self.card.guard(fill);
         self.out = Lent::new(&vec![fill; length], fill);
         self.stretched.guard(wide);
         self.numbers = Lent::new(&[wide; NUMBERS], wide);
+        self.counts = Lent::new(&[widest; COUNTS], widest);
     }
 
     /// The byte of all guards.

@@ -1,9 +1,9 @@
-//! The operations on images, R85 to R92.
+//! The operations on images, R85 to R92 and R98.
 
 use crate::card;
 use crate::image;
 use crate::rules;
-use crate::types::{Refusal, Request, Table, EMPTY, SLOTS};
+use crate::types::{Refusal, Request, Table, COUNTS, EMPTY, SLOTS};
 
 /// R92: the numbers of a request.
 pub const NUMBERS: usize = SLOTS + 2;
@@ -43,6 +43,13 @@ pub fn step(image: &mut [u8]) -> Result<Option<usize>, Refusal> {
 /// R89.
 pub fn ready(image: &[u8]) -> Result<u16, Refusal> {
     Ok(rules::ready(&image::read(image)?))
+}
+
+/// R98: the clock, and all the counts, whether R24 would refuse the table or not.
+pub fn counts(image: &[u8], lent: &mut [u64; COUNTS]) -> Result<u64, Refusal> {
+    let table = image::read(image)?;
+    *lent = table.counts.all();
+    Ok(table.clock)
 }
 
 /// R91.

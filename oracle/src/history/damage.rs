@@ -126,7 +126,7 @@ fn spoil(random: &mut Random, image: &mut Vec<u8>) {
     let any = random.below(image::LENGTH as u64) as usize;
     let drawn = byte(random);
     match random.below(8) {
-        0 => put(image, 0, drawn % 3),
+        0 => put(image, 0, drawn % 4),
         1 => put(image, slot, drawn % 4),
         2 => put(image, slot, drawn),
         3 => put(image, slot + 1 + any % 8, drawn),
@@ -140,12 +140,12 @@ fn spoil(random: &mut Random, image: &mut Vec<u8>) {
     }
 }
 
-/// Bytes of any length up to 170, half of them with the version of an image.
+/// Bytes of any length up to a few more than an image's, half of them with its version.
 pub fn no_image(random: &mut Random) -> Vec<u8> {
-    let length = random.below(171) as usize;
+    let length = random.below(image::LENGTH as u64 + 18) as usize;
     let mut drawn = bytes(random, length);
-    if let Some(first) = drawn.first_mut() {
-        *first = if random.below(2) == 0 { 1 } else { *first };
+    if let Some(first) = drawn.first_mut().filter(|_| random.below(2) == 0) {
+        *first = image::VERSION;
     }
     drawn
 }

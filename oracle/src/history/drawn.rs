@@ -108,9 +108,11 @@ impl<'a> Drawn<'a> {
     }
 
     pub fn operate(&mut self, operation: Operation) -> Compared {
+        let before = self.image();
         let compared = self.beside.operate(&operation);
         if let Ok(all) = &compared {
-            self.tally.count(&operation, all, &self.beside.desk);
+            self.tally
+                .count(&operation, all, &before, &self.beside.desk);
         }
         self.operations.push(operation);
         compared
@@ -151,13 +153,14 @@ impl<'a> Drawn<'a> {
     }
 }
 
-/// R85 to R92: the functions that are lent an image or a buffer for one.
-pub fn on_images(line: NewLine) -> [Act; 7] {
+/// R85 to R92, R98: the functions that are lent an image or a buffer for one.
+pub fn on_images(line: NewLine) -> [Act; 8] {
     [
         Act::Ask(line),
         Act::Admit(line),
         Act::Step,
         Act::Ready,
+        Act::Counts,
         Act::WriteCard(line),
         Act::ReadCard,
         Act::Empty,

@@ -26,6 +26,7 @@ pub fn did(act: &Act, desk: &mut Desk) -> Told {
         Act::Admit(line) => numbers::admit(image.part_mut(), line.need, line.period, stretched),
         Act::Step => numbers::step(image.part_mut()),
         Act::Ready => numbers::ready(image.part()),
+        Act::Counts => numbers::counts(image.part(), desk.counts.array_mut()),
         Act::Lamp(number) => return Told::value(numbers::lamp(*number).into()),
         Act::WriteCard(line) => {
             let (image, out) = (image.part(), out.part_mut());

@@ -3,20 +3,27 @@
 use super::operation::Operation;
 use crate::boundary::Desk;
 use crate::image;
-use crate::types::{EMPTY, SLOTS};
+use crate::types::{COUNTS, EMPTY, SLOTS};
+use std::ops::Range;
 
-/// The operations that turn an image into another: clock and slots in words as far as they can be, else bytes.
+/// How many parts of a length are whole in so many bytes, if the first of them begins at an offset; at most so many.
+fn whole_parts(bytes: usize, first: usize, length: usize, most: usize) -> usize {
+    (bytes.saturating_sub(first) / length).min(most)
+}
+
+/// The operations that turn an image into another: clock, slots and counts in words as far as they can be, else bytes.
 pub fn image(now: &[u8], wanted: &[u8]) -> Vec<Operation> {
     let mut operations = Vec::new();
     if now.len() > wanted.len() {
         operations.push(Operation::Cut(wanted.len()));
     }
     let common = now.len().min(wanted.len());
-    let whole = common.saturating_sub(image::FIRST_SLOT) / image::SLOT_LENGTH;
-    let whole = whole.min(SLOTS);
+    let slots = whole_parts(common, image::FIRST_SLOT, image::SLOT_LENGTH, SLOTS);
+    let counts = whole_parts(common, image::FIRST_COUNT, image::COUNT_LENGTH, COUNTS);
     let in_words = match common {
         0..image::FIRST_SLOT => 0,
-        _ => image::slot_at(whole),
+        image::FIRST_SLOT..image::FIRST_COUNT => image::slot_at(slots),
+        _ => image::count_at(counts),
     };
     push_bytes(now, wanted, 0..in_words.min(image::CLOCK), &mut operations);
     if in_words > 0
@@ -24,9 +31,10 @@ pub fn image(now: &[u8], wanted: &[u8]) -> Vec<Operation> {
     {
         operations.push(Operation::Clock(image::clock(wanted)));
     }
-    for slot in 0..whole {
+    for slot in 0..slots {
         push_slot(now, wanted, slot, &mut operations);
     }
+    push_counts(now, wanted, 0..counts, &mut operations);
     push_bytes(now, wanted, in_words..common, &mut operations);
     if wanted.len() > now.len() {
         operations.push(Operation::More(wanted[now.len()..].to_vec()));
@@ -34,14 +42,14 @@ pub fn image(now: &[u8], wanted: &[u8]) -> Vec<Operation> {
     operations
 }
 
-fn push_bytes(
-    now: &[u8],
-    wanted: &[u8],
-    offsets: std::ops::Range<usize>,
-    operations: &mut Vec<Operation>,
-) {
+fn push_bytes(now: &[u8], wanted: &[u8], offsets: Range<usize>, operations: &mut Vec<Operation>) {
     let differing = offsets.filter(|at| now[*at] != wanted[*at]);
     operations.extend(differing.map(|at| Operation::Byte(at, wanted[at])));
+}
+
+fn push_counts(now: &[u8], wanted: &[u8], places: Range<usize>, operations: &mut Vec<Operation>) {
+    let differing = places.filter(|at| image::count(now, *at) != image::count(wanted, *at));
+    operations.extend(differing.map(|at| Operation::Count(at, image::count(wanted, at))));
 }
 
 /// R83: a slot whose bytes are not what its content has is laid byte by byte.

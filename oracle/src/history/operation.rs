@@ -11,6 +11,8 @@ pub enum Operation {
     Clock(u64),
     /// What a slot of the image holds, where it is long enough to have it.
     Slot(usize, Content),
+    /// R95: a count in the image, where it is long enough to have it; the seventeenth is the idle count.
+    Count(usize, u64),
     /// One byte of the image, where it is there.
     Byte(usize, u8),
     /// The image is cut to so many bytes.
@@ -47,6 +49,7 @@ impl Operation {
         match self {
             Operation::Clock(_) => "clock",
             Operation::Slot(..) => "slot",
+            Operation::Count(..) => "count",
             Operation::Byte(..) => "byte",
             Operation::Cut(_) => "cut",
             Operation::More(_) => "more",
@@ -75,6 +78,9 @@ impl Operation {
             Operation::Slot(slot, content) => {
                 put(desk, image::slot_at(*slot), &image::slot_bytes(content));
             }
+            Operation::Count(place, ticks) => {
+                put(desk, image::count_at(*place), &ticks.to_le_bytes());
+            }
             Operation::Byte(at, byte) => put(desk, *at, &[*byte]),
             Operation::Cut(length) => {
                 let mut cut = desk.image.part().to_vec();
@@ -98,10 +104,11 @@ impl Operation {
         let words: Vec<&str> = words.split_whitespace().collect();
         Some(match words[..] {
             ["clock", clock] => Operation::Clock(clock.parse().ok()?),
-            ["slot", slot, ref holds @ ..] => {
-                let slot = slot.parse().ok().filter(|slot| *slot < SLOTS)?;
-                Operation::Slot(slot, content(holds)?)
+            ["slot", slot, "had", ticks] => {
+                Operation::Count(slot_number(slot)?, ticks.parse().ok()?)
             }
+            ["slot", slot, ref holds @ ..] => Operation::Slot(slot_number(slot)?, content(holds)?),
+            ["idle", ticks] => Operation::Count(SLOTS, ticks.parse().ok()?),
             ["byte", at, byte] => Operation::Byte(at.parse().ok()?, byte.parse().ok()?),
             ["cut", length] => Operation::Cut(length.parse().ok()?),
             ["more", ref hex @ ..] => Operation::More(bytes(hex)?),
@@ -121,6 +128,10 @@ fn put(desk: &mut Desk, at: usize, bytes: &[u8]) {
     if let Some(place) = desk.image.part_mut().get_mut(at..end) {
         place.copy_from_slice(bytes);
     }
+}
+
+fn slot_number(word: &str) -> Option<usize> {
+    word.parse().ok().filter(|slot| *slot < SLOTS)
 }
 
 fn numbers<const N: usize>(words: &[&str]) -> Option<[u16; N]> {
@@ -195,6 +206,14 @@ pub fn records(card: &[u8]) -> String {
     words.join(" ")
 }
 
+/// R95: a count in words, by its place among the seventeen.
+pub fn counted(place: usize, ticks: u64) -> String {
+    match place {
+        SLOTS => format!("idle {ticks}"),
+        slot => format!("slot {slot} had {ticks}"),
+    }
+}
+
 /// Periods up to the last that is not 0, each with a space before it.
 pub fn written(periods: &[u16]) -> String {
     let used = periods.iter().rposition(|period| *period > 0);
@@ -224,6 +243,7 @@ impl fmt::Display for Operation {
         match self {
             Operation::Clock(clock) => write!(f, "{name} {clock}"),
             Operation::Slot(slot, content) => write!(f, "{name} {slot} {content}"),
+            Operation::Count(place, ticks) => f.write_str(&counted(*place, *ticks)),
             Operation::Byte(at, byte) => write!(f, "{name} {at} {byte}"),
             Operation::Cut(length) => write!(f, "{name} {length}"),
             Operation::More(bytes) => write!(f, "{name} {}", hex(bytes)),

@@ -62,7 +62,8 @@ fn explained(difference: &Difference) -> String {
     text += &unlike("card", &left.card, &expected.card);
     text += &unlike("out", &left.out, &expected.out);
     text += &unlike("stretched", &left.stretched, &expected.stretched);
-    text + &unlike("numbers", &left.numbers, &expected.numbers)
+    text += &unlike("numbers", &left.numbers, &expected.numbers);
+    text + &unlike("counts", &left.counts, &expected.counts)
 }
 
 /// The first bytes or numbers of a part of the desk that were left unlike, by their offset; a guard's lie outside.

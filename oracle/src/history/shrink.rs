@@ -23,7 +23,7 @@ pub fn shrunk(library: Doer, history: &[Operation]) -> Vec<Operation> {
     // No call remembers another: what lay on the desk before the last one is enough, if that is so.
     let from_desk = described(library, &history[..last], &history[last]);
     shrinking.attempt(from_desk);
-    while shrinking.shorter() || shrinking.simpler() {}
+    while shrinking.shorter() || shrinking.earlier() || shrinking.simpler() {}
     shrinking.best
 }
 
@@ -86,6 +86,26 @@ impl Shrinking {
         self.best.len() < before
     }
 
+    /// R96: makes the clock and a count less by as much, so that what is left between them stays; true if any could be.
+    fn earlier(&mut self) -> bool {
+        let is_clock = |operation: &Operation| matches!(operation, Operation::Clock(_));
+        let Some(first) = self.best.iter().position(is_clock) else {
+            return false;
+        };
+        (0..self.best.len()).any(|at| {
+            let mut history = self.best.clone();
+            match (&self.best[first], &self.best[at]) {
+                (Operation::Clock(clock), Operation::Count(place, ticks)) => {
+                    let less = (*clock).min(*ticks);
+                    history[first] = Operation::Clock(clock - less);
+                    history[at] = Operation::Count(*place, ticks - less);
+                    less > 0 && self.attempt(history)
+                }
+                _ => false,
+            }
+        })
+    }
+
     /// Puts a simpler operation in the place of one; true if any could be.
     fn simpler(&mut self) -> bool {
         let mut any = false;
@@ -106,9 +126,12 @@ impl Shrinking {
     }
 }
 
-/// Lesser numbers, the least first.
+/// Lesser numbers, the least first. Half of it is taken off, a quarter, and so on, down to 1: so that the least of 64 bits that
+/// will do is come to in few steps.
 fn less(number: u64) -> Vec<u64> {
-    let mut lesser = vec![0, 1, number / 2, number.saturating_sub(1)];
+    let parts = (1..u64::BITS).map(|halvings| number >> halvings);
+    let mut lesser = vec![0, 1];
+    lesser.extend(parts.filter(|part| *part > 0).map(|part| number - part));
     lesser.retain(|candidate| *candidate < number);
     lesser.dedup();
     lesser
@@ -184,6 +207,10 @@ fn simpler(operation: &Operation) -> Vec<Operation> {
         Operation::Slot(slot, content) => simpler_content(content)
             .into_iter()
             .map(|content| Operation::Slot(*slot, content))
+            .collect(),
+        Operation::Count(place, ticks) => less(*ticks)
+            .into_iter()
+            .map(|ticks| Operation::Count(*place, ticks))
             .collect(),
         Operation::Byte(at, byte) => less((*byte).into())
             .into_iter()

@@ -1,5 +1,7 @@
 //! The comparison finds what it should find, and its histories are short and can be done again.
 
+mod counts;
+
 use super::beside::{Beside, Doer};
 use super::drawn::Drawn;
 use super::operation::Operation;
@@ -7,6 +9,7 @@ use super::tally::Tally;
 use super::{compared, damage, laid, replay};
 use crate::boundary::{should, Act, Desk, Told};
 use crate::draw;
+use crate::draw_counts;
 use crate::image;
 use crate::random::Random;
 
@@ -14,11 +17,12 @@ const CALLS: u64 = 30_000;
 const SEED: u64 = 6;
 
 #[test]
-fn the_rules_do_not_differ_from_themselves_and_meet_every_refusal() {
+fn the_rules_do_not_differ_from_themselves_and_meet_every_refusal_and_all_that_counts_can() {
     let mut tally = Tally::default();
     assert_eq!(compared(should, CALLS, SEED, &mut tally), None);
     assert!(tally.compared() >= CALLS);
     assert_eq!(tally.amiss(), Vec::<usize>::new(), "{tally}");
+    assert_eq!(tally.unmet(), Vec::<&str>::new(), "{tally}");
     assert!(tally.later > 300, "{tally}");
     assert!(tally.turned > 100, "{tally}");
 }
@@ -29,9 +33,29 @@ fn twelve_is_amiss_where_it_is_told_and_any_other_refusal_where_it_is_not() {
     let told: Vec<Told> = (11..=13_u64)
         .map(|number| Told::refused(number, 10))
         .collect();
-    tally.count(&Act::Rewrite.into(), &told, &Desk::new());
+    tally.count(&Act::Rewrite.into(), &told, &[], &Desk::new());
     assert_eq!(tally.amiss(), [1, 2, 3, 4, 5, 6, 7, 8, 9, 10, 12, 14, 15]);
 }
+
+/// R96: on an empty table at clock 0 an idle tick is one above, and the idle count alone, and nothing else is met.
+#[test]
+fn what_the_counts_did_not_meet_is_named() {
+    let mut tally = Tally::default();
+    let all = tally.unmet();
+    let mut desk = Desk::new();
+    Operation::from_line("idle 1")
+        .expect("words")
+        .lay(&mut desk);
+    let before = desk.image.part().to_vec();
+    let told = should(&Act::Step, &mut desk);
+    tally.count(&Act::Step.into(), &[told], &before, &desk);
+    let wanted = ["one above", "the idle count alone"];
+    let met = all.iter().filter(|name| !tally.unmet().contains(name));
+    assert_eq!(Vec::from_iter(met.copied()), wanted);
+}
+
+/// A fault's name, a library that has it, and how many operations show it at most.
+type Fault = (&'static str, Doer, usize);
 
 /// What a library would do that has a fault: the rules, and then a change of what they told or left.
 fn with(act: &Act, desk: &mut Desk, fault: impl FnOnce(&mut Told, &mut Desk)) -> Told {
@@ -166,7 +190,7 @@ fn lowest_named(act: &Act, desk: &mut Desk) -> Told {
 
 #[test]
 fn each_fault_is_found_and_made_a_short_history_that_can_be_done_again() {
-    let faults: [(&str, Doer, usize); 12] = [
+    let faults: [Fault; 12] = [
         ("step stands", step_stands, 2),
         ("ask late", ask_late, 5),
         ("admit forgets", admit_forgets, 3),
@@ -180,7 +204,7 @@ fn each_fault_is_found_and_made_a_short_history_that_can_be_done_again() {
         ("order kept", order_kept, 2),
         ("lowest named", lowest_named, 2),
     ];
-    for (name, library, most) in faults {
+    for (name, library, most) in faults.into_iter().chain(counts::FAULTS) {
         let mut tally = Tally::default();
         let text = compared(library, CALLS, SEED, &mut tally).expect(name);
         let operations = text.lines().filter(|line| !line.starts_with('#')).count();
@@ -225,6 +249,13 @@ fn a_line_that_is_no_operation_is_refused() {
         "slot 0",
         "slot 0 runs 1 2 3",
         "slot 0 waits 1 2 3 4",
+        "slot 16 had 1",
+        "slot 0 had",
+        "slot 0 had -1",
+        "slot 0 had 1 2",
+        "idle",
+        "idle 18446744073709551616",
+        "counts 1",
         "byte 1 256",
         "card 1",
         "card XY",
@@ -251,7 +282,9 @@ fn a_wanted_image_is_laid() {
     let random = &mut random;
     let mut beside = Beside::new(should);
     for round in 0..20_000 {
-        let image = image::bytes(&draw::any(random).0);
+        let (mut table, _) = draw::any(random);
+        draw_counts::any(random, &mut table);
+        let image = image::bytes(&table);
         let wanted = match round % 4 {
             0 => damage::no_image(random),
             1 => damage::image(random, &image),
@@ -274,9 +307,12 @@ fn a_difference_among_steps_says_which() {
 
 #[test]
 fn a_history_says_what_it_was_told() {
-    let text = "# a remark\n\nadmit 8 16: anything\nstretched 16\nadmit 8 16\nstep 8\nready\nbyte 0 2\nstep 2\ntable\n";
+    let text = "# a remark\n\nadmit 8 16: anything\nstretched 16\nadmit 8 16\nstep 8\nready\ncounts\nidle 1\nslot 3 had 2\n\
+                counts\nstep\nbyte 0 1\nstep 2\ntable\n";
     let said = "# a remark\n\nadmit 8 16: start 0 slot 0\nstretched 16\nadmit 8 16: start 0 slot 1\nstep 8: 00000000\n\
-                ready: word 2\nbyte 0 2\nstep 2: refused 11 0\ntable: refused 11 0\n";
+                ready: word 2\ncounts: clock 8, slot 0 had 8\nidle 1\nslot 3 had 2\n\
+                counts: clock 8, slot 0 had 8, slot 3 had 2, idle 1\nstep: refused 4 0\n\
+                byte 0 1\nstep 2: refused 11 0\ntable: refused 11 0\n";
     assert_eq!(replay::replayed(should, text), Ok((said.to_string(), true)));
     assert_eq!(replay::replayed(should, said), Ok((said.to_string(), true)));
 }

@@ -6,6 +6,7 @@ use super::operation::Operation;
 use crate::boundary::Act;
 use crate::card;
 use crate::draw;
+use crate::draw_counts;
 use crate::image;
 use crate::orders;
 use crate::spoil;
@@ -40,10 +41,11 @@ impl Drawn<'_> {
 
     /// A table that mostly passes all refusals, with its request.
     fn open_question(&mut self) -> Done {
-        let (table, request) = match self.random.below(64) {
+        let (mut table, request) = match self.random.below(64) {
             0 => draw::wide(self.random),
             _ => draw::near_full(self.random),
         };
+        draw_counts::fitting(self.random, &mut table);
         self.loads.go_by(&table, &request);
         self.lay(&image::bytes(&table))?;
         self.ask(&request)
@@ -63,13 +65,15 @@ impl Drawn<'_> {
                 let times = 1 + self.random.below(24);
                 self.step(times)
             }
-            31 | 32 => self.call(Act::Ready).map(|_| ()),
+            31 => self.call(Act::Ready).map(|_| ()),
+            32 => self.call(Act::Counts).map(|_| ()),
             33..=35 => self.write_card(),
             36..=38 => self.there_and_back(),
             39..=42 => self.cards(),
             43 => self.read_card(),
             44 => self.open_question(),
-            45..=54 => self.damaged_table(),
+            45..=52 => self.damaged_table(),
+            53 | 54 => self.counted_table(),
             55..=59 => self.broken_image(),
             60 | 61 => self.jump(),
             62 => {
@@ -184,6 +188,26 @@ impl Drawn<'_> {
         self.lay(&before)
     }
 
+    /// R24, R96: counts of any kind beside lines that may be damaged too, for every call on images; then the table stands as it
+    /// stood.
+    fn counted_table(&mut self) -> Done {
+        let (before, mut table) = (self.image(), self.table());
+        let mut request = self.draw_request();
+        if self.random.below(4) > 0 {
+            damage::table(self.random, &mut table, &mut request);
+        }
+        match self.random.below(4) {
+            0 => draw_counts::fitting(self.random, &mut table),
+            _ => draw_counts::too_many(self.random, &mut table),
+        }
+        let counted = image::bytes(&table);
+        for act in on_images(self.request(&request)?) {
+            self.lay(&counted)?;
+            self.call(act)?;
+        }
+        self.lay(&before)
+    }
+
     /// R83: the image's bytes are spoilt for some calls, and then they are as they were.
     fn broken_image(&mut self) -> Done {
         let before = self.image();
@@ -198,14 +222,17 @@ impl Drawn<'_> {
         self.lay(&before)
     }
 
-    /// R7: the clock jumps, to where a run comes to the last ask or anywhere before; the lines stay as they are.
+    /// R7: the clock jumps, to where a run comes to the last ask or anywhere before, but not before what is counted (R96); the lines
+    /// and counts stay as they are.
     fn jump(&mut self) -> Done {
-        let anywhere = (self.random.value() << 31 | self.random.value()) % (LAST_ASK + 1);
+        let anywhere = self.random.wide(LAST_ASK + 1);
         let clock = match self.random.below(4) {
             0 => LAST_ASK - self.random.below(200),
             1 => self.random.below(1_000),
             _ => anywhere,
         };
+        let counted = self.table().counts.sum();
+        let clock = u64::try_from(counted).map_or(clock, |counted| clock.max(counted));
         self.operate(Operation::Clock(clock)).map(|_| ())
     }
 }

@@ -1,6 +1,6 @@
 //! What an operation was told, in words.
 
-use super::operation::{records, written, Operation};
+use super::operation::{counted, records, written, Operation};
 use crate::boundary::{reordered, Act, Desk, Told, NO_SLOT};
 use crate::image;
 use crate::types::{Content, SLOTS};
@@ -48,6 +48,7 @@ fn one(act: &Act, told: &Told, desk: &Desk) -> String {
         Act::Empty => format!("length {value}"),
         Act::Run(_) => format!("ran {value}"),
         Act::Ready => format!("word {value}"),
+        Act::Counts => format!("clock {value}{}", counts(desk.counts.part())),
         Act::Lamp(_) => format!("blinks {value}"),
         Act::Step | Act::Version => value.to_string(),
     }
@@ -73,7 +74,14 @@ fn mark(slot: u64) -> char {
     }
 }
 
-/// R83: the clock and the slots that hold a line, or where the image is broken.
+/// R95: the counts that are not 0, in the words that lay them.
+fn counts(all: &[u64]) -> String {
+    let counted_any = all.iter().enumerate().filter(|(_, ticks)| **ticks > 0);
+    let words = counted_any.map(|(place, ticks)| format!(", {}", counted(place, *ticks)));
+    words.collect()
+}
+
+/// R83: the clock, the slots that hold a line and the counts that are not 0, or where the image is broken.
 pub fn table(image: &[u8]) -> String {
     match image::read(image) {
         Err(refusal) => refusal.to_string(),
@@ -81,7 +89,8 @@ pub fn table(image: &[u8]) -> String {
             let slots = table.slots.iter().enumerate();
             let held = slots.filter(|(_, content)| **content != Content::Nothing);
             let words = held.map(|(slot, content)| format!(", slot {slot} {content}"));
-            format!("clock {}{}", table.clock, words.collect::<String>())
+            let (slots, counts) = (words.collect::<String>(), counts(&table.counts.all()));
+            format!("clock {}{slots}{counts}", table.clock)
         }
     }
 }

@@ -27,10 +27,7 @@ impl Draw {
 
     /// Lines and a new, short one that take up nearly all of the pump, each line owed all or nothing.
     fn question(&mut self, frame: u32, least: u32) -> (Pump, Request) {
-        let mut pump = Pump {
-            clock: 0,
-            slots: [Held::Nothing; SLOTS],
-        };
+        let mut pump = Pump::new(0);
         let mut request = Request {
             stretched: [0; SLOTS],
             need: 0,

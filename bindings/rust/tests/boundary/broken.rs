@@ -1,8 +1,10 @@
 //! Broken images (R83): the lowest offset, before any other ground.
 
 use crate::lent::Lent;
-use crate::samples::{case_a, image, offset, refused, running, waiting, Image, BENCH, LAST_TICK};
-use trimthuel::image::{admit, ask, ready, step, write_card};
+use crate::samples::{
+    case_a, counted, image, offset, refused, running, waiting, Image, BENCH, IDLE, LAST_TICK,
+};
+use trimthuel::image::{admit, ask, counts, ready, step, write_card};
 use trimthuel::{Pump, TABLE_SIZE};
 
 /// Every function that reads an image refuses these bytes with 11 at this offset, and leaves them.
@@ -13,6 +15,7 @@ fn broken(bytes: &[u8], at: usize) {
     assert_eq!(admit(table.lend(), &BENCH), refused(11, at));
     assert_eq!(step(table.lend()), refused(11, at));
     assert_eq!(ready(table.lend()), refused(11, at));
+    assert_eq!(counts(table.lend()), refused(11, at));
     assert_eq!(write_card(table.lend(), &BENCH, &mut []), refused(11, at));
     assert_eq!(Pump::from_image(table.lend()), refused(11, at));
     table.holds(bytes);
@@ -23,14 +26,15 @@ fn with(mut image: Image, at: usize, byte: u8) -> Image {
     image
 }
 
-/// Each of these has a ground of its own: 1 and 15, 2, 3, 4, and none.
-fn tables() -> [Image; 5] {
+/// Each of these has a ground of its own: 1 and 15, 2, 3, 4 by a line and by the counts, and none.
+fn tables() -> [Image; 6] {
     let full: Vec<_> = (0..16).map(|slot| (slot, running(1, 64, 0, 1))).collect();
     [
         image(LAST_TICK, &[]),
         image(0, &full),
         image(0, &[(3, waiting(1, 4, 5))]),
         image(0, &[(0, running(9, 8, 8, 10))]),
+        counted(image(0, &[]), &[(7, u64::MAX), (IDLE, u64::MAX)]),
         case_a(),
     ]
 }
@@ -38,7 +42,7 @@ fn tables() -> [Image; 5] {
 #[test]
 fn another_version() {
     for table in tables() {
-        for version in [0, 2, 0xFF] {
+        for version in [0, 1, 3, 0xFF] {
             broken(&with(table, 0, version), 0);
         }
     }
@@ -101,6 +105,9 @@ fn the_lowest_offset_of_several() {
 fn any_numbers_are_taken() {
     let line = running(0xFFFF, 0, 0xFFFF, 0xFFFF);
     let table = image(u64::MAX, &[(0, line), (15, waiting(0, 0xFFFF, 0))]);
-    assert_eq!(ready(&table), Ok(1));
-    assert_eq!(Pump::from_image(&table).unwrap().image(), &table);
+    let all: Vec<_> = (0..=IDLE).map(|place| (place, u64::MAX)).collect();
+    for table in [table, counted(table, &all)] {
+        assert_eq!(ready(&table), Ok(1));
+        assert_eq!(Pump::from_image(&table).unwrap().image(), &table);
+    }
 }

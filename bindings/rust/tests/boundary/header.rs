@@ -35,6 +35,7 @@ fn the_same_constants() {
         ("IMAGE_VERSION", trimthuel::IMAGE_VERSION.into()),
         ("SLOTS", trimthuel::SLOTS),
         ("TABLE_SIZE", trimthuel::TABLE_SIZE),
+        ("COUNTS", trimthuel::COUNTS),
         ("REQUEST_SIZE", trimthuel::REQUEST_SIZE),
         ("CARD_MAX", trimthuel::CARD_MAX),
         ("LINE_MAX", trimthuel::LINE_MAX),

@@ -1,13 +1,13 @@
-//! Every function on images (R85 to R92), with lent buffers of every length.
+//! Every function on images (R85 to R92, R98), with lent buffers of every length.
 
 use crate::lent::{overwritten, writes, Lent, FILL};
 use crate::samples::{
-    admitted, case_a, image, refused, running, Image, BENCH, CARD_A, CARD_A_MIXED, CARD_A_OLD,
-    NUMBERS_A,
+    admitted, case_a, counted, image, refused, running, Image, BENCH, CARD_A, CARD_A_MIXED,
+    CARD_A_OLD, NUMBERS_A,
 };
 use std::fmt::Debug;
-use trimthuel::image::{admit, ask, empty, read_card, ready, step, write_card};
-use trimthuel::{Answer, Refusal, REQUEST_SIZE, TABLE_SIZE};
+use trimthuel::image::{admit, ask, counts, empty, read_card, ready, step, write_card};
+use trimthuel::{Answer, Counts, Refusal, REQUEST_SIZE, TABLE_SIZE};
 
 /// R83: case A's image cut, or with bytes after it, is refused there and stays. Whole it is granted this, and is that after.
 #[track_caller]
@@ -42,12 +42,22 @@ fn r86_ask_and_r87_admit() {
 #[test]
 fn r88_step() {
     let next = image(9, &[(0, running(8, 16, 9, 0)), (1, running(8, 16, 9, 7))]);
-    reads(step, Some(1), next);
+    reads(step, Some(1), counted(next, &[(1, 1)]));
 }
 
 #[test]
 fn r89_ready() {
     reads(|table| ready(table), 0b10, case_a());
+}
+
+#[test]
+fn r98_counts() {
+    let none = Counts {
+        had: [0; 16],
+        idle: 0,
+        clock: 8,
+    };
+    reads(|table| counts(table), none, case_a());
 }
 
 #[test]

@@ -42,8 +42,8 @@ impl<T: Copy + Debug + PartialEq + From<u8>> Lent<T> {
     }
 }
 
-/// Bytes that are no image, no card and no line.
-pub const FILL: [u8; 170] = [0xEE; 170];
+/// Bytes that are no image, no card and no line, and more than any of them has.
+pub const FILL: [u8; 306] = [0xEE; 306];
 
 /// What bytes are after something was written to their start.
 pub fn overwritten(bytes: &[u8], written: &[u8]) -> Vec<u8> {

@@ -2,6 +2,7 @@
 
 mod broken;
 mod cards;
+mod counts;
 mod header;
 mod lengths;
 mod lent;

@@ -1,9 +1,11 @@
 //! R63: all three numbers of a result, those too that the rest of the crate leaves out.
 
 use crate::lent::Lent;
-use crate::samples::{admitted, case_a, image, BENCH, CARD_A, CARD_A_OLD, LAST_TICK};
+use crate::samples::{
+    admitted, case_a, counted, image, BENCH, CARD_A, CARD_A_OLD, IDLE, LAST_TICK,
+};
 use trimthuel::numbers::{self, Numbers, NO_SLOT};
-use trimthuel::{Request, CARD_MAX, LINE_MAX, REQUEST_SIZE, SLOTS, TABLE_SIZE};
+use trimthuel::{Request, CARD_MAX, COUNTS, LINE_MAX, REQUEST_SIZE, SLOTS, TABLE_SIZE};
 
 /// Number, place, value.
 #[track_caller]
@@ -45,9 +47,35 @@ fn step_and_ready() {
     is(numbers::ready(&case_a()[..80]), [11, 80, 0]);
 }
 
+/// R98: what is told, and what the seventeen lent numbers are then.
+fn shown(table: &[u8]) -> (Numbers, [u64; COUNTS]) {
+    let mut lent = Lent::new(&[7; COUNTS]);
+    let counts: &mut [u64; COUNTS] = lent.lend().try_into().expect("seventeen numbers");
+    let told = numbers::counts(table, counts);
+    let after = *counts;
+    lent.holds(&after);
+    (told, after)
+}
+
+#[test]
+fn counts() {
+    let table = counted(case_a(), &[(0, 4), (15, u64::MAX), (IDLE, u64::MAX - 1)]);
+    let (told, after) = shown(&table);
+    is(told, [0, 0, 8]);
+    let mut wanted = [0; COUNTS];
+    (wanted[0], wanted[15], wanted[IDLE]) = (4, u64::MAX, u64::MAX - 1);
+    assert_eq!(after, wanted);
+    is(shown(&image(u64::MAX, &[])).0, [0, 0, u64::MAX]);
+    for (broken, at) in [(&table[..288], 288), (&[0; 289], 0), (&[], 0)] {
+        let (told, after) = shown(broken);
+        is(told, [11, at, 0]);
+        assert_eq!(after, [7; COUNTS]);
+    }
+}
+
 #[test]
 fn what_is_written() {
-    is(numbers::empty(&mut [0; TABLE_SIZE]), [0, 0, 153]);
+    is(numbers::empty(&mut [0; TABLE_SIZE]), [0, 0, 289]);
     is(numbers::empty(&mut [0; TABLE_SIZE - 1]), [13, 0, 0]);
     for (table, room, wanted) in [
         (case_a(), 40, [0, 0, 40]),
@@ -62,7 +90,7 @@ fn what_is_written() {
     }
     let read =
         |card, room| numbers::read_card(card, &mut [0; TABLE_SIZE][..room], &mut [0; REQUEST_SIZE]);
-    is(read(CARD_A, TABLE_SIZE), [0, 0, 153]);
+    is(read(CARD_A, TABLE_SIZE), [0, 0, 289]);
     is(read(CARD_A, TABLE_SIZE - 1), [13, 0, 0]);
     is(read(&CARD_A[..39], TABLE_SIZE), [11, 34, 0]);
 }

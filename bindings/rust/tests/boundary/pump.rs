@@ -1,7 +1,7 @@
 //! The pump that owns its table, and requests.
 
 use crate::samples::{
-    admitted, case_a, image, refused, running, BENCH, CARD_A, CARD_A_OLD, LAST_TICK,
+    admitted, case_a, counted, image, refused, running, BENCH, CARD_A, CARD_A_OLD, LAST_TICK,
 };
 use trimthuel::{Answer, Pump, Refusal, Request, CARD_MAX, TABLE_SIZE};
 
@@ -14,6 +14,7 @@ fn r4_a_new_pump_is_the_empty_table() {
     assert_eq!(EMPTY.image(), &written);
     assert_eq!(Pump::default(), EMPTY);
     assert_eq!(EMPTY.ready(), 0);
+    assert_eq!((EMPTY.counts().sum(), EMPTY.counts().clock), (0, 0));
     assert_eq!(trimthuel::version(), trimthuel::VERSION);
 }
 
@@ -29,14 +30,16 @@ fn case_a_from_the_empty_table() -> Result<(), Refusal> {
     for _ in 0..8 {
         assert_eq!(pump.step(), Ok(Some(0)));
     }
-    assert_eq!(pump.image(), &case_a());
+    // R97: the first line has had all ticks so far.
+    let eight = [(0, 8)];
+    assert_eq!(pump.image(), &counted(case_a(), &eight));
     let bench = pump.request(1, 4).stretch(0, 32);
     assert_eq!(bench, BENCH);
     let answer = Answer { start: 13, slot: 2 };
     assert_eq!(pump.ask(&bench), Ok(answer));
-    assert_eq!(pump.image(), &case_a());
+    assert_eq!(pump.image(), &counted(case_a(), &eight));
     assert_eq!(pump.admit(&bench), Ok(answer));
-    assert_eq!(pump.image(), &admitted());
+    assert_eq!(pump.image(), &counted(admitted(), &eight));
     let digit = |slot: usize| char::from_digit(slot as u32, 10).unwrap_or('?');
     let ticks = (0..56).map(|_| Ok(pump.step()?.map_or('.', digit)));
     let row = ticks.collect::<Result<String, Refusal>>()?;
@@ -45,6 +48,12 @@ fn case_a_from_the_empty_table() -> Result<(), Refusal> {
         .lines()
         .find_map(|line| line.strip_prefix("step 56: "));
     assert_eq!(stored, Some(row.as_str()));
+    // R79: each count is how often the row names it, the first eight ticks before it.
+    let named = |mark: char| row.chars().filter(|ran| *ran == mark).count() as u64;
+    let counts = pump.counts();
+    let had = [8 + named('0'), named('1'), named('2')];
+    assert_eq!((&counts.had[..3], counts.idle), (&had[..], named('.')));
+    assert_eq!((counts.sum(), counts.clock), (64, 64));
     Ok(())
 }
 
@@ -81,6 +90,11 @@ fn r23_a_waiting_line_is_kept_in_the_image_and_refused_on_a_card() {
 fn r72_there_and_back() {
     let (pump, request) = Pump::from_card(CARD_A).unwrap();
     assert_eq!((pump.image(), request), (&case_a(), BENCH));
+    // R72: a table that was read has every count 0, also where the one that was written had not.
+    let full = Pump::from_image(&counted(case_a(), &[(0, 8), (9, u64::MAX)])).unwrap();
+    let mut card = [0; CARD_MAX];
+    assert_eq!(full.write_card(&request, &mut card), Ok(40));
+    assert_eq!(&card[..40], CARD_A);
     let mut card = [0; CARD_MAX];
     assert_eq!(pump.write_card(&request, &mut card), Ok(40));
     assert_eq!(&card[..40], CARD_A);

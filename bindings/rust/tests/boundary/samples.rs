@@ -25,10 +25,10 @@ pub fn waiting(need: u16, period: u16, wait: u16) -> Line {
     (2, [need, period, wait, 0])
 }
 
-/// R81: the image of a clock and some slots; the others hold nothing.
+/// R81: the image of a clock and some slots; the others hold nothing, and nothing is counted.
 pub fn image(clock: u64, lines: &[(usize, Line)]) -> Image {
     let mut image = [0; TABLE_SIZE];
-    image[0] = 1;
+    image[0] = 2;
     image[1..9].copy_from_slice(&clock.to_le_bytes());
     for (slot, (kind, numbers)) in lines {
         let at = offset(*slot);
@@ -36,6 +36,18 @@ pub fn image(clock: u64, lines: &[(usize, Line)]) -> Image {
         for (place, number) in (at + 1..).step_by(2).zip(numbers) {
             image[place..place + 2].copy_from_slice(&number.to_le_bytes());
         }
+    }
+    image
+}
+
+/// R81: where the idle count stands among the counts.
+pub const IDLE: usize = 16;
+
+/// R81: the same with some counts, each by its place.
+pub fn counted(mut image: Image, counts: &[(usize, u64)]) -> Image {
+    for (place, ticks) in counts {
+        let at = 153 + 8 * place;
+        image[at..at + 8].copy_from_slice(&ticks.to_le_bytes());
     }
     image
 }

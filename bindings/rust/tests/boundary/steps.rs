@@ -1,7 +1,9 @@
 //! Steps and their refusals (R48), on images.
 
 use crate::lent::Lent;
-use crate::samples::{admitted, image, offset, refused, running, waiting, Image, LAST_TICK};
+use crate::samples::{
+    admitted, counted, image, offset, refused, running, waiting, Image, IDLE, LAST_TICK,
+};
 use trimthuel::image::step;
 use trimthuel::Refusal;
 
@@ -17,7 +19,7 @@ fn stays(table: Image, refusal: Result<Option<usize>, Refusal>) {
 fn r35_the_last_tick() {
     let mut table = image(LAST_TICK - 1, &[]);
     assert_eq!(step(&mut table), Ok(None));
-    assert_eq!(table, image(LAST_TICK, &[]));
+    assert_eq!(table, counted(image(LAST_TICK, &[]), &[(IDLE, 1)]));
     for clock in [LAST_TICK, LAST_TICK + 1, u64::MAX] {
         stays(image(clock, &[]), refused(15, 0));
         // R48: before an unsound line and a period that ends short.
@@ -50,7 +52,8 @@ fn r34_a_period_that_ends_short() {
 fn r44_none_is_owed() {
     let mut table = image(0, &[(7, running(1, 4, 1, 0))]);
     assert_eq!(step(&mut table), Ok(None));
-    assert_eq!(table, image(1, &[(7, running(1, 4, 2, 0))]));
+    let next = image(1, &[(7, running(1, 4, 2, 0))]);
+    assert_eq!(table, counted(next, &[(IDLE, 1)]));
 }
 
 #[test]

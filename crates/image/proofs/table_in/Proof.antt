@@ -1,12 +1,25 @@
--- `table_in`: its two parts are the callees'.
+-- `table_in`: its parts are the callees'.
 use borrow.Author.Needs.{needs}
-use mathlib.Core.Path.{ap₂, _∙_}
-use Rattle.table.specs.Words.{tableWith}
+use mathlib.Core.Path.{ap, ap₂, _∙_}
+use mathlib.Core.List.{List}
+use Prim.Native.Nat.{ℕ}
+use lib.ListN.{drop}
+use Rattle.table.specs.declared.Table.{Table}
+use Rattle.table.specs.Words.{tableWith, withCounts}
+use Rattle.card.specs.Bytes.{value}
+use Rattle.image.specs.Loading.{slotsIn}
 use Rattle.image.proofs.table_in.Statement.{statement}
 use Rattle.image.proofs.table_in.Tie as tie
 
 returns : tie.Need-returns
-returns c = c .new .ensures ∙ ap₂ tableWith (c .before .before .eight .ensures .0) (c .before .slots-in .ensures)
+returns c =
+    let h = c .before .counts-in in
+    let n = c .before .before in
+    let l = n .before .before .before .before .args .image .now in
+    ap (λ (t : Table). withCounts t (h .result) (c .eight-at2 .result)) (n .new .ensures ∙ ap₂ tableWith (n .before .before .eight-at .ensures) (n .before .slots-in .ensures))
+    ∙ ap₂ (λ (ns : List ℕ) (k : ℕ). withCounts (tableWith (value 8 l 1) (slotsIn 16 (drop 9 l))) ns k) (h .ensures) (c .eight-at2 .ensures)
 
 pub table-in-spec : {M : Type 1} → statement M
-table-in-spec = tie.close (tie.spec (λ c κs. search needs) (λ c κs. search needs) (λ c κs. search needs) returns)
+table-in-spec =
+    tie.close
+    (tie.spec (λ c κs. search needs) (λ c κs. search needs) (λ c κs. search needs) (λ c κs. search needs) (λ c κs. search needs) returns)

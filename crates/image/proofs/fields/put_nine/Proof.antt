@@ -1,17 +1,43 @@
--- `put_nine`: nine stores, one after the other.
+-- `put_nine`: the number goes behind the byte.
 use borrow.Author.Needs.{needs}
-use mathlib.Core.List.{_∷_}
+use borrow.Rule.Slice.PartMut.{same-len-mid}
+use mathlib.Core.Path.{refl, ap, _∙_}
+use mathlib.Core.List.{[], _∷_}
+use Prim.Native.Nat.{_-_}
 use native.Mathlib.Omega.{arith}
-use lib.ListN.{take}
-use lib.Seq.{length-sets, lt-length-sets, sets-eq}
+use lib.ListN.{length, set, length-set, length-drop}
+use lib.Seq.{sets-eq}
 use Rattle.card.specs.Bytes.{le}
+use Rattle.card.proofs.Parts.{part-all, put-at}
 use Rattle.image.proofs.fields.put_nine.Statement.{statement}
 use Rattle.image.proofs.fields.put_nine.Tie as tie
 
+sub-put-eight : tie.Need-sub-put-eight
+sub-put-eight c = let a = c .before .args in omega (arith, length-set (a .out .now) 0 (a .first))
+
+part-put-eight-start : tie.Need-part-put-eight-start
+part-put-eight-start c = let a = c .before .args in omega (arith, length-set (a .out .now) 0 (a .first))
+
+put-eight-requires : tie.Need-put-eight-requires
+put-eight-requires c κs =
+    let a = c .before .before .args in
+    let l = set (a .out .now) 0 (a .first) in
+    omega (arith, ap length (part-all l 1), length-drop 1 l, length-set (a .out .now) 0 (a .first))
+
+same-length : tie.Need-same-length
+same-length c =
+    let p = c .before .before .put-eight in
+    let a = c .before .before .before .before .before .args in
+    let l = set (a .out .now) 0 (a .first) in
+    same-len-mid 1 (length l - 1) l (p .last .0) (p .kept .0) ∙ length-set (a .out .now) 0 (a .first)
+
 returns : tie.Need-returns
-returns c = sets-eq (c .args .first ∷ le 8 (c .args .v)) (c .args .out .now) 0 (omega arith)
+returns c =
+    let p = c .before .before .put-eight in
+    let a = c .before .before .before .before .before .args in
+    put-at (a .out .now) _ (a .first ∷ []) (le 8 (a .v)) (p .last .0) 1 8 (sets-eq (a .first ∷ []) (a .out .now) 0 (omega arith)) refl refl (p .ensures)
 
 pub put-nine-spec : {M : Type 1} → statement M
 put-nine-spec =
     tie.close
-    (tie.spec (λ c. search needs) (λ c. search needs) (λ c. lt-length-sets (c .args .out .now) 0 (take 1 (c .args .first ∷ le 8 (c .args .v))) (omega arith)) (λ c. search needs) (λ c. lt-length-sets (c .args .out .now) 0 (take 2 (c .args .first ∷ le 8 (c .args .v))) (omega arith)) (λ c. search needs) (λ c. lt-length-sets (c .args .out .now) 0 (take 3 (c .args .first ∷ le 8 (c .args .v))) (omega arith)) (λ c. search needs) (λ c. lt-length-sets (c .args .out .now) 0 (take 4 (c .args .first ∷ le 8 (c .args .v))) (omega arith)) (λ c. search needs) (λ c. lt-length-sets (c .args .out .now) 0 (take 5 (c .args .first ∷ le 8 (c .args .v))) (omega arith)) (λ c. search needs) (λ c. lt-length-sets (c .args .out .now) 0 (take 6 (c .args .first ∷ le 8 (c .args .v))) (omega arith)) (λ c. search needs) (λ c. lt-length-sets (c .args .out .now) 0 (take 7 (c .args .first ∷ le 8 (c .args .v))) (omega arith)) (λ c. search needs) (λ c. lt-length-sets (c .args .out .now) 0 (take 8 (c .args .first ∷ le 8 (c .args .v))) (omega arith)) (λ c. length-sets (c .args .out .now) 0 (c .args .first ∷ le 8 (c .args .v))) returns)
+    (tie.spec (λ c. search needs) sub-put-eight part-put-eight-start (λ c. search needs) put-eight-requires same-length returns)

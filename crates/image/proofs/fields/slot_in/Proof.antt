@@ -11,17 +11,17 @@ returns : tie.Need-returns
 returns c =
     let n = c .before in
     let d = n .before .before .before in
-    let e = d .before .before .before .before .eight .ensures in
+    let e = d .before .before .before .before in
     c .holding .ensures ∙ ap holding (n .running .ensures)
-    ∙ running-in _ (e .1) (e .0) (omega arith) (d .before .before .before .lowest .ensures) (d .before .before .lowest2 .ensures) (d .before .lowest3 .ensures) (d .lowest4 .ensures)
+    ∙ running-in _ (λ i. e .before .shared-slice-known .given i .fits) (e .eight-at .ensures) (omega arith) (d .before .before .before .lowest .ensures) (d .before .before .lowest2 .ensures) (d .before .lowest3 .ensures) (d .lowest4 .ensures)
 
 returns-2 : tie.Need-returns-2
 returns-2 c =
     let n = c .before in
     let d = n .before .before .before in
-    let e = d .before .before .before .before .eight .ensures in
+    let e = d .before .before .before .before in
     c .holding2 .ensures ∙ ap holding (n .waiting .ensures)
-    ∙ waiting-in _ (e .1) (e .0) (omega arith) (d .before .before .before .lowest .ensures) (d .before .before .lowest2 .ensures) (d .before .lowest3 .ensures)
+    ∙ waiting-in _ (λ i. e .before .shared-slice-known .given i .fits) (e .eight-at .ensures) (omega arith) (d .before .before .before .lowest .ensures) (d .before .before .lowest2 .ensures) (d .before .lowest3 .ensures)
 
 returns-3 : tie.Need-returns-3
 returns-3 c =

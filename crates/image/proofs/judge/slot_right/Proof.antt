@@ -8,13 +8,13 @@ use Rattle.image.proofs.judge.slot_right.Statement.{statement}
 use Rattle.image.proofs.judge.slot_right.Tie as tie
 
 returns : tie.Need-returns
-returns c t = right-nothing (c .before .before .before .before .args .s .now) (omega arith) (c .before .eight .ensures) refl t
+returns c t = right-nothing (c .before .before .before .before .args .s .now) (omega arith) (c .before .eight-at .ensures) refl t
 
 returns-2 : tie.Need-returns-2
 returns-2 c t = right-running (c .before .before .before .before .args .s .now) (omega arith)
 
 returns-3 : tie.Need-returns-3
-returns-3 c t = right-waiting (c .before .before .before .before .args .s .now) (omega arith) (c .before .eight .ensures) refl t
+returns-3 c t = right-waiting (c .before .before .before .before .args .s .now) (omega arith) (λ i. c .before .before .before .shared-slice-known .given i .fits) (c .before .eight-at .ensures) refl t
 
 returns-4 : tie.Need-returns-4
 returns-4 c t = absurd (true-false t refl)

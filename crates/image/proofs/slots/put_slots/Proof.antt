@@ -5,13 +5,17 @@ use mathlib.Core.Path.{_≡_, refl, ap}
 use Prim.Native.Nat.{_-_, _*_}
 use native.Mathlib.Omega.{arith}
 use lib.ListN.{length, length-drop}
+use Rattle.line.specs.declared.Slot.{Slot}
+use Rattle.line.specs.Slots.{empty}
 use Rattle.card.proofs.Parts.{part-all}
+use Rattle.image.specs.Image.{slotBytes}
+use Rattle.image.proofs.ReadsBack.{length-slot}
 use Rattle.image.proofs.Filling.{Put, put-start, put-on, put-end}
 use Rattle.image.proofs.slots.put_slots.Statement.{statement}
 use Rattle.image.proofs.slots.put_slots.Tie as tie
 
 abbrev Inv-loop : tie.InvT-loop
-Inv-loop out₀ slots k₀ out k = Put 16 out₀ slots out k
+Inv-loop out₀ slots k₀ out k = Put 9 (λ (s : Slot). slotBytes (s .held)) 16 out₀ slots out k
 
 abbrev μ-loop : tie.MeasureT-loop
 μ-loop out₀ slots k₀ out k = 16 - k
@@ -19,7 +23,7 @@ abbrev μ-loop : tie.MeasureT-loop
 loop-holds : tie.Need-loop-holds Inv-loop μ-loop
 loop-holds c =
     let h : length (c .before .args .t2) ≡ 16 = search needs in
-    put-start 16 _ h (omega arith)
+    put-start _ h (omega arith)
 
 put-slot-requires : tie.Need-put-slot-requires Inv-loop μ-loop
 put-slot-requires c κs =
@@ -30,7 +34,7 @@ loop-again : tie.Need-loop-again Inv-loop μ-loop
 loop-again c =
     let p = c .before .before .put-slot in
     let q = c .before .before .before .before .before .before .loop in
-    put-on (q .inv) (omega arith) (p .last .0) (p .ensures) refl (same-len-mid (9 * q .k) (length (q .out) - 9 * q .k) (q .out) (p .last .0) (p .kept .0))
+    put-on (q .inv) (omega arith) empty (λ s. length-slot (s .held)) (p .last .0) (p .ensures) refl (same-len-mid (9 * q .k) (length (q .out) - 9 * q .k) (q .out) (p .last .0) (p .kept .0))
 
 pub put-slots-spec : {M : Type 1} → statement M
 put-slots-spec =

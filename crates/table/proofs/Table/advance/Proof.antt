@@ -1,6 +1,6 @@
 -- `Table::advance` meets its contract: the loop cites the laws of `Ticking`.
 use Prim.Native.Nat.{_-_}
-use mathlib.Core.Path.{refl, _∙_}
+use mathlib.Core.Path.{_∙_}
 use lib.ListN.{length-map}
 use borrow.Author.Needs.{needs}
 use Rattle.table.specs.Words.{slotOf}
@@ -15,13 +15,13 @@ abbrev μ-loop : tie.MeasureT-loop
 μ-loop w self next₀ i₀ next i = 16 - i
 
 loop-holds : tie.Need-loop-holds Inv-loop μ-loop
-loop-holds c = tick-start _ (simp length-map at (c .good .0 .1 .1 .1 .0 .1 .0 .1))
+loop-holds c = tick-start _ (simp length-map at (c .before .good .0 .1 .1 .1 .0 .1 .0 .1)) (c .counting .ensures)
 
 returns : tie.Need-returns Inv-loop μ-loop
 returns c =
     let v = c .before .before .before in
     let at = v .before .before in
-    let a = at .before .before .args in
+    let a = at .before .before .before .args in
     c .refused .ensures
     ∙ advance-short (a .t1) (a .w) (tick-short (at .before .loop .inv) _ (at .loop-test .taken) (v .served .ensures) (c .before .before .short .ensures) (c .before .if1 .taken))
 
@@ -34,11 +34,11 @@ loop-again c =
 returns-2 : tie.Need-returns-2 Inv-loop μ-loop
 returns-2 c =
     let at = c .before in
-    let a = at .before .args in
-    advance-fine (a .t1) (a .w) (tick-end (at .loop .inv) (c .loop-test .left)) refl
+    let a = at .before .before .args in
+    advance-fine (a .t1) (a .w) (tick-end (at .loop .inv) (c .loop-test .left))
 
 pub advance-spec : {M : Type 1} → statement M
 advance-spec =
     tie.close
-    (tie.spec Inv-loop μ-loop loop-holds (λ c. search needs) (λ c. search needs) (λ c κs. search needs) (λ c κs. search needs) (λ c κs. search needs)
+    (tie.spec Inv-loop μ-loop (λ c κs. search needs) loop-holds (λ c. search needs) (λ c. search needs) (λ c κs. search needs) (λ c κs. search needs) (λ c κs. search needs)
     returns (λ c κs. search needs) (λ c. search needs) (λ c. search needs) (λ c. search needs) (λ c. search needs) loop-again (λ c. search needs) returns-2)

@@ -1,0 +1,41 @@
+-- `put_image`: the slots go behind the version and the clock, and the counts behind the slots.
+use borrow.Author.Needs.{needs}
+use mathlib.Core.Path.{_≡_, refl}
+use mathlib.Core.List.{_∷_, _++_}
+use native.Mathlib.Omega.{arith}
+use lib.ListN.{length, length-append, length-map}
+use Rattle.card.specs.Bytes.{le}
+use Rattle.card.proofs.Parts.{put-at}
+use Rattle.image.specs.Image.{version, slotsBytes, countsBytes, imageOf}
+use Rattle.image.proofs.ReadsBack.{length-slots, length-counts}
+use Rattle.image.proofs.put_image.Statement.{statement}
+use Rattle.image.proofs.put_image.Tie as tie
+
+returns : tie.Need-returns
+unfolding imageOf
+returns c =
+    let e = c .before .before in
+    let k = e .before .before .before .before in
+    let s = k .before .before .before .before in
+    let n = s .before .before .before .before in
+    let b = n .before .before .before .before .before in
+    let a = b .args in
+    let front = version ∷ le 8 (a .t .clock) in
+    let slots = slotsBytes (a .t .slots) in
+    let counts = countsBytes (a .t .had) in
+    let h : length (a .t .slots) ≡ 16 = simp length-map at (b .good .0 .1 .1 .1 .0 .1 .0 .1) in
+    let g : length (a .t .had) ≡ 16 = simp length-map at (b .good .0 .1 .1 .1 .1 .0 .1 .0 .1) in
+    let ls : length slots ≡ 144 = omega (arith, length-slots (a .t .slots)) in
+    let lc : length counts ≡ 128 = omega (arith, length-counts (a .t .had)) in
+    put-at (a .out .now) _ (front ++ slots ++ counts) (le 8 (a .t .idle)) (e .put-eight .last .0) 281 8
+    (put-at (a .out .now) _ (front ++ slots) counts (k .put-counts .last .0) 153 128
+    (put-at (a .out .now) (n .put-nine .last .0) front slots (s .put-slots .last .0) 9 144 (n .put-nine .ensures) refl ls (s .put-slots .ensures))
+    (omega arith) lc (k .put-counts .ensures))
+    (omega (arith, length-append slots counts)) refl (e .put-eight .ensures)
+
+pub put-image-spec : {M : Type 1} → statement M
+put-image-spec =
+    tie.close
+    (tie.spec (λ c κs. search needs) (λ c. search needs) (λ c. search needs) (λ c. search needs) (λ c κs. search needs)
+    (λ c. search needs) (λ c. search needs) (λ c. search needs) (λ c κs. search needs)
+    (λ c. search needs) (λ c. search needs) (λ c. search needs) (λ c κs. search needs) (λ c. search needs) returns)
