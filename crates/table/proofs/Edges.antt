@@ -109,10 +109,14 @@ counts =
     ∷ tallying ((2 ^ 64 - 1) ∷ []) 1 (refused 4 0)
     ∷ []
 
--- R18, R24: waiting lines before the counts, unsound lines before them too, and the counts before a period that would be shortened; beside each the first is mended
+-- R18, R24: the clock, no empty slot, waiting and unsound lines before the counts, and these before a period that would be shortened; beside each the first is mended
 abbrev countOrders : List Case
 countOrders =
-    row (tallied (9 ∷ []) 0 (tableOf 5 (running 1 8 0 1 ∷ waiting 1 8 3 ∷ []))) (everyPeriod 8 1 8) (refused 3 1)
+    row (tallied ((2 ^ 48) ∷ []) 0 (tableOf (2 ^ 48 - 65536 + 1) [])) (everyPeriod 8 1 8) (refused 1 0)
+    ∷ row (tallied ((2 ^ 48) ∷ []) 0 (tableOf (2 ^ 48 - 65536) [])) (everyPeriod 8 1 8) (refused 4 0)
+    ∷ row (tallied (9 ∷ []) 0 (tableOf 5 (replicate 16 (running 1 64 0 1)))) (everyPeriod 64 1 64) (refused 2 0)
+    ∷ row (tallied (9 ∷ []) 0 (tableOf 5 (replicate 15 (running 1 64 0 1)))) (everyPeriod 64 1 64) (refused 4 0)
+    ∷ row (tallied (9 ∷ []) 0 (tableOf 5 (running 1 8 0 1 ∷ waiting 1 8 3 ∷ []))) (everyPeriod 8 1 8) (refused 3 1)
     ∷ row (tallied (9 ∷ []) 0 (tableOf 5 (running 1 8 0 1 ∷ running 9 8 0 0 ∷ []))) (everyPeriod 7 1 8) (refused 4 1)
     ∷ row (tallied (9 ∷ []) 0 (tableOf 5 (running 1 8 0 1 ∷ running 1 8 0 1 ∷ []))) (everyPeriod 7 1 8) (refused 4 0)
     ∷ row (tallied (5 ∷ []) 0 (tableOf 5 (empty ∷ running 1 8 0 1 ∷ []))) (everyPeriod 7 1 8) (refused 5 1)
