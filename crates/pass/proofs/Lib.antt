@@ -1,5 +1,4 @@
--- The laws of the pass: the terms of a demand sum, and the ends one by one.
-pub mod Terms
+-- The laws of the pass: one end, the last end, and the ends one by one.
 pub mod Point
 pub mod LastEnd
 pub mod Passing

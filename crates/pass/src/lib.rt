@@ -1,11 +1,10 @@
 // The pass over the running lines' ends, counted from the clock: one demand sum at each end gives refusal 10 (R30) or the start (R14).
 ghost use mathlib.Core.Path.{_≡_};
-ghost use Prim.Native.Nat.{ℕ, _≤_, _<_, min, max};
+ghost use Prim.Native.Nat.{_≤_, min, max};
 ghost use lib.Dec.{leb};
-ghost use lib.ListN.{getD};
 ghost use Rattle.line.specs.Streams.{stream, due, endsBefore};
 ghost use Rattle.line.specs.Ends.{bound};
-ghost use Rattle.sums.specs.Lines.{along, sumOf, linesOf, most, Fit, Packed};
+ghost use Rattle.sums.specs.Lines.{linesOf, Fit, Packed};
 ghost use Rattle.pass.specs.Pass.{demandOf, greatestEnd, passBy, passIn, notPassed, passedIn, FitNew};
 
 // R30, R14: whether an end was short, and if none was, the start that the ends leave.
@@ -14,30 +13,19 @@ pub struct Pass {
     pub start: u32,
 }
 
-// R10: one line's demand d ticks after the clock, from its first end on; its ends come a gap apart
+// R10: one line's demand d ticks after the clock; its ends come a gap apart
 fn demand_one(end: u32, remaining: u32, need: u32, gap: u32, d: u32) -> u32
-    requires { ⌜ Fit (stream end remaining need gap) × (end ≤ d) × (d ≤ 65535) ⌝ }
+    requires { ⌜ Fit (stream end remaining need gap) × (d ≤ 65535) ⌝ }
     ensures { λ r. ⌜ (r ≡ due end remaining need gap d) × (r ≤ 131071) ⌝ }
 {
-    remaining + need * ((d - end) / gap)
-}
-
-// the first `count` terms, added up
-fn add(terms: &[u32; sums::MOST], count: usize) -> u32
-    requires { ⌜ (count ≤ most) × ((k : ℕ) → k < count → getD (now terms) k 0 ≤ 131071) ⌝ }
-    ensures { λ r. ⌜ r ≡ sumOf (λ x. x) (along (λ k. getD (now (terms .entry)) k 0) 0 count) ⌝ }
-{
-    let mut sum: u32 = 0;
-    let mut i: usize = 0;
-    while i < count {
-        sum = sum + terms[i];
-        i = i + 1;
+    if d < end {
+        0
+    } else {
+        remaining + need * ((d - end) / gap)
     }
-    sum
 }
 
-// R10, R12: the demand of the running lines at d: each line's in an array, 0 before its first end, and their sum. The array stays here, since it would be
-// copied at every end if it were handed on by value.
+// R10, R12: the demand of the running lines at d, added up line by line
 fn demand_sum<'a>(
     ends: &'a [u32],
     remaining: &'a [u32],
@@ -48,18 +36,13 @@ fn demand_sum<'a>(
     requires { ⌜ Packed (now ends) (now remaining) (now needs) (now gaps) × (d ≤ 65535) ⌝ }
     ensures { λ r. ⌜ r ≡ demandOf (linesOf (now (ends .entry)) (now (remaining .entry)) (now (needs .entry)) (now (gaps .entry))) d ⌝ }
 {
-    let mut terms = [0; sums::MOST];
+    let mut sum: u32 = 0;
     let mut i: usize = 0;
-    let count = ends.len();
-    while i < count {
-        let end = ends[i];
-        if end <= d {
-            let x = demand_one(end, remaining[i], needs[i], gaps[i], d);
-            terms[i] = x;
-        }
+    while i < ends.len() {
+        sum = sum + demand_one(ends[i], remaining[i], needs[i], gaps[i], d);
         i = i + 1;
     }
-    add(&terms, count)
+    sum
 }
 
 // R30: no excess of the running lines at d, where `sum` is their demand

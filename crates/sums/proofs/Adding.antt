@@ -1,5 +1,5 @@
 -- Sums over the lines, term by term, and what keeps them small.
-use Prim.Native.Nat.{ℕ, zero, suc, _+_, _-_, _*_, _/_, _≤_, _<_}
+use Prim.Native.Nat.{ℕ, _+_, _-_, _*_, _/_, _≤_, _<_}
 use mathlib.Core.Path.{_≡_, refl, ap, _∙_}
 use mathlib.Core.List.{[]}
 use native.Mathlib.Nat.{le-trans, mul-le-mul}
@@ -15,16 +15,6 @@ use Rattle.sums.proofs.Along.{along-step, along-end, along-all}
 sum-none : {A : Type 0} (f : A → ℕ) → sumOf f [] ≡ 0
 unfolding sumOf
 sum-none f = refl
-
-module _ {A B : Type 0} (f : A → ℕ) (g : B → ℕ) where
-  -- equal terms have equal sums
-  pub sum-same : (a : ℕ → A) (b : ℕ → B) (i n : ℕ) → ((k : ℕ) → i ≤ k → k < i + n → f (a k) ≡ g (b k)) → sumOf f (along a i n) ≡ sumOf g (along b i n)
-  unfolding along sumOf
-  sum-same a b i zero e = refl
-  sum-same a b i (suc n) e =
-      let h = e i (omega arith) (omega arith) in
-      let r = sum-same a b (suc i) n (λ k l m. e k (omega arith) (omega arith)) in
-      omega arith
 
 module _ {A : Type 0} (f : A → ℕ) (a : ℕ → A) where
   sum-step : (i n : ℕ) → i < n → sumOf f (along a i (n - i)) ≡ f (a i) + sumOf f (along a (i + 1) (n - (i + 1)))
