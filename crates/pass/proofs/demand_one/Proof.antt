@@ -16,7 +16,7 @@ add-result c = let x = c .before .args in omega (arith, share-le (x .need) (x .g
 
 returns : tie.Need-returns
 unfolding due
-returns c = (simp (lt-ltb _ _ (c .if1 .taken)), omega arith)
+returns c = let x = c .before .args in (simp (lt-ltb (x .d) (x .end) (omega arith)), omega arith)
 
 returns-2 : tie.Need-returns-2
 unfolding due
