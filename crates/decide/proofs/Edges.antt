@@ -4,7 +4,7 @@ use mathlib.Core.Path.{_≡_, refl}
 use mathlib.Core.List.{List, [], _∷_, map}
 use Rattle.periods.specs.Multiples.{euclid, gcdOf, lcmOf, frameFrom}
 use Rattle.line.specs.Streams.{due, every, endsBefore}
-use Rattle.line.specs.Ends.{bound}
+use Rattle.line.specs.Ends.{bound, greatest, anyOf}
 use Rattle.sums.specs.Lines.{along, sumOf, allOf}
 use Rattle.sums.specs.Weighed.{fitting, weighedFit, weighed}
 use Rattle.pass.specs.Pass.{greatestEnd, endsBy, passOver, passOf}
@@ -49,7 +49,7 @@ decideEdges =
 
 -- R18, R24, R26 to R30, R14: each ground in its order, and what looks at the period and what at the gap
 pub decide-edges : map (λ (e : Edge). decided (e .lines) (e .need) (e .period)) decideEdges ≡ map (λ (e : Edge). e .says) decideEdges
-unfolding euclid gcdOf lcmOf frameFrom due every endsBefore bound sumOf allOf fitting weighedFit weighed greatestEnd endsBy passOver passOf decided decideEdges
+unfolding euclid gcdOf lcmOf frameFrom due every endsBefore bound greatest anyOf sumOf allOf fitting weighedFit weighed greatestEnd endsBy passOver passOf decided decideEdges
 decide-edges = refl
 
 -- slices of one line: all alike, and each of the last four a number short or long
@@ -60,5 +60,5 @@ pub slices-edges : decidedIn (8 ∷ []) (4 ∷ []) (4 ∷ []) (8 ∷ []) (8 ∷ 
     ∷ decidedIn (8 ∷ []) (4 ∷ []) (4 ∷ []) (8 ∷ []) [] 1 8
     ∷ []
     ≡ Start 0 ∷ Refused 4 ∷ Refused 4 ∷ Refused 4 ∷ Refused 4 ∷ []
-unfolding euclid gcdOf lcmOf frameFrom due every endsBefore bound along sumOf allOf fitting weighedFit weighed greatestEnd endsBy passOver passOf decided decidedIn
+unfolding euclid gcdOf lcmOf frameFrom due every endsBefore bound greatest anyOf along sumOf allOf fitting weighedFit weighed greatestEnd endsBy passOver passOf decided decidedIn
 slices-edges = refl

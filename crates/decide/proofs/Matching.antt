@@ -65,7 +65,7 @@ module _ (l : List Slot) where
   -- R30: the pass is short where the lines have an excess at some end
   pub any-lines : (t0 Cn Tn : ℕ) → passIn spaced Cn Tn .short ≡ anyOf (shortAt t0 l) (endsOf t0 (lastEnd t0 l) l)
   any-lines t0 Cn Tn =
-      pass-any (shortBy all) (boundBy Cn Tn last all) 0 ends
+      pass-any (shortBy all) (boundBy Cn Tn last all) ends
       ∙ sym (any-shift (shortAt t0 l) (shortBy all) t0 (λ d. short-by t0 d (demands t0 l (t0 + d)) (all d) (demand-is t0 d)) ends)
       ∙ ap (anyOf (shortAt t0 l)) (sym (ends-lines t0 last l))
       ∙ ap (λ (x : ℕ). anyOf (shortAt t0 l) (endsOf t0 x l)) (sym (last-lines t0 l))
@@ -81,7 +81,7 @@ module _ (l : List Slot) where
       let f : ℕ → ℕ → ℕ = λ La d. bound Cn Tn La d (slack t0 l d) in
       let b = boundBy Cn Tn last all in
       let z : t0 ≡ t0 + 0 = omega arith in
-      ap (λ (x : ℕ). t0 + x) (pass-greatest (shortBy all) b 0 ends k)
+      ap (λ (x : ℕ). t0 + x) (pass-greatest (shortBy all) b ends k)
       ∙ sym
       (greatest-shift (f (t0 + last)) b t0
       (λ r d. ap (λ (s : ℕ). max (t0 + r) (bound Cn Tn (t0 + last) (t0 + d) s)) (slack-is t0 d) ∙ bound-shift Cn Tn last t0 r d (d - all d) h)

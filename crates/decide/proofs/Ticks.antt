@@ -5,17 +5,15 @@ use mathlib.Core.Bool.{Bool}
 use mathlib.Core.List.{List, [], _∷_, _++_, map}
 use mathlib.Core.Option.{Option, none, some}
 use native.Mathlib.Nat.{mod-lt}
-use native.Mathlib.Decide.{decLt}
 use native.Mathlib.Omega.{arith}
-use lib.Dec.{ltb}
-use borrow.Author.Tests.{lt-ltb, le-ltb}
 use Rattle.line.specs.declared.Slot.{Slot}
 use Rattle.line.specs.declared.Stream.{Stream}
 use Rattle.line.specs.Slots.{total}
-use Rattle.line.specs.Streams.{asks, ofStream, byStream, due, endAt, flow, countBefore, every, endsBefore, endsAt}
+use Rattle.line.specs.Streams.{asks, ofStream, byStream, endAt, flow, countBefore, every, endsBefore, endsAt}
 use Rattle.line.specs.Demand.{lastEnd}
 use Rattle.line.specs.Shares.{periodsIn}
 use Rattle.line.specs.Ends.{endsOf, bound, greatest, anyOf}
+use Rattle.line.proofs.Due.{due-shift}
 use Rattle.sums.specs.Lines.{sumOf}
 use Rattle.sums.specs.Weighed.{periodsOf}
 use Rattle.pass.specs.Pass.{dueBy, greatestEnd, lastBy, endsBy}
@@ -38,19 +36,6 @@ module _ (F f : Stream → ℕ) (by : Line → Stream) (e : (s : Stream) → F s
   unfolding total linesIn sumOf
   total-lines [] = refl
   total-lines (s ∷ l) = ap (λ (x : ℕ). byStream 0 F (s .held) + x) (total-lines l) ∙ total-one (asks (s .held)) (linesIn l)
-
-ltb-shift : (t0 d e : ℕ) → ltb (t0 + d) (t0 + e) ≡ ltb d e
-ltb-shift t0 d e =
-    elim (decLt d e) [
-      | yes l ↦ lt-ltb (t0 + d) (t0 + e) (omega arith) ∙ sym (lt-ltb d e l)
-      | no l ↦ le-ltb (t0 + d) (t0 + e) (omega arith) ∙ sym (le-ltb d e (omega arith))
-    ]
-
-due-shift : (t0 e c C P d : ℕ) → due (t0 + e) c C P (t0 + d) ≡ due e c C P d
-unfolding due
-due-shift t0 e c C P d =
-    let z : t0 + d - (t0 + e) ≡ d - e = omega arith in
-    rw (ltb-shift t0 d e, z)
 
 -- R10: a stream's demand, counted from the clock
 pub flow-shift : (t0 d : ℕ) (s : Stream) → flow t0 s (t0 + d) ≡ dueBy d (byGap (lineOf s))

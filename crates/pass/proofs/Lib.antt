@@ -1,5 +1,9 @@
--- The laws of the pass: one end, the last end, and the ends one by one.
+-- The laws of the pass: one end, the last end, and what the pass says.
 pub mod Point
 pub mod LastEnd
 pub mod Passing
+pub mod Standing
+pub mod Taking
+pub mod Loading
+pub mod Order
 pub mod Edges

@@ -1,5 +1,5 @@
--- The pass over the ends, counted from the clock: at each end one demand sum, which tells whether the running lines have excess there and
--- what start the new line may have. The period of a line is here the time from one of its ends to the next.
+-- The pass over the ends, counted from the clock: the demand at each end tells whether the running lines have excess there and what start
+-- the new line may have. The period of a line is here the time from one of its ends to the next.
 use Prim.Native.Nat.{ℕ, _-_, _≤_, max}
 use mathlib.Core.Bool.{Bool, true, false, not}
 use mathlib.Core.List.{List, [], _∷_, _++_, map}
@@ -7,7 +7,7 @@ use lib.Dec.{ltb}
 use Rattle.line.specs.declared.Stream.{Stream}
 use Rattle.line.specs.Slots.{pick}
 use Rattle.line.specs.Streams.{due, endsBefore}
-use Rattle.line.specs.Ends.{bound}
+use Rattle.line.specs.Ends.{bound, greatest, anyOf}
 use Rattle.sums.specs.Lines.{sumOf, linesOf, alike, longest}
 use Rattle.sums.specs.Weighed.{fitting}
 use Rattle.pass.specs.declared.Pass.{Pass}
@@ -35,11 +35,6 @@ unfoldable pub endsBy : (last : ℕ) → List Stream → List ℕ
 endsBy last [] = []
 endsBy last (x ∷ l) = endsBefore (x .end) (x .period) last ++ endsBy last l
 
--- from r on: short at the first end that is short, else the greatest of r and of f at each end
-unfoldable pub passOver : (ℕ → Bool) → (ℕ → ℕ) → ℕ → List ℕ → Pass
-passOver short f r [] = record { short = false; start = r }
-passOver short f r (d ∷ ds) = pick (short d) (record { short = true; start = r }) (passOver short f (max r (f d)) ds)
-
 -- R30: with `all d` for the demand at d: more is demanded by d than time has gone by
 abbrev pub shortBy : (ℕ → ℕ) → ℕ → Bool
 shortBy all d = ltb d (all d)
@@ -48,17 +43,21 @@ shortBy all d = ltb d (all d)
 abbrev pub boundBy : (Cn Tn last : ℕ) → (ℕ → ℕ) → ℕ → ℕ
 boundBy Cn Tn last all d = bound Cn Tn last d (d - all d)
 
--- R30, R14: a pass with `all d` for the demand at d, from the start r
-abbrev pub passBy : (Cn Tn last : ℕ) → (ℕ → ℕ) → ℕ → List ℕ → Pass
-passBy Cn Tn last all r ds = passOver (shortBy all) (boundBy Cn Tn last all) r ds
-
--- R30, R14: the pass over all ends of the lines that are before the last end, from the clock on
-abbrev pub passIn : List Stream → (Cn Tn : ℕ) → Pass
-passIn l Cn Tn = passBy Cn Tn (lastBy l) (demandOf l) 0 (endsBy (lastBy l) l)
-
--- short at the clock: what is said of lines that are not fit, and of a need of 0
+-- short at the clock: what is said where an end is short, of lines that are not fit, and of a need of 0
 abbrev pub notPassed : Pass
 notPassed = record { short = true; start = 0 }
+
+-- R30, R14: short where one of the ends is, else the greatest of f at each end. The order of the ends is not looked at.
+unfoldable pub passOver : (ℕ → Bool) → (ℕ → ℕ) → List ℕ → Pass
+passOver short f ds = pick (anyOf short ds) notPassed (record { short = false; start = greatest f 0 ds })
+
+-- R30, R14: the pass over the ends of the lines before `last`, from the clock on
+abbrev pub passTo : (last : ℕ) → List Stream → (Cn Tn : ℕ) → Pass
+passTo last l Cn Tn = passOver (shortBy (demandOf l)) (boundBy Cn Tn last (demandOf l)) (endsBy last l)
+
+-- R15: and over those before the last end
+abbrev pub passIn : List Stream → (Cn Tn : ℕ) → Pass
+passIn l Cn Tn = passTo (lastBy l) l Cn Tn
 
 -- R30, R14: the pass of lines that are fit, with a need of at least 1
 unfoldable pub passOf : List Stream → (Cn Tn : ℕ) → Pass

@@ -1,48 +1,17 @@
-// The pass over the running lines' ends, counted from the clock: one demand sum at each end gives refusal 10 (R30) or the start (R14).
+// The pass over the running lines' ends in time order, counted from the clock: the demand at each end gives refusal 10 (R30) or the start (R14).
 ghost use mathlib.Core.Path.{_≡_};
 ghost use Prim.Native.Nat.{_≤_, min, max};
 ghost use lib.Dec.{leb};
-ghost use Rattle.line.specs.Streams.{stream, due, endsBefore};
+ghost use lib.ListN.{length};
 ghost use Rattle.line.specs.Ends.{bound};
-ghost use Rattle.sums.specs.Lines.{linesOf, Fit, Packed};
-ghost use Rattle.pass.specs.Pass.{demandOf, greatestEnd, passBy, passIn, notPassed, passedIn, FitNew};
+ghost use Rattle.sums.specs.Lines.{linesOf, Packed};
+ghost use Rattle.pass.specs.Pass.{greatestEnd, notPassed, passTo, passIn, passedIn, FitNew};
+ghost use Rattle.pass.specs.Order.{nth, Copied, Soonest, Moved, addedAt, Loaded, linesFrom, FitFrom};
 
 // R30, R14: whether an end was short, and if none was, the start that the ends leave.
 pub struct Pass {
     pub short: bool,
     pub start: u32,
-}
-
-// R10: one line's demand d ticks after the clock; its ends come a gap apart
-fn demand_one(end: u32, remaining: u32, need: u32, gap: u32, d: u32) -> u32
-    requires { ⌜ Fit (stream end remaining need gap) × (d ≤ 65535) ⌝ }
-    ensures { λ r. ⌜ (r ≡ due end remaining need gap d) × (r ≤ 131071) ⌝ }
-{
-    if d < end {
-        0
-    } else {
-        remaining + need * ((d - end) / gap)
-    }
-}
-
-// R10, R12: the demand of the running lines at d, added up line by line
-fn demand_sum<'a>(
-    ends: &'a [u32],
-    remaining: &'a [u32],
-    needs: &'a [u32],
-    gaps: &'a [u32],
-    d: u32,
-) -> u32
-    requires { ⌜ Packed (now ends) (now remaining) (now needs) (now gaps) × (d ≤ 65535) ⌝ }
-    ensures { λ r. ⌜ r ≡ demandOf (linesOf (now (ends .entry)) (now (remaining .entry)) (now (needs .entry)) (now (gaps .entry))) d ⌝ }
-{
-    let mut sum: u32 = 0;
-    let mut i: usize = 0;
-    while i < ends.len() {
-        sum = sum + demand_one(ends[i], remaining[i], needs[i], gaps[i], d);
-        i = i + 1;
-    }
-    sum
 }
 
 // R30: no excess of the running lines at d, where `sum` is their demand
@@ -101,34 +70,105 @@ struct New {
     last: u32,
 }
 
-// R30, R14: the ends from `e` on, every p ticks; at each one demand sum, for the refusal and for the bound on the start.
-fn pass_line<'a>(
+// short at the clock
+fn not_passed() -> Pass
+    ensures { λ r. ⌜ r ≡ notPassed ⌝ }
+{
+    Pass {
+        short: true,
+        start: 0,
+    }
+}
+
+// R9, R10: each line at its first end, where what remains of it falls due, in arrays of their own; and the soonest of these ends, or `last`.
+fn load<'a>(
     ends: &'a [u32],
     remaining: &'a [u32],
+    next: &mut [u32],
+    owed: &mut [u32],
+    last: u32,
+) -> u32
+    requires { ⌜ (length (now remaining) ≡ length (now ends)) × (length (now ends) ≤ length (now next)) × (length (now ends) ≤ length (now owed)) ⌝ }
+    ensures { λ r. ⌜ Copied (now (ends .entry)) (now (next .exit)) × Copied (now (remaining .entry)) (now (owed .exit)) ⌝ }
+    ensures { λ r. ⌜ Soonest (nth (now (ends .entry))) (length (now (ends .entry))) last r ⌝ }
+{
+    let mut first = last;
+    let mut i: usize = 0;
+    while i < ends.len() {
+        next[i] = ends[i];
+        owed[i] = remaining[i];
+        first = lesser(first, ends[i]);
+        i = i + 1;
+    }
+    first
+}
+
+// R12: what a tick brings: the demand that falls due at it, and the tick that comes next.
+struct Taken {
+    added: u32,
+    soonest: u32,
+}
+
+// R9, R10: takes every line that ends at d, lowest slot first. What it owes falls due, and it moves on to its next end, where its need falls due.
+fn take<'a>(
+    next: &mut [u32],
+    owed: &mut [u32],
+    needs: &'a [u32],
+    gaps: &'a [u32],
+    d: u32,
+    last: u32,
+) -> Taken
+    requires { ⌜ Loaded (now next) (now owed) (now needs) (now gaps) × (d ≤ 65536) ⌝ }
+    ensures { λ r. ⌜ Moved (now (next .entry)) (now (owed .entry)) (now (needs .entry)) (now (gaps .entry)) (length (now (gaps .entry))) d (now (next .exit)) (now (owed .exit)) ⌝ }
+    ensures { λ r. ⌜ (r .added ≡ addedAt (now (next .entry)) (now (owed .entry)) (length (now (gaps .entry))) d) × (r .added ≤ 1048576) ⌝ }
+    ensures { λ r. ⌜ Soonest (nth (now (next .exit))) (length (now (gaps .entry))) last (r .soonest) ⌝ }
+{
+    let mut added: u32 = 0;
+    let mut soonest = last;
+    let mut i: usize = 0;
+    while i < gaps.len() {
+        let mut end = next[i];
+        if end == d {
+            added = added + owed[i];
+            owed[i] = needs[i];
+            end = d + gaps[i];
+            next[i] = end;
+        }
+        soonest = lesser(soonest, end);
+        i = i + 1;
+    }
+    Taken {
+        added: added,
+        soonest: soonest,
+    }
+}
+
+// R30, R14: the ends before the last one in time order, each tick once, with the demand carried along.
+fn in_order<'a>(
+    next: &mut [u32],
+    owed: &mut [u32],
     needs: &'a [u32],
     gaps: &'a [u32],
     new: New,
-    e: u32,
-    p: u32,
-    best: u32,
+    first: u32,
 ) -> Pass
-    requires { ⌜ Packed (now ends) (now remaining) (now needs) (now gaps) × FitNew new × (1 ≤ p) × (p ≤ 65536) × (e ≤ 65536) ⌝ }
-    ensures { λ r. ⌜ r ≡ passBy (new .need) (new .period) (new .last) (demandOf (linesOf (now (ends .entry)) (now (remaining .entry)) (now (needs .entry)) (now (gaps .entry)))) best (endsBefore e p (new .last)) ⌝ }
+    requires { ⌜ Loaded (now next) (now owed) (now needs) (now gaps) × FitFrom (now next) (now owed) (now needs) (now gaps) × FitNew new ⌝ }
+    requires { ⌜ Soonest (nth (now next)) (length (now gaps)) (new .last) first ⌝ }
+    ensures { λ r. ⌜ r ≡ passTo (new .last) (linesFrom (now (next .entry)) (now (owed .entry)) (now (needs .entry)) (now (gaps .entry))) (new .need) (new .period) ⌝ }
 {
-    let mut start = best;
-    let mut d = e;
     let last = new.last;
+    let mut sum: u32 = 0;
+    let mut start: u32 = 0;
+    let mut d = first;
     while d < last {
-        let sum = demand_sum(ends, remaining, needs, gaps, d);
+        let taken = take(next, owed, needs, gaps, d, last);
+        sum = sum + taken.added;
         if !passes(sum, d) {
-            return Pass {
-                short: true,
-                start: start,
-            };
+            return not_passed();
         }
         let b = bound_at(new.need, new.period, last, d, d - sum);
         start = greater(start, b);
-        d = d + p;
+        d = taken.soonest;
     }
     Pass {
         short: false,
@@ -136,7 +176,7 @@ fn pass_line<'a>(
     }
 }
 
-// R30, R14: the ends of each running line before the last end, lowest slot first.
+// R30, R14: the pass over lines that are fit.
 fn pass_all<'a>(
     ends: &'a [u32],
     remaining: &'a [u32],
@@ -154,32 +194,10 @@ fn pass_all<'a>(
         period: period as u32,
         last: last,
     };
-    let mut start: u32 = 0;
-    let mut i: usize = 0;
-    while i < ends.len() {
-        let e = ends[i];
-        let p = gaps[i];
-        let r = pass_line(ends, remaining, needs, gaps, new, e, p, start);
-        if r.short {
-            return r;
-        }
-        start = r.start;
-        i = i + 1;
-    }
-    Pass {
-        short: false,
-        start: start,
-    }
-}
-
-// short at the clock
-fn not_passed() -> Pass
-    ensures { λ r. ⌜ r ≡ notPassed ⌝ }
-{
-    Pass {
-        short: true,
-        start: 0,
-    }
+    let mut next: [u32; sums::MOST] = [0; sums::MOST];
+    let mut owed: [u32; sums::MOST] = [0; sums::MOST];
+    let first = load(ends, remaining, &mut next, &mut owed, last);
+    in_order(&mut next, &mut owed, needs, gaps, new, first)
 }
 
 // R30, R14: the pass over the ends. Slices that differ in length, lines that are not fit, and a need of 0, count as short at the clock.

@@ -4,7 +4,7 @@ use mathlib.Core.Logic.{_⊎_, inl, inr, ⊎-elim}
 use mathlib.Core.List.{List, [], _∷_}
 use mathlib.Core.Option.{Option, none, some}
 use Prim.Native.Nat.{ℕ, zero, suc, _+_, _*_, _≤_, _<_}
-use native.Mathlib.Nat.{not-suc-le-zero, suc-mul, le-div-iff-mul-le, le-refl}
+use native.Mathlib.Nat.{not-suc-le-zero, le-refl}
 use native.Mathlib.Decide.{le-ind}
 use native.Mathlib.Omega.{arith}
 use Rattle.periods.specs.Multiples.{All}
@@ -14,10 +14,11 @@ use Rattle.line.specs.declared.Stream.{Stream}
 use Rattle.line.specs.declared.Slot.{Slot}
 use Rattle.line.specs.Slots.{at, Each, total}
 use Rattle.line.specs.Sound.{Sound}
-use Rattle.line.specs.Streams.{asks, ofStream, byStream, endAt, flow, countBefore, every, endsBefore, endsAt, EndAt, Proper}
+use Rattle.line.specs.Streams.{asks, ofStream, byStream, endAt, flow, endsAt, EndAt, Proper}
 use Rattle.line.specs.Demand.{demand, demands}
 use Rattle.line.specs.Ends.{endsOf}
 use Rattle.line.proofs.Streams.{sound-asks}
+use Rattle.line.proofs.Ends.{before-all, all-before}
 use Rattle.theory.specs.Given.{IsEnd, AnyEnd}
 use Rattle.theory.proofs.Sums.{total-le}
 use Rattle.theory.proofs.Flow.{flow-mono, flow-step}
@@ -84,47 +85,13 @@ any-late t0 l d s e = end-late t0 (at l (e .0)) d (s (e .0) (e .1)) (e .2)
 
 -- ---- the list of ends
 
--- what is before last is counted, and nothing else
-count-lt : (k e P last : ℕ) → 1 ≤ P → k < countBefore e P last → e + k * P < last
-count-lt k e P last p h =
-    let m = suc-mul k P in
-    let w = le-div-iff-mul-le p .0 h in
-    omega arith
-
-lt-count : (k e P last : ℕ) → 1 ≤ P → e + k * P < last → k < countBefore e P last
-lt-count k e P last p h =
-    let m = suc-mul k P in
-    le-div-iff-mul-le p .1 (omega arith)
-
-every-all : (Q : ℕ → Type 0) (n e P : ℕ) → ((k : ℕ) → k < n → Q (e + k * P)) → All Q (every n e P)
-unfolding every
-every-all Q zero e P f = tt
-every-all Q (suc n) e P f =
-    let z : e + 0 * P ≡ e = omega arith in
-    (rw z at (f 0 (omega arith)), every-all Q n (e + P) P (λ k b. let m = suc-mul k P in let y : e + suc k * P ≡ e + P + k * P = omega arith in rw y at (f (suc k) (omega arith))))
-
-all-every : (Q : ℕ → Type 0) (n e P k : ℕ) → k < n → All Q (every n e P) → Q (e + k * P)
-unfolding every
-all-every Q zero e P k b a = absurd (not-suc-le-zero b)
-all-every Q (suc n) e P zero b a = let z : e + 0 * P ≡ e = omega arith in rw z (a .0)
-all-every Q (suc n) e P (suc k) b a =
-    let m = suc-mul k P in
-    let y : e + suc k * P ≡ e + P + k * P = omega arith in
-    rw y (all-every Q n (e + P) P k (omega arith) (a .1))
-
 -- what holds of every end before last holds of the stream's list of them
 ends-listed : (Q : ℕ → Type 0) (k last : ℕ) (s : Stream) → Proper s → ((d : ℕ) → EndAt k s d → d < last → Q d) → All Q (endsAt k last s)
-unfolding endsBefore
-ends-listed Q k last s p f =
-    every-all Q (countBefore (endAt k s) (s .period) last) (endAt k s) (s .period)
-    (λ n b. f (endAt k s + n * s .period) (n, refl) (count-lt n (endAt k s) (s .period) last (omega arith) b))
+ends-listed Q k last s p f = before-all Q (endAt k s) (s .period) last (omega arith) (λ n b. f (endAt k s + n * s .period) (n, refl) b)
 
 -- and the other way round
 listed-ends : (Q : ℕ → Type 0) (k last : ℕ) (s : Stream) (d : ℕ) → Proper s → All Q (endsAt k last s) → EndAt k s d → d < last → Q d
-unfolding endsBefore
-listed-ends Q k last s d p a e b =
-    rw (e .1) (all-every Q (countBefore (endAt k s) (s .period) last) (endAt k s) (s .period) (e .0)
-    (lt-count (e .0) (endAt k s) (s .period) last (omega arith) (omega (arith, e .1))) a)
+listed-ends Q k last s d p a e b = rw (e .1) (all-before Q (endAt k s) (s .period) last (omega arith) a (e .0) (omega (arith, e .1)))
 
 ends-in : (Q : ℕ → Type 0) (t0 last : ℕ) (h : Held) → Sound h → ((d : ℕ) → IsEnd t0 h d → d < last → Q d) → All Q (byStream [] (endsAt t0 last) h)
 ends-in Q t0 last h s f = go (asks h) (sound-asks h s) f

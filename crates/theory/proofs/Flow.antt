@@ -9,8 +9,9 @@ use borrow.Author.Tests.{lt-ltb, le-ltb}
 use Rattle.periods.proofs.Whole.{whole}
 use Rattle.line.specs.declared.Stream.{Stream}
 use Rattle.line.specs.Streams.{stream, ofStream, due, endAt, again, flow, EndAt, shareOf, claimOf, fullOf, Measures, Proper, paid, nearer, onward, Slower}
+use Rattle.line.proofs.Due.{due-before, due-after}
 use Rattle.theory.specs.Fine.{Closes}
-use Rattle.theory.proofs.Numbers.{split, due-before, due-after, due-mono, due-longer, due-renew, due-pay, due-share, due-late}
+use Rattle.theory.proofs.Numbers.{split, due-mono, due-longer, due-renew, due-pay, due-share, due-late}
 
 -- ---- from one tick to a later one
 

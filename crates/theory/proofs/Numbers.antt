@@ -1,12 +1,12 @@
--- Laws of `due`, for any end, period and clock: everything else about demand is cited from here.
+-- Laws of `due`, for any end, period and clock, beside those of `line`: everything else about demand is cited from here.
 use mathlib.Core.Path.{_≡_, ap}
 use Prim.Native.Nat.{ℕ, suc, _+_, _*_, _-_, _/_, _∣_, _≤_, _<_}
 use native.Mathlib.Nat.{div-eq-of-lt, div-eq-sub-div, mul-le-mul-left, le-trans}
 use native.Mathlib.Decide.{decLe}
 use native.Mathlib.Omega.{arith}
-use borrow.Author.Tests.{lt-ltb, le-ltb}
 use Rattle.periods.proofs.Whole.{whole, div-mono, div-anti, share-of-time}
 use Rattle.line.specs.Streams.{due}
+use Rattle.line.proofs.Due.{due-before, due-after}
 
 by-le : {G : Type 0} (a b : ℕ) → Dec (a ≤ b) → (a ≤ b → G) → (b < a → G) → G
 by-le a b (yes h) f g = f h
@@ -15,16 +15,6 @@ by-le a b (no n) f g = g (omega arith)
 -- two cases, by the order of two numbers
 pub split : {G : Type 0} (a b : ℕ) → (a ≤ b → G) → (b < a → G) → G
 split a b f g = by-le a b (decLe a b) f g
-
--- R10: nothing is due before e
-pub due-before : (e x C P t : ℕ) → t < e → due e x C P t ≡ 0
-unfolding due
-due-before e x C P t h = rw (lt-ltb t e h)
-
--- R10: from e on x, and C more for each whole period since
-pub due-after : (e x C P t : ℕ) → e ≤ t → due e x C P t ≡ x + C * ((t - e) / P)
-unfolding due
-due-after e x C P t h = rw (le-ltb t e h)
 
 -- demand never falls
 pub due-mono : (e x C P t u : ℕ) → 1 ≤ P → t ≤ u → due e x C P t ≤ due e x C P u

@@ -11,8 +11,9 @@ use Rattle.line.specs.Demand.{demand, endOf}
 use Rattle.line.specs.Shares.{Divides, share}
 use Rattle.line.specs.Tick.{Owed, toEnd, served, passed}
 use Rattle.line.proofs.Streams.{sound-asks, asks-sound, asks-served, asks-passed}
+use Rattle.line.proofs.Due.{due-after}
 use Rattle.theory.specs.Fine.{Closes, Kept}
-use Rattle.theory.proofs.Numbers.{split, due-after}
+use Rattle.theory.proofs.Numbers.{split}
 use Rattle.theory.proofs.Flow.{flow-before, flow-share, flow-paid, flow-unpaid, flow-onward, onward-is}
 
 -- a tick of the clock changes no demand

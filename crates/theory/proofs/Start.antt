@@ -1,18 +1,19 @@
 -- The least smooth start is the greatest of the bounds that the ends before the last end put on it: each is necessary, together they are enough.
 use mathlib.Core.Path.{_≡_, sym, ap, _∙_}
 use mathlib.Core.Logic.{⊎-elim}
-use mathlib.Core.List.{List, [], _∷_}
-use Prim.Native.Nat.{ℕ, _+_, _*_, _-_, _/_, _%_, _≤_, _<_, min, max}
+use mathlib.Core.List.{List}
+use Prim.Native.Nat.{ℕ, _+_, _*_, _-_, _/_, _%_, _≤_, _<_, min}
 use native.Mathlib.Nat.{mul-div-le, div-add-mod, mod-lt, mul-add, mul-comm, mul-le-mul-left, mul-le-mul-right, le-dest, le-trans, mul-pos, le-div-iff-mul-le, le-refl, le-antisymm, zero-div, mul-zero}
 use native.Mathlib.Decide.{decLt}
 use native.Mathlib.Omega.{arith}
-use Rattle.periods.specs.Multiples.{All}
 use Rattle.periods.proofs.Whole.{share-le}
 use Rattle.line.specs.declared.Slot.{Slot}
 use Rattle.line.specs.Demand.{newDemand, demands, Smooth, Least, lastEnd}
 use Rattle.line.specs.Ends.{slack, bound, greatest, start, endsOf}
+use Rattle.line.proofs.Due.{due-before, due-after}
+use Rattle.line.proofs.Ends.{greatest-from, greatest-above, greatest-least}
 use Rattle.theory.specs.Given.{Given, Alone, AnyEnd}
-use Rattle.theory.proofs.Numbers.{split, due-before, due-after}
+use Rattle.theory.proofs.Numbers.{split}
 use Rattle.theory.proofs.Tail.{last-late, no-excess-from-last-end}
 use Rattle.theory.proofs.Ends.{latest, demands-mono, any-late, ends-all, all-ends}
 
@@ -120,21 +121,6 @@ bounds-make-smooth F t0 l Cn Tn r g a late b = record {
 
 -- ---- the least smooth start
 
-greatest-from : (f : ℕ → ℕ) (r : ℕ) (ds : List ℕ) → r ≤ greatest f r ds
-unfolding greatest
-greatest-from f r [] = le-refl r
-greatest-from f r (d ∷ ds) = omega (arith, greatest-from f (max r (f d)) ds)
-
-greatest-all : (f : ℕ → ℕ) (r : ℕ) (ds : List ℕ) → All (λ d. f d ≤ greatest f r ds) ds
-unfolding greatest
-greatest-all f r [] = tt
-greatest-all f r (d ∷ ds) = (omega (arith, greatest-from f (max r (f d)) ds), greatest-all f (max r (f d)) ds)
-
-greatest-least : (f : ℕ → ℕ) (r u : ℕ) (ds : List ℕ) → r ≤ u → All (λ d. f d ≤ u) ds → greatest f r ds ≤ u
-unfolding greatest
-greatest-least f r u [] h a = h
-greatest-least f r u (d ∷ ds) h a = greatest-least f (max r (f d)) u ds (omega (arith, a .0)) (a .1)
-
 -- R14: the least smooth start is the greatest of the clock and the bounds of the ends before the last end
 pub start-least : (F t0 : ℕ) (l : List Slot) (Cn Tn : ℕ) → Given F l Cn Tn → Alone t0 l → Least t0 l (newDemand Cn Tn) (start t0 l Cn Tn)
 unfolding start
@@ -144,7 +130,7 @@ start-least F t0 l Cn Tn g a =
     let ds = endsOf t0 last l in
     record {
       smooth = bounds-make-smooth F t0 l Cn Tn (greatest f t0 ds) g a (greatest-from f t0 ds)
-          (all-ends (λ d. f d ≤ greatest f t0 ds) t0 last l (g .sound) (greatest-all f t0 ds));
+          (all-ends (λ d. f d ≤ greatest f t0 ds) t0 last l (g .sound) (greatest-above f t0 _ ds (le-refl _)));
       least = λ u sm. greatest-least f t0 u ds (sm .from-clock)
           (ends-all (λ d. f d ≤ u) t0 last l (g .sound) (λ d e b. smooth-keeps-bounds F t0 l Cn Tn u g a sm d (omega (arith, any-late t0 l d (g .sound) e)) b));
     }

@@ -13,6 +13,7 @@ use Rattle.line.specs.Sound.{Sound}
 use Rattle.line.specs.Demand.{demands, excess, lastEnd}
 use Rattle.line.specs.Ends.{anyOf, shortAt, endsOf}
 use Rattle.line.proofs.Search.{true-false}
+use Rattle.line.proofs.Ends.{any-none}
 use Rattle.theory.specs.Given.{Given, Alone, AnyEnd}
 use Rattle.theory.proofs.Numbers.{split}
 use Rattle.theory.proofs.Tail.{no-excess-from-last-end}
@@ -44,15 +45,6 @@ alone-by-ends F t0 l Cn Tn g f t h =
     omega (arith, f (w .0) (w .3) (w .2), w .4 .above))
 
 -- ---- the computed test
-
-any-none : (test : ℕ → Bool) (ds : List ℕ) → anyOf test ds ≡ false → All (λ d. test d ≡ false) ds
-unfolding anyOf
-any-none test [] e = tt
-any-none test (d ∷ ds) e = go (test d) refl e (any-none test ds)
-  where
-    go : (b : Bool) → test d ≡ b → pick b true (anyOf test ds) ≡ false → (anyOf test ds ≡ false → All (λ d. test d ≡ false) ds) → All (λ d. test d ≡ false) (d ∷ ds)
-    go true b e rest = absurd (true-false refl e)
-    go false b e rest = (b, rest e)
 
 any-some : (P : ℕ → Type 0) (test : ℕ → Bool) (ds : List ℕ) → anyOf test ds ≡ true → All P ds → (d : ℕ) × (test d ≡ true) × P d
 unfolding anyOf
