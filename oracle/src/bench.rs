@@ -1,8 +1,8 @@
 //! The benchmark: the project's code over its C boundary beside other ways to do the same, all in one run, each the best of several rounds.
 //!
 //! (a) is ESITforSNT, algorithm 1 of the published paper, with its two checks an end, (b) the project's own algorithm in plain Rust (`bench/quick`),
-//! (c) trial and error with the pump simulated, (d) one pass through the ends in time order (`bench/quick`). All start from a card's bytes and test
-//! R21 to R29, but (c), which is handed the table; (a) takes its reading and its tests from (b).
+//! (c) trial and error with the pump simulated, (d) the quickest ways we know, chosen by the lines (`bench/quick`). All start from a card's bytes and
+//! test R21 to R29, but (c), which is handed the table; (a) takes its reading and its tests from (b).
 //!
 //! A step on an image (R88) stands beside our own by value, which is what a run (R66) takes for a tick.
 

@@ -12,51 +12,29 @@ pub(crate) struct Line {
     pub(crate) period: u32,
 }
 
-/// 2^32 / by, rounded up: what `whole` multiplies by, since a line is divided by the same period at every end.
-#[inline]
-fn inverse(by: u32) -> u64 {
-    u64::from(u32::MAX / by) + 1
-}
-
-/// The whole part of a quotient. Exact where the number and what it is divided by are below 2^16.
-#[inline]
-fn whole(number: u32, inverse: u64) -> u32 {
-    ((u64::from(number) * inverse) >> 32) as u32
-}
-
-/// R10, summed over the lines.
-#[inline]
-fn demand(lines: &[Line], inverses: &[u64], d: u32) -> u32 {
-    let one = |l: &Line, i: &u64| {
-        if d < l.end {
-            0
-        } else {
-            l.remaining + l.need * whole(d - l.end, *i)
-        }
-    };
-    lines.iter().zip(inverses).map(|(l, i)| one(l, i)).sum()
-}
-
-/// R14: ticks from the clock to the least smooth start, or `None` for R30. With q whole needs in the slack at an end, q + 1 of the new line's
-/// periods must not be over before that many needs and the demand fit.
+/// R14: ticks from the clock to the least smooth start, or `None` for R30. The lines go on from end to end in time order, and the demand is carried along.
+/// With q whole needs in the slack at an end, q + 1 of the new line's periods must not be over before that many needs and the demand fit.
 #[inline]
 fn start(lines: &[Line], need: u32, period: u32) -> Option<u32> {
     let last = lines.iter().map(|l| l.end).max().unwrap_or(0);
-    let mut inverses = [0; SLOTS];
-    inverses
-        .iter_mut()
-        .zip(lines)
-        .for_each(|(i, l)| *i = inverse(l.period));
-    let by_need = inverse(need);
-    let mut best = 0;
-    for line in lines {
-        let mut d = line.end;
-        while d < last {
-            let demand = demand(lines, &inverses, d);
-            let slack = d.checked_sub(demand)?;
-            best = best.max(demand.saturating_sub((whole(slack, by_need) + 1) * (period - need)));
-            d += line.period;
+    let mut ahead = [Line::default(); SLOTS];
+    let ahead = &mut ahead[..lines.len()];
+    ahead.copy_from_slice(lines);
+    let mut d = lines.iter().map(|l| l.end).min().unwrap_or(last);
+    let (mut best, mut demand) = (0, 0);
+    while d < last {
+        let mut soonest = last;
+        for line in ahead.iter_mut() {
+            if line.end == d {
+                demand += line.remaining;
+                line.remaining = line.need;
+                line.end += line.period;
+            }
+            soonest = soonest.min(line.end);
         }
+        let slack = d.checked_sub(demand)?;
+        best = best.max(demand.saturating_sub((slack / need + 1) * (period - need)));
+        d = soonest;
     }
     Some(best)
 }
@@ -199,7 +177,6 @@ pub fn answer(card: &[u8]) -> Result<u64, (u16, u64)> {
 
 #[cfg(test)]
 mod tests {
-    use super::{inverse, whole};
     use crate::{answer, read, write};
 
     /// R59: the card of case A.
@@ -212,18 +189,5 @@ mod tests {
         let mut out = [0; 208];
         assert_eq!(write(&pump, &request, &mut out), Ok(40));
         assert_eq!(&out[..40], CASE_A);
-    }
-
-    #[test]
-    fn whole_parts_on_both_sides_of_a_multiple() {
-        for by in 1..65_536 {
-            let most = 65_535 / by;
-            for times in [0, 1, most / 2, most] {
-                let numbers = [times * by, times * by + by - 1];
-                for number in numbers.map(|n| n.min(65_535)) {
-                    assert_eq!(whole(number, inverse(by)), number / by, "{number} by {by}");
-                }
-            }
-        }
     }
 }

@@ -1,5 +1,5 @@
-//! The project's own way of asking, stepping, reading and writing, in the quickest plain Rust we can write, and ask by a quicker one: through the
-//! ends in time order. It serves the benchmark alone: the independent reference in `oracle/` shares nothing with it.
+//! The project's own way of asking, stepping, reading and writing, in the quickest plain Rust we can write, and ask by quicker ones (`ordered`).
+//! It serves the benchmark alone: the independent reference in `oracle/` shares nothing with it.
 
 mod ask;
 mod card;
