@@ -8,7 +8,7 @@ ghost use Rattle.sums.specs.Lines.{linesOf, Packed};
 ghost use Rattle.pass.specs.Pass.{greatestEnd, notPassed, passTo, passIn, passedIn, FitNew};
 ghost use Rattle.pass.specs.Order.{nth, Copied, Soonest, Moved, addedAt, Loaded, linesFrom, FitFrom};
 
-// R30, R14: whether an end was short, and if none was, the start that the ends leave.
+// R30, R14: whether an end is short, and if none is, the start that the ends leave, else 0.
 pub struct Pass {
     pub short: bool,
     pub start: u32,
@@ -70,7 +70,7 @@ struct New {
     last: u32,
 }
 
-// short at the clock
+// what is said where an end is short, and of lines that are not fit
 fn not_passed() -> Pass
     ensures { λ r. ⌜ r ≡ notPassed ⌝ }
 {
