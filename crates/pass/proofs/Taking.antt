@@ -7,19 +7,12 @@ use native.Mathlib.Decide.{decLt}
 use native.Mathlib.Omega.{arith}
 use lib.ListN.{length, set, length-set}
 use lib.Seq.{getD-set-same, getD-set-other}
+use borrow.Author.Count.{below-more}
 use borrow.Author.Tests.{eq-eqb, ne-eqb}
 use Rattle.line.specs.Slots.{pick}
 use Rattle.sums.specs.Lines.{longest}
 use Rattle.sums.proofs.Adding.{Summing, sum-start, sum-on, sum-end}
 use Rattle.pass.specs.Order.{nth, Soonest, ifEnds, dueNow, addedAt, endPast, owedPast, Moved}
-
--- k below i + 1 is below i, or i
-pub up-to : {G : Type 0} (k i : ℕ) → k < i + 1 → (k < i → G) → (k ≡ i → G) → G
-up-to k i h f g =
-    elim (decLt k i) [
-      | yes l ↦ f l
-      | no l ↦ g (omega arith)
-    ]
 
 -- ---- an array that is written element by element
 
@@ -38,9 +31,9 @@ module _ {old : List ℕ} {f : ℕ → ℕ} {l : List ℕ} {i : ℕ} (v : Writte
   pub write-on : {x : ℕ} → i < length old → x ≡ f i → Written old f (set l i x) (i + 1)
   write-on {x} h e = record {
     long = length-set l i x ∙ v .long;
-    done = λ k m.
-        up-to k i m (λ b. getD-set-other l i k x 0 (λ q. omega arith) ∙ v .done k b)
-        (λ q. rw q (getD-set-same l i x 0 (omega (arith, v .long)) ∙ e));
+    done =
+        below-more _ _ (λ k b. getD-set-other l i k x 0 (λ q. omega arith) ∙ v .done k b)
+        (getD-set-same l i x 0 (omega (arith, v .long)) ∙ e);
     left = λ k m. getD-set-other l i k x 0 (λ q. omega arith) ∙ v .left k (omega arith);
   }
 
@@ -48,7 +41,7 @@ module _ {old : List ℕ} {f : ℕ → ℕ} {l : List ℕ} {i : ℕ} (v : Writte
   pub write-same : nth old i ≡ f i → Written old f l (i + 1)
   write-same e = record {
     long = v .long;
-    done = λ k m. up-to k i m (λ b. v .done k b) (λ q. rw q (v .left i (omega arith) ∙ e));
+    done = below-more _ _ (v .done) (v .left i (omega arith) ∙ e);
     left = λ k m. v .left k (omega arith);
   }
 
@@ -63,7 +56,7 @@ module _ {end : ℕ → ℕ} {i last r : ℕ} (v : Soonest end i last r) where
   pub soon-on : {x : ℕ} → x ≡ min r (end i) → Soonest end (i + 1) last x
   soon-on {x} e = record {
     within = omega (arith, v .within);
-    below = λ k h. up-to k i h (λ b. omega (arith, v .below k b)) (λ q. rw q (omega arith));
+    below = below-more _ _ (λ k b. omega (arith, v .below k b)) (omega arith);
     there =
         elim (decLt (end i) r) [
           | yes l ↦ inr (i, omega arith, omega arith)
