@@ -29,7 +29,7 @@ shortNow = record { short = true; start = 0 }
 
 -- a need of 0 and of 1; a first end inside its period and behind it; an excess of 0 and of 1, at an end of the first line, of the second, at the clock,
 -- and at an end that two lines share; more than the time gone by at the last end, which is not looked at; ends 4 ticks apart, and so far apart
--- that there is but one; at its first end what remains, and at the next the need; cases A, D and M
+-- that there is but one; at its first end what remains, and at the next the need; short after an end that raised the start; cases A, D and M
 unfoldable pub passEdges : List Edge
 passEdges =
     edge [] 0 4 shortNow
@@ -49,6 +49,7 @@ passEdges =
     ∷ edge (stream 3 3 4 65536 ∷ stream 20 0 10 20 ∷ []) 1 4 (starts 0)
     ∷ edge (stream 4 1 4 4 ∷ stream 9 0 1 9 ∷ []) 1 4 (starts 0)
     ∷ edge (stream 4 4 4 4 ∷ stream 9 0 1 9 ∷ []) 1 4 (starts 5)
+    ∷ edge (stream 4 4 4 4 ∷ stream 5 2 2 5 ∷ stream 9 0 1 9 ∷ []) 1 4 shortNow
     ∷ edge (stream 24 0 8 32 ∷ stream 8 8 8 16 ∷ []) 1 4 (starts 5)
     ∷ edge (stream 8 7 7 28 ∷ stream 24 0 8 32 ∷ []) 2 4 (starts 5)
     ∷ edge (stream 8 7 7 28 ∷ stream 24 0 8 32 ∷ []) 3 6 (starts 4)
