@@ -17,24 +17,12 @@ use Rattle.line.proofs.Search.{true-false}
 use Rattle.line.proofs.Due.{due-before}
 use Rattle.line.proofs.Ends.{before-all, all-before, any-none, none-any, greatest-above, greatest-least}
 use Rattle.sums.specs.Lines.{along, sumOf, longest, Fit}
+use Rattle.sums.proofs.Adding.{sums-plus, sums-none}
 use Rattle.pass.specs.Pass.{dueBy, demandOf, endsBy, notPassed, passOver, shortBy, boundBy, passTo}
-use Rattle.pass.specs.Order.{nth, Soonest, dueNow, addedAt, Moved, Loaded}
+use Rattle.pass.specs.Order.{nth, Soonest, dueNow, addedAt, Moved, Places}
 use Rattle.pass.proofs.Passing.{short-is, fine-is}
-use Rattle.pass.proofs.Taking.{ends-now, ends-later}
-use Rattle.pass.proofs.Standing.{dueBefore, before-suc, Stands, stand-start, stand-end, stand-next, stand-small, stand-on, before-on, due-none, due-taken, stand-taken}
-
--- ---- sums over the lines, term by term
-
-module _ {A B C : Type 0} (f : A → ℕ) (a : ℕ → A) (g : B → ℕ) (b : ℕ → B) (h : C → ℕ) (c : ℕ → C) where
-  pub sums-plus : (i n : ℕ) → ((k : ℕ) → i ≤ k → k < i + n → f (a k) ≡ g (b k) + h (c k)) → sumOf f (along a i n) ≡ sumOf g (along b i n) + sumOf h (along c i n)
-  unfolding along sumOf
-  sums-plus i zero e = refl
-  sums-plus i (suc n) e = omega (arith, e i (omega arith) (omega arith), sums-plus (suc i) n (λ k p q. e k (omega arith) (omega arith)))
-
-sums-none : {A : Type 0} (f : A → ℕ) (a : ℕ → A) (i n : ℕ) → ((k : ℕ) → i ≤ k → k < i + n → f (a k) ≡ 0) → sumOf f (along a i n) ≡ 0
-unfolding along sumOf
-sums-none f a i zero e = refl
-sums-none f a i (suc n) e = omega (arith, e i (omega arith) (omega arith), sums-none f a (suc i) n (λ k p q. e k (omega arith) (omega arith)))
+use Rattle.pass.proofs.TakingEnds.{ends-now, ends-later}
+use Rattle.pass.proofs.NextEnd.{dueBefore, before-suc, NextEnd, next-start, next-end, next-least, next-small, next-on, before-on, due-none, due-taken, next-taken}
 
 -- ---- the list of ends of the lines
 
@@ -74,18 +62,18 @@ module _ (a : ℕ → Stream) (n Cn Tn last : ℕ) where
   bounds d = boundBy Cn Tn last (demandOf lines) d
 
   -- the ends before the tick d are passed: the lines stand there, `sum` was due before it, no end was short, and `start` is the greatest bound
-  pub record Carried (next owed : List ℕ) (sum start d : ℕ) : Type 0 where
+  pub record Visited (next owed : List ℕ) (sum start d : ℕ) : Type 0 where
     pub soon : Soonest (nth next) n last d
-    pub stands : (k : ℕ) → k < n → Stands (a k) d (nth next k) (nth owed k)
+    pub stands : (k : ℕ) → k < n → NextEnd (a k) d (nth next k) (nth owed k)
     pub before : sum ≡ sumOf (dueBefore d) lines
     pub small : sum ≤ 65535
     pub fine : All (λ u. short u ≡ false) (endsBy d lines)
-    pub most : start ≡ greatest bounds 0 (endsBy d lines)
+    pub best : start ≡ greatest bounds 0 (endsBy d lines)
 
   module _ (p : (k : ℕ) → k < n → 1 ≤ a k .period) where
     -- R9: up to the first tick there is no end
     pub order-start : {next owed : List ℕ} {d : ℕ} → ((k : ℕ) → k < n → nth next k ≡ a k .end) → ((k : ℕ) → k < n → nth owed k ≡ a k .remaining)
-        → Soonest (nth next) n last d → Carried next owed 0 0 d
+        → Soonest (nth next) n last d → Visited next owed 0 0 d
     order-start {next} {owed} {d} e o s =
         let first : (k : ℕ) → k < n → d ≤ a k .end = λ k h. omega (arith, s .below k h, e k h) in
         let none' : (Q : ℕ → Type 0) → All Q (endsBy d lines) =
@@ -93,23 +81,23 @@ module _ (a : ℕ → Stream) (n Cn Tn last : ℕ) where
         in
         record {
           soon = s;
-          stands = λ k h. rw (e k h, o k h) (stand-on (stand-start (a k)) d (omega arith) (first k h));
+          stands = λ k h. rw (e k h, o k h) (next-on (next-start (a k)) d (omega arith) (first k h));
           before = sym (sums-none (dueBefore d) a 0 n (λ k x y. due-before (1 + a k .end) (a k .remaining) (a k .need) (a k .period) d (omega (arith, first k (omega arith)))));
           small = omega arith;
           fine = none' (λ u. short u ≡ false);
-          most = omega (arith, greatest-least bounds 0 0 (endsBy d lines) (omega arith) (none' (λ u. bounds u ≤ 0)));
+          best = omega (arith, greatest-least bounds 0 0 (endsBy d lines) (omega arith) (none' (λ u. bounds u ≤ 0)));
         }
 
-    module _ {next owed : List ℕ} {sum start d : ℕ} (v : Carried next owed sum start d) where
+    module _ {next owed : List ℕ} {sum start d : ℕ} (v : Visited next owed sum start d) where
       -- the numbers fit: what falls due is what remains of a line, or its need
-      pub order-loaded : {next₀ owed₀ needs gaps : List ℕ} → Loaded next₀ owed₀ needs gaps → n ≡ length gaps → length next ≡ length next₀ → length owed ≡ length owed₀
-          → ((k : ℕ) → k < n → Fit (a k)) → Loaded next owed needs gaps
-      order-loaded w e x y f = record {
+      pub order-places : {next₀ owed₀ needs gaps : List ℕ} → Places next₀ owed₀ needs gaps → n ≡ length gaps → length next ≡ length next₀ → length owed ≡ length owed₀
+          → ((k : ℕ) → k < n → Fit (a k)) → Places next owed needs gaps
+      order-places w e x y f = record {
         few = w .few;
         needy = w .needy;
         nexts = omega (arith, w .nexts);
         owing = omega (arith, w .owing);
-        small = λ k h. let g = f k (omega arith) in stand-small (v .stands k (omega arith)) longest (omega (arith, g .rest, g .less, g .wide)) (omega (arith, g .less, g .wide));
+        small = λ k h. let g = f k (omega arith) in next-small (v .stands k (omega arith)) longest (omega (arith, g .rest, g .less, g .wide)) (omega (arith, g .less, g .wide));
         near = w .near;
       }
 
@@ -118,7 +106,7 @@ module _ (a : ℕ → Stream) (n Cn Tn last : ℕ) where
         pub visit : (k : ℕ) × (k < n) × ((j : ℕ) × (d ≡ a k .end + j * a k .period))
         visit =
             ⊎-elim (λ e. absurd (omega arith))
-            (λ w. let s = stand-end (v .stands (w .0) (w .1)) in (w .0, w .1, (s .0, sym (w .2) ∙ s .1))) (v .soon .there)
+            (λ w. let s = next-end (v .stands (w .0) (w .1)) in (w .0, w .1, (s .0, sym (w .2) ∙ s .1))) (v .soon .there)
 
         module _ {needs gaps next' owed' : List ℕ} (m : Moved next owed needs gaps n d next' owed')
             (same-n : (k : ℕ) → k < n → nth needs k ≡ a k .need) (same-p : (k : ℕ) → k < n → nth gaps k ≡ a k .period) where
@@ -131,17 +119,17 @@ module _ (a : ℕ → Stream) (n Cn Tn last : ℕ) where
                 ]
 
             -- R9, R10: past the tick the line stands at its next end
-            past : Stands (a k) (1 + d) (nth next' k) (nth owed' k)
+            past : NextEnd (a k) (1 + d) (nth next' k) (nth owed' k)
             past =
                 elim (ℕ-discrete (nth next k) d) [
                   | yes g ↦
                       let x = m .ends k l ∙ ends-now next d k (d + nth gaps k) (nth next k) g ∙ ap (λ (y : ℕ). d + y) (same-p k l) in
                       let y = m .owes k l ∙ ends-now next d k (nth needs k) (nth owed k) g ∙ same-n k l in
-                      rw (x, y) (stand-taken (v .stands k l) (p k l) (sym g))
+                      rw (x, y) (next-taken (v .stands k l) (p k l) (sym g))
                   | no g ↦
                       let x = m .ends k l ∙ ends-later next d k (d + nth gaps k) (nth next k) g in
                       let y = m .owes k l ∙ ends-later next d k (nth needs k) (nth owed k) g in
-                      rw (x, y) (stand-on (v .stands k l) (1 + d) (omega arith) (let q = after g in omega arith))
+                      rw (x, y) (next-on (v .stands k l) (1 + d) (omega arith) (let q = after g in omega arith))
                 ]
 
             -- R10: what is due of it at the tick
@@ -172,12 +160,12 @@ module _ (a : ℕ → Stream) (n Cn Tn last : ℕ) where
 
           module _ {d' : ℕ} (s : Soonest (nth next') n last d') where
             -- the next tick comes later
-            pub later : d < d'
-            later = ⊎-elim (λ e. omega arith) (λ w. omega (arith, past (w .0) (w .1) .ahead, w .2)) (s .there)
+            pub tick-later : d < d'
+            tick-later = ⊎-elim (λ e. omega arith) (λ w. omega (arith, past (w .0) (w .1) .ahead, w .2)) (s .there)
 
             -- R10: what was due of a line before it
             before-past : (k : ℕ) → k < n → dueBefore d' (a k) ≡ dueBefore d (a k) + dueNow next owed d k
-            before-past k l = before-on (past k l) d' (let q = later in omega arith) (s .below k l) ∙ before-suc d (a k) ∙ falls-due k l
+            before-past k l = before-on (past k l) d' (let q = tick-later in omega arith) (s .below k l) ∙ before-suc d (a k) ∙ falls-due k l
 
             -- R9: the ends before it are those before the tick, and the tick
             pub ends-on : (Q : ℕ → Type 0) → All Q (endsBy d lines) → Q d → All Q (endsBy d' lines)
@@ -189,7 +177,7 @@ module _ (a : ℕ → Stream) (n Cn Tn last : ℕ) where
                   | no g ↦
                       elim (ℕ-discrete (a k .end + j * a k .period) d) [
                         | yes z ↦ rw z here
-                        | no z ↦ absurd (omega (arith, s .below k (omega arith), stand-next (past k (omega arith)) j (omega arith)))
+                        | no z ↦ absurd (omega (arith, s .below k (omega arith), next-least (past k (omega arith)) j (omega arith)))
                       ]
                 ])
 
@@ -197,20 +185,20 @@ module _ (a : ℕ → Stream) (n Cn Tn last : ℕ) where
             ends-back Q all =
                 let at = all-lines Q d' a 0 n (λ k x y. p k (omega arith)) all in
                 let z = visit .2 in (
-                  lines-all Q d a 0 n (λ k x y. p k (omega arith)) (λ k x y j b. at k x y j (omega (arith, later))),
-                  rw (z .1) (at (visit .0) (omega arith) (omega (arith, visit .1)) (z .0) (omega (arith, z .1, later))),
+                  lines-all Q d a 0 n (λ k x y. p k (omega arith)) (λ k x y j b. at k x y j (omega (arith, tick-later))),
+                  rw (z .1) (at (visit .0) (omega arith) (omega (arith, visit .1)) (z .0) (omega (arith, z .1, tick-later))),
                 )
 
             -- R14: the greatest bound is that before the tick, or the tick's
             most-on : max start (bounds d) ≡ greatest bounds 0 (endsBy d' lines)
             most-on =
                 let top = max start (bounds d) in
-                let before = greatest-above bounds 0 top (endsBy d lines) (omega (arith, v .most)) in
+                let before = greatest-above bounds 0 top (endsBy d lines) (omega (arith, v .best)) in
                 let now = greatest bounds 0 (endsBy d' lines) in
                 let all = ends-back (λ u. bounds u ≤ now) (greatest-above bounds 0 now (endsBy d' lines) (omega arith)) in
                 omega (
                   arith,
-                  v .most,
+                  v .best,
                   greatest-least bounds 0 top (endsBy d' lines) (omega arith) (ends-on (λ u. bounds u ≤ top) before (omega arith)),
                   greatest-least bounds 0 now (endsBy d lines) (omega arith) (all .0),
                   all .1,
@@ -218,14 +206,14 @@ module _ (a : ℕ → Stream) (n Cn Tn last : ℕ) where
 
             -- the end d is passed
             pub order-on : {x b start' : ℕ} → x ≡ addedAt next owed n d → sum + x ≤ d → d ≤ 65535 → b ≡ bound Cn Tn last d (d - (sum + x)) → start' ≡ max start b
-                → Carried next' owed' (sum + x) start' d'
+                → Visited next' owed' (sum + x) start' d'
             order-on e f w b t = record {
               soon = s;
-              stands = λ k l. stand-on (past k l) d' (let q = later in omega arith) (s .below k l);
+              stands = λ k l. next-on (past k l) d' (let q = tick-later in omega arith) (s .below k l);
               before = omega (arith, e, v .before, sums-plus (dueBefore d') a (dueBefore d) a (dueNow next owed d) (λ k. k) 0 n (λ k x y. before-past k (omega arith)));
               small = omega arith;
               fine = ends-on (λ u. short u ≡ false) (v .fine) (le-ltb d (demandOf lines d) (omega (arith, sum-is e)));
-              most = t ∙ ap (max start) (b ∙ ap (λ (y : ℕ). bound Cn Tn last d (d - y)) (sum-is e)) ∙ most-on;
+              best = t ∙ ap (max start) (b ∙ ap (λ (y : ℕ). bound Cn Tn last d (d - y)) (sum-is e)) ∙ most-on;
             }
 
       -- R30, R14: no tick is left
@@ -233,5 +221,5 @@ module _ (a : ℕ → Stream) (n Cn Tn last : ℕ) where
       unfolding passOver
       order-end h =
           let z : d ≡ last = omega (arith, v .soon .within) in
-          let m : start ≡ greatest bounds 0 (endsBy last lines) = v .most ∙ ap (λ (x : ℕ). greatest bounds 0 (endsBy x lines)) z in
+          let m : start ≡ greatest bounds 0 (endsBy last lines) = v .best ∙ ap (λ (x : ℕ). greatest bounds 0 (endsBy x lines)) z in
           rw m (fine-is _ _ (none-any short (endsBy last lines) (rw z at (v .fine))))

@@ -9,16 +9,12 @@ use Rattle.line.specs.declared.Stream.{Stream}
 use Rattle.line.specs.Slots.{pick}
 use Rattle.sums.specs.Lines.{along, sumOf, lineAt, most, longest, Fit}
 
--- the numbers below n
-abbrev pub upTo : ℕ → List ℕ
-upTo n = along (λ k. k) 0 n
-
 -- the k-th number
 abbrev pub nth : List ℕ → ℕ → ℕ
 nth l k = getD l k 0
 
 -- `to` begins with the numbers of `from`
-pub record Copied (from to : List ℕ) : Type 0 where
+pub record StartsWith (from to : List ℕ) : Type 0 where
   pub same : (k : ℕ) → k < length from → nth to k ≡ nth from k
 
 -- r is the least of `last` and of the first n ends
@@ -37,7 +33,7 @@ dueNow next owed d k = ifEnds next d k (nth owed k) 0
 
 -- R12: what falls due of the first n lines at d
 abbrev pub addedAt : (next owed : List ℕ) (n d : ℕ) → ℕ
-addedAt next owed n d = sumOf (dueNow next owed d) (upTo n)
+addedAt next owed n d = sumOf (dueNow next owed d) (along (λ k. k) 0 n)
 
 -- R9: the end that line k has next, once d is past
 abbrev pub endPast : (next gaps : List ℕ) (d k : ℕ) → ℕ
@@ -53,7 +49,7 @@ pub record Moved (next owed needs gaps : List ℕ) (n d : ℕ) (next' owed' : Li
   pub owes : (k : ℕ) → k < n → nth owed' k ≡ owedPast next owed needs d k
 
 -- room for as many lines as there are gaps, and numbers that fit
-pub record Loaded (next owed needs gaps : List ℕ) : Type 0 where
+pub record Places (next owed needs gaps : List ℕ) : Type 0 where
   pub few : length gaps ≤ most
   pub needy : length needs ≡ length gaps
   pub nexts : length gaps ≤ length next

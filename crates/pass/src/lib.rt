@@ -6,7 +6,7 @@ ghost use lib.ListN.{length};
 ghost use Rattle.line.specs.Ends.{bound};
 ghost use Rattle.sums.specs.Lines.{linesOf, Packed};
 ghost use Rattle.pass.specs.Pass.{greatestEnd, notPassed, passTo, passIn, passedIn, FitNew};
-ghost use Rattle.pass.specs.Order.{nth, Copied, Soonest, Moved, addedAt, Loaded, linesFrom, FitFrom};
+ghost use Rattle.pass.specs.Order.{nth, StartsWith, Soonest, Moved, addedAt, Places, linesFrom, FitFrom};
 
 // R30, R14: whether an end is short, and if none is, the start that the ends leave, else 0.
 pub struct Pass {
@@ -81,7 +81,7 @@ fn not_passed() -> Pass
 }
 
 // R9, R10: each line at its first end, where what remains of it falls due, in arrays of their own; and the soonest of these ends, or `last`.
-fn load<'a>(
+fn line_up<'a>(
     ends: &'a [u32],
     remaining: &'a [u32],
     next: &mut [u32],
@@ -89,7 +89,7 @@ fn load<'a>(
     last: u32,
 ) -> u32
     requires { ⌜ (length (now remaining) ≡ length (now ends)) × (length (now ends) ≤ length (now next)) × (length (now ends) ≤ length (now owed)) ⌝ }
-    ensures { λ r. ⌜ Copied (now (ends .entry)) (now (next .exit)) × Copied (now (remaining .entry)) (now (owed .exit)) ⌝ }
+    ensures { λ r. ⌜ StartsWith (now (ends .entry)) (now (next .exit)) × StartsWith (now (remaining .entry)) (now (owed .exit)) ⌝ }
     ensures { λ r. ⌜ Soonest (nth (now (ends .entry))) (length (now (ends .entry))) last r ⌝ }
 {
     let mut first = last;
@@ -104,21 +104,21 @@ fn load<'a>(
 }
 
 // R12: what a tick brings: the demand that falls due at it, and the tick that comes next.
-struct Taken {
+struct Brought {
     added: u32,
     soonest: u32,
 }
 
 // R9, R10: takes every line that ends at d, lowest slot first. What it owes falls due, and it moves on to its next end, where its need falls due.
-fn take<'a>(
+fn take_ends<'a>(
     next: &mut [u32],
     owed: &mut [u32],
     needs: &'a [u32],
     gaps: &'a [u32],
     d: u32,
     last: u32,
-) -> Taken
-    requires { ⌜ Loaded (now next) (now owed) (now needs) (now gaps) × (d ≤ 65536) ⌝ }
+) -> Brought
+    requires { ⌜ Places (now next) (now owed) (now needs) (now gaps) × (d ≤ 65536) ⌝ }
     ensures { λ r. ⌜ Moved (now (next .entry)) (now (owed .entry)) (now (needs .entry)) (now (gaps .entry)) (length (now (gaps .entry))) d (now (next .exit)) (now (owed .exit)) ⌝ }
     ensures { λ r. ⌜ (r .added ≡ addedAt (now (next .entry)) (now (owed .entry)) (length (now (gaps .entry))) d) × (r .added ≤ 1048576) ⌝ }
     ensures { λ r. ⌜ Soonest (nth (now (next .exit))) (length (now (gaps .entry))) last (r .soonest) ⌝ }
@@ -137,7 +137,7 @@ fn take<'a>(
         soonest = lesser(soonest, end);
         i = i + 1;
     }
-    Taken {
+    Brought {
         added: added,
         soonest: soonest,
     }
@@ -152,7 +152,7 @@ fn in_order<'a>(
     new: New,
     first: u32,
 ) -> Pass
-    requires { ⌜ Loaded (now next) (now owed) (now needs) (now gaps) × FitFrom (now next) (now owed) (now needs) (now gaps) × FitNew new ⌝ }
+    requires { ⌜ Places (now next) (now owed) (now needs) (now gaps) × FitFrom (now next) (now owed) (now needs) (now gaps) × FitNew new ⌝ }
     requires { ⌜ Soonest (nth (now next)) (length (now gaps)) (new .last) first ⌝ }
     ensures { λ r. ⌜ r ≡ passTo (new .last) (linesFrom (now (next .entry)) (now (owed .entry)) (now (needs .entry)) (now (gaps .entry))) (new .need) (new .period) ⌝ }
 {
@@ -161,7 +161,7 @@ fn in_order<'a>(
     let mut start: u32 = 0;
     let mut d = first;
     while d < last {
-        let taken = take(next, owed, needs, gaps, d, last);
+        let taken = take_ends(next, owed, needs, gaps, d, last);
         sum = sum + taken.added;
         if !passes(sum, d) {
             return not_passed();
@@ -196,7 +196,7 @@ fn pass_all<'a>(
     };
     let mut next: [u32; sums::MOST] = [0; sums::MOST];
     let mut owed: [u32; sums::MOST] = [0; sums::MOST];
-    let first = load(ends, remaining, &mut next, &mut owed, last);
+    let first = line_up(ends, remaining, &mut next, &mut owed, last);
     in_order(&mut next, &mut owed, needs, gaps, new, first)
 }
 

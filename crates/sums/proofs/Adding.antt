@@ -1,5 +1,5 @@
 -- Sums over the lines, term by term, and what keeps them small.
-use Prim.Native.Nat.{ℕ, _+_, _-_, _*_, _/_, _≤_, _<_}
+use Prim.Native.Nat.{ℕ, zero, suc, _+_, _-_, _*_, _/_, _≤_, _<_}
 use mathlib.Core.Path.{_≡_, refl, ap, _∙_}
 use mathlib.Core.List.{[]}
 use native.Mathlib.Nat.{le-trans, mul-le-mul}
@@ -39,6 +39,23 @@ module _ {A : Type 0} {f : A → ℕ} {a : ℕ → A} {top n i sum : ℕ} (v : S
   -- all terms are passed
   pub sum-end : n ≤ i → sum ≡ sumOf f (along a 0 n)
   sum-end h = omega (arith, v .left, ap (sumOf f) (along-end a i n h) ∙ sum-none f)
+
+-- ---- sums term by term
+
+module _ {A B C : Type 0} (f : A → ℕ) (a : ℕ → A) (g : B → ℕ) (b : ℕ → B) (h : C → ℕ) (c : ℕ → C) where
+  -- each term is made of two: so is the sum
+  pub sums-plus : (i n : ℕ) → ((k : ℕ) → i ≤ k → k < i + n → f (a k) ≡ g (b k) + h (c k)) → sumOf f (along a i n) ≡ sumOf g (along b i n) + sumOf h (along c i n)
+  unfolding along sumOf
+  sums-plus i zero e = refl
+  sums-plus i (suc n) e = omega (arith, e i (omega arith) (omega arith), sums-plus (suc i) n (λ k p q. e k (omega arith) (omega arith)))
+
+-- each term is 0: so is the sum
+pub sums-none : {A : Type 0} (f : A → ℕ) (a : ℕ → A) (i n : ℕ) → ((k : ℕ) → i ≤ k → k < i + n → f (a k) ≡ 0) → sumOf f (along a i n) ≡ 0
+unfolding along sumOf
+sums-none f a i zero e = refl
+sums-none f a i (suc n) e = omega (arith, e i (omega arith) (omega arith), sums-none f a (suc i) n (λ k p q. e k (omega arith) (omega arith)))
+
+-- ---- what keeps them small
 
 -- a share is at most the whole frame
 pub share-small : (F n p : ℕ) → F ≤ 1000000 → n ≤ p → n * (F / p) ≤ 1000000

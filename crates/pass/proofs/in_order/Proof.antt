@@ -1,4 +1,4 @@
--- `in_order` meets its contract: the ticks visited cite the laws of `Carried`.
+-- `in_order` meets its contract: the ticks visited cite the laws of `Visited`.
 use Prim.Native.Nat.{_-_}
 use mathlib.Core.Path.{_≡_, refl, _∙_}
 use native.Mathlib.Omega.{arith}
@@ -6,23 +6,23 @@ use borrow.Author.Needs.{needs}
 use lib.ListN.{length}
 use Rattle.sums.specs.Lines.{lineAt}
 use Rattle.pass.proofs.Point.{point-short, point-passed}
-use Rattle.pass.proofs.Order.{Carried, order-start, order-on, order-short, order-end, order-loaded, later}
+use Rattle.pass.proofs.Order.{Visited, order-start, order-on, order-short, order-end, order-places, tick-later}
 use Rattle.pass.proofs.in_order.Statement.{statement}
 use Rattle.pass.proofs.in_order.Tie as tie
 
 abbrev Inv-loop : tie.InvT-loop
 Inv-loop next₀ owed₀ needs gaps new first last sum₀ start₀ d₀ next owed sum start d =
     (length next ≡ length next₀) × (length owed ≡ length owed₀)
-    × Carried (lineAt next₀ owed₀ needs gaps) (length gaps) (new .need) (new .period) (new .last) next owed sum start d
+    × Visited (lineAt next₀ owed₀ needs gaps) (length gaps) (new .need) (new .period) (new .last) next owed sum start d
 
 abbrev μ-loop : tie.MeasureT-loop
 μ-loop next₀ owed₀ needs gaps new first last sum₀ start₀ d₀ next owed sum start d = new .last - d
 
--- the entry, and the loop's head, seen from behind `take`
-abbrev entry : tie.After-take Inv-loop μ-loop → tie.Start Inv-loop μ-loop
+-- the entry, and the loop's head, seen from behind `take_ends`
+abbrev entry : tie.After-take-ends Inv-loop μ-loop → tie.Start Inv-loop μ-loop
 entry c = c .before .before .before .before .before .before .before .before .before
 
-abbrev head : tie.After-take Inv-loop μ-loop → tie.In-loop Inv-loop μ-loop
+abbrev head : tie.After-take-ends Inv-loop μ-loop → tie.In-loop Inv-loop μ-loop
 head c = c .before .before .before
 
 loop-holds : tie.Need-loop-holds Inv-loop μ-loop
@@ -30,28 +30,28 @@ loop-holds c =
     let pre = c .before .before .before .before .pre in
     (refl, refl, order-start _ _ _ _ _ (λ k h. pre .0 .1 k h .some) (λ k h. refl) (λ k h. refl) (pre .1))
 
-take-requires : tie.Need-take-requires Inv-loop μ-loop
-take-requires c κs =
+take-ends-requires : tie.Need-take-ends-requires Inv-loop μ-loop
+take-ends-requires c κs =
     let v = c .before .before .before .loop .inv in
     let pre = c .before .before .before .before .before .before .before .before .pre .0 in
-    (order-loaded _ _ _ _ _ (λ k h. pre .1 k h .some) (v .2) (pre .0) refl (v .0) (v .1) (pre .1), omega (arith, pre .2 .near, c .before .before .loop-test .taken))
+    (order-places _ _ _ _ _ (λ k h. pre .1 k h .some) (v .2) (pre .0) refl (v .0) (v .1) (pre .1), omega (arith, pre .2 .near, c .before .before .loop-test .taken))
 
 add-sum : tie.Need-add-sum Inv-loop μ-loop
 add-sum c =
     let t = c .before .before .before .before .before in
-    omega (arith, head t .before .loop .inv .2 .small, t .take .ensures .1 .0 .1)
+    omega (arith, head t .before .loop .inv .2 .small, t .take-ends .ensures .1 .0 .1)
 
 same-length : tie.Need-same-length Inv-loop μ-loop
-same-length c = let t = c .before .before .before .before .before .before .before .before in t .take .kept .0 ∙ head t .before .loop .inv .0
+same-length c = let t = c .before .before .before .before .before .before .before .before in t .take-ends .kept .0 ∙ head t .before .loop .inv .0
 
 same-length-2 : tie.Need-same-length-2 Inv-loop μ-loop
-same-length-2 c = let t = c .before .before .before .before .before .before .before .before in t .take .kept .1 .0 ∙ head t .before .loop .inv .1
+same-length-2 c = let t = c .before .before .before .before .before .before .before .before in t .take-ends .kept .1 .0 ∙ head t .before .loop .inv .1
 
 returns : tie.Need-returns Inv-loop μ-loop
 returns c =
     let t = c .before .before .before .before .before .before .before .before in
     let pre = entry t .pre .0 in
-    let q = t .take .ensures in
+    let q = t .take-ends .ensures in
     c .not-passed .ensures
     ∙ order-short _ _ _ _ _ (λ k h. pre .1 k h .some) (head t .before .loop .inv .2) (head t .loop-test .taken) (q .0) (λ k h. refl) (λ k h. refl) (q .1 .0 .0)
     (point-short (c .before .before .passes .ensures) (c .before .if1 .taken))
@@ -66,19 +66,19 @@ loop-less : tie.Need-loop-less Inv-loop μ-loop
 loop-less c =
     let t = c .before .before .before .before .before .before .before .before .before in
     let pre = entry t .pre .0 in
-    let q = t .take .ensures in
-    let z = later _ _ _ _ _ (λ k h. pre .1 k h .some) (head t .before .loop .inv .2) (head t .loop-test .taken) (q .0) (λ k h. refl) (λ k h. refl) (q .1 .1) in
+    let q = t .take-ends .ensures in
+    let z = tick-later _ _ _ _ _ (λ k h. pre .1 k h .some) (head t .before .loop .inv .2) (head t .loop-test .taken) (q .0) (λ k h. refl) (λ k h. refl) (q .1 .1) in
     omega (arith, z, head t .loop-test .taken)
 
 loop-again : tie.Need-loop-again Inv-loop μ-loop
 loop-again c =
     let t = c .before .before .before .before .before .before .before .before .before in
     let pre = entry t .pre .0 in
-    let q = t .take .ensures in
+    let q = t .take-ends .ensures in
     let v = head t .before .loop .inv in
     let k = point-passed (c .before .before .before .passes .ensures) (c .before .before .if1 .left) in (
-      t .take .kept .0 ∙ v .0,
-      t .take .kept .1 .0 ∙ v .1,
+      t .take-ends .kept .0 ∙ v .0,
+      t .take-ends .kept .1 .0 ∙ v .1,
       order-on _ _ _ _ _ (λ k h. pre .1 k h .some) (v .2) (head t .loop-test .taken) (q .0) (λ k h. refl) (λ k h. refl) (q .1 .1) (q .1 .0 .0) k
           (omega (arith, pre .2 .near, head t .loop-test .taken)) (c .before .bound-at .ensures) (c .greater .ensures),
     )
@@ -89,6 +89,6 @@ returns-2 c = order-end _ _ _ _ _ (λ k h. c .before .before .before .before .be
 pub in-order-spec : {M : Type 1} → statement M
 in-order-spec =
     tie.close
-    (tie.spec Inv-loop μ-loop loop-holds take-requires add-sum (λ c κs. search needs) (λ c κs. search needs) same-length same-length-2 returns
+    (tie.spec Inv-loop μ-loop loop-holds take-ends-requires add-sum (λ c κs. search needs) (λ c κs. search needs) same-length same-length-2 returns
     (λ c. point-passed (c .before .passes .ensures) (c .if1 .left)) bound-at-requires (λ c κs. search needs) loop-less loop-again
     (λ c. c .before .loop .inv .0) (λ c. c .before .loop .inv .1) returns-2)

@@ -17,18 +17,18 @@ use Rattle.pass.specs.Order.{nth, Soonest, ifEnds, dueNow, addedAt, endP
 -- ---- an array that is written element by element
 
 -- the first i elements of `old` are written, each with f at its index
-pub record Written (old : List ℕ) (f : ℕ → ℕ) (l : List ℕ) (i : ℕ) : Type 0 where
+pub record WrittenTo (old : List ℕ) (f : ℕ → ℕ) (l : List ℕ) (i : ℕ) : Type 0 where
   pub long : length l ≡ length old
   pub done : (k : ℕ) → k < i → nth l k ≡ f k
   pub left : (k : ℕ) → i ≤ k → nth l k ≡ nth old k
 
 -- nothing is written
-pub write-start : (old : List ℕ) (f : ℕ → ℕ) → Written old f old 0
+pub write-start : (old : List ℕ) (f : ℕ → ℕ) → WrittenTo old f old 0
 write-start old f = record { long = refl; done = λ k h. absurd (omega arith); left = λ k h. refl }
 
-module _ {old : List ℕ} {f : ℕ → ℕ} {l : List ℕ} {i : ℕ} (v : Written old f l i) where
+module _ {old : List ℕ} {f : ℕ → ℕ} {l : List ℕ} {i : ℕ} (v : WrittenTo old f l i) where
   -- element i is written
-  pub write-on : {x : ℕ} → i < length old → x ≡ f i → Written old f (set l i x) (i + 1)
+  pub write-on : {x : ℕ} → i < length old → x ≡ f i → WrittenTo old f (set l i x) (i + 1)
   write-on {x} h e = record {
     long = length-set l i x ∙ v .long;
     done =
@@ -38,7 +38,7 @@ module _ {old : List ℕ} {f : ℕ → ℕ} {l : List ℕ} {i : ℕ} (v : Writte
   }
 
   -- element i is already what it is to be
-  pub write-same : nth old i ≡ f i → Written old f l (i + 1)
+  pub write-same : nth old i ≡ f i → WrittenTo old f l (i + 1)
   write-same e = record {
     long = v .long;
     done = below-more _ _ (v .done) (v .left i (omega arith) ∙ e);
@@ -82,22 +82,22 @@ ends-later next d k x y e = ap (λ b. pick b x y) (ne-eqb (nth next k) d e)
 
 module _ (next₀ owed₀ needs gaps : List ℕ) (n d last : ℕ) where
   -- i lines are passed: those that end at d are taken, `added` fell due, and the soonest of their next ends is `tick`
-  pub record Taking (next owed : List ℕ) (added tick i : ℕ) : Type 0 where
-    pub ends : Written next₀ (endPast next₀ gaps d) next i
-    pub owes : Written owed₀ (owedPast next₀ owed₀ needs d) owed i
+  pub record TakingEnds (next owed : List ℕ) (added tick i : ℕ) : Type 0 where
+    pub ends : WrittenTo next₀ (endPast next₀ gaps d) next i
+    pub owes : WrittenTo owed₀ (owedPast next₀ owed₀ needs d) owed i
     pub sums : Summing (dueNow next₀ owed₀ d) (λ k. k) longest n i added
     pub soon : Soonest (endPast next₀ gaps d) i last tick
 
   -- no line is passed
-  pub take-start : Taking next₀ owed₀ 0 last 0
-  take-start = record { ends = write-start _ _; owes = write-start _ _; sums = sum-start _ _ _ _; soon = soon-start _ _ }
+  pub taking-start : TakingEnds next₀ owed₀ 0 last 0
+  taking-start = record { ends = write-start _ _; owes = write-start _ _; sums = sum-start _ _ _ _; soon = soon-start _ _ }
 
-  module _ {next owed : List ℕ} {added tick i : ℕ} (v : Taking next owed added tick i) (h : i < n) {next' owed' : List ℕ} {added' end tick' : ℕ} where
+  module _ {next owed : List ℕ} {added tick i : ℕ} (v : TakingEnds next owed added tick i) (h : i < n) {next' owed' : List ℕ} {added' end tick' : ℕ} where
     -- line i ends at d
-    pub take-hit : n ≤ length next₀ → n ≤ length owed₀ → nth owed₀ i ≤ longest → nth next i ≡ d
+    pub taking-hit : n ≤ length next₀ → n ≤ length owed₀ → nth owed₀ i ≤ longest → nth next i ≡ d
         → next' ≡ set next i (d + nth gaps i) → owed' ≡ set owed i (nth needs i) → added' ≡ added + nth owed i → end ≡ d + nth gaps i → tick' ≡ min tick end
-        → Taking next' owed' added' tick' (i + 1)
-    take-hit a b small e q r s w x =
+        → TakingEnds next' owed' added' tick' (i + 1)
+    taking-hit a b small e q r s w x =
         let now : nth next₀ i ≡ d = sym (v .ends .left i (omega arith)) ∙ e in
         let o = v .owes .left i (omega arith) in
         rw (q, r, s) (record {
@@ -108,9 +108,9 @@ module _ (next₀ owed₀ needs gaps : List ℕ) (n d last : ℕ) where
         })
 
     -- line i does not
-    pub take-miss : (nth next i ≡ d → ⊥) → next' ≡ next → owed' ≡ owed → added' ≡ added → end ≡ nth next i → tick' ≡ min tick end
-        → Taking next' owed' added' tick' (i + 1)
-    take-miss e q r s w x =
+    pub taking-miss : (nth next i ≡ d → ⊥) → next' ≡ next → owed' ≡ owed → added' ≡ added → end ≡ nth next i → tick' ≡ min tick end
+        → TakingEnds next' owed' added' tick' (i + 1)
+    taking-miss e q r s w x =
         let same = v .ends .left i (omega arith) in
         let no' : nth next₀ i ≡ d → ⊥ = λ z. e (same ∙ z) in
         let z : added' ≡ added + 0 = omega (arith, s) in
@@ -122,9 +122,9 @@ module _ (next₀ owed₀ needs gaps : List ℕ) (n d last : ℕ) where
         })
 
   -- all lines are passed
-  pub take-end : {next owed : List ℕ} {added tick i : ℕ} → Taking next owed added tick i → n ≤ 16 → n ≤ i
+  pub taking-end : {next owed : List ℕ} {added tick i : ℕ} → TakingEnds next owed added tick i → n ≤ 16 → n ≤ i
       → Moved next₀ owed₀ needs gaps n d next owed × ((added ≡ addedAt next₀ owed₀ n d) × (added ≤ 1048576)) × Soonest (nth next) n last tick
-  take-end {next} {i = i} v few h =
+  taking-end {next} {i = i} v few h =
       let z : i ≡ n = omega (arith, v .sums .upto) in (
         record { ends = λ k l. v .ends .done k (omega arith); owes = λ k l. v .owes .done k (omega arith) },
         (sum-end (v .sums) h, omega (arith, v .sums .small, v .sums .upto)),

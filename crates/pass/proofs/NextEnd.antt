@@ -24,13 +24,13 @@ due-from e c C P t m a b =
     due-after e c C P t (omega arith) ∙ ap (λ (q : ℕ). c + C * q) (div-eq-of-lt-le {k = m} P (omega arith) (omega arith))
 
 -- its first end is still to come, where what remains falls due; or the end m was the latest, and its need falls due at the next
-pub record Stands (x : Stream) (t u a : ℕ) : Type 0 where
+pub record NextEnd (x : Stream) (t u a : ℕ) : Type 0 where
   pub ahead : t ≤ u
   pub how : ((u ≡ x .end) × (a ≡ x .remaining)) ⊎ ((m : ℕ) × (u ≡ x .end + suc m * x .period) × (x .end + m * x .period < t) × (a ≡ x .need))
 
 -- at the clock no end is taken
-pub stand-start : (x : Stream) → Stands x 0 (x .end) (x .remaining)
-stand-start x = record { ahead = omega arith; how = inl (refl, refl) }
+pub next-start : (x : Stream) → NextEnd x 0 (x .end) (x .remaining)
+next-start x = record { ahead = omega arith; how = inl (refl, refl) }
 
 later-end : (m k P : ℕ) → m * P < k * P → suc m * P ≤ k * P
 later-end m k P h =
@@ -39,24 +39,24 @@ later-end m k P h =
       | no l ↦ mul-le-mul-right P (omega arith)
     ]
 
-module _ {x : Stream} {t u a : ℕ} (v : Stands x t u a) where
+module _ {x : Stream} {t u a : ℕ} (v : NextEnd x t u a) where
   -- R9: the next end is an end
-  pub stand-end : (k : ℕ) × (u ≡ x .end + k * x .period)
-  stand-end = ⊎-elim (λ w. (0, omega (arith, w .0))) (λ w. (suc (w .0), w .1)) (v .how)
+  pub next-end : (k : ℕ) × (u ≡ x .end + k * x .period)
+  next-end = ⊎-elim (λ w. (0, omega (arith, w .0))) (λ w. (suc (w .0), w .1)) (v .how)
 
   -- R9: and none comes between
-  pub stand-next : (k : ℕ) → t ≤ x .end + k * x .period → u ≤ x .end + k * x .period
-  stand-next k h =
+  pub next-least : (k : ℕ) → t ≤ x .end + k * x .period → u ≤ x .end + k * x .period
+  next-least k h =
       ⊎-elim (λ w. omega (arith, w .0)) (λ w. omega (arith, w .1, later-end (w .0) k (x .period) (omega (arith, w .2)))) (v .how)
 
   -- what falls due is not above a bound on both
-  pub stand-small : (z : ℕ) → x .remaining ≤ z → x .need ≤ z → a ≤ z
-  stand-small z p q = ⊎-elim (λ w. omega (arith, w .1)) (λ w. omega (arith, w .3)) (v .how)
+  pub next-small : (z : ℕ) → x .remaining ≤ z → x .need ≤ z → a ≤ z
+  next-small z p q = ⊎-elim (λ w. omega (arith, w .1)) (λ w. omega (arith, w .3)) (v .how)
 
   -- up to its next end the line stands as it is, and no more was due
   module _ (d : ℕ) (le : t ≤ d) (ge : d ≤ u) where
-    pub stand-on : Stands x d u a
-    stand-on = record { ahead = ge; how = ⊎-elim (λ w. inl w) (λ w. inr (w .0, w .1, omega (arith, w .2), w .3)) (v .how) }
+    pub next-on : NextEnd x d u a
+    next-on = record { ahead = ge; how = ⊎-elim (λ w. inl w) (λ w. inr (w .0, w .1, omega (arith, w .2), w .3)) (v .how) }
 
     pub before-on : dueBefore d x ≡ dueBefore t x
     before-on =
@@ -98,8 +98,8 @@ module _ {x : Stream} {t u a : ℕ} (v : Stands x t u a) where
         (v .how)
 
     -- R9, R10: and it moves on to the end after that, where its need falls due
-    pub stand-taken : Stands x (1 + t) (t + x .period) (x .need)
-    stand-taken = record {
+    pub next-taken : NextEnd x (1 + t) (t + x .period) (x .need)
+    next-taken = record {
       ahead = omega arith;
       how = ⊎-elim (λ w. inr (0, omega (arith, w .0), omega (arith, w .0), refl)) (λ w. inr (suc (w .0), omega (arith, w .1), omega (arith, w .1), refl)) (v .how);
     }
