@@ -60,6 +60,7 @@ static uint32_t no_number(void)
     F(ask, no_result, TABLE, REQUEST)                 \
     F(admit, no_result, TABLE, REQUEST)               \
     F(step, no_result, TABLE)                         \
+    F(leave, no_result, TABLE, 0)                     \
     F(ready, no_result, TABLE)                        \
     F(counts, no_result, TABLE, counted)              \
     F(write_card, no_result, TABLE, REQUEST, OUT)     \

@@ -1,11 +1,12 @@
 /*
- * The pump's boundary for C and C++: numbers and byte buffers only. The rules, R1 to R98, are those of
+ * The pump's boundary for C and C++: numbers and byte buffers only. The rules, R1 to R102, are those of
  * docs/RULES.md.
  *
- * A table stands in 289 bytes that the caller keeps, its image (R81): the lines, and counts of what each
+ * A table stands in 297 bytes that the caller keeps, its image (R81): the lines, and counts of what each
  * has had (R95). A card is a table and a request as bytes (R52 to R55); it carries no count. A request is
- * the need and the period of a new line, and a stretched period for each slot; the entry of a slot that
- * holds no running line is never looked at (R6).
+ * the need and the period of a new line, and a stretched period for each slot: not below the present one,
+ * and equal to it where the line leaves (R25); the entry of a slot that holds no running line is never
+ * looked at (R6).
  *
  * Any bytes of any length may be handed in as an image or a card: what is broken is refused. Every call
  * answers a result, or a plain number where nothing can be refused. A refusal leaves every lent byte as
@@ -32,19 +33,22 @@ extern "C" {
 #endif
 
 /* R93: of the boundary that this header declares. The library's own is trimthuel_version(). */
-#define TRIMTHUEL_VERSION 3
+#define TRIMTHUEL_VERSION 4
 
-/* R81: of the layout of an image, its first byte. An image of version 1, which had no counts, is refused with 11 at 0. */
-#define TRIMTHUEL_IMAGE_VERSION 2
+/*
+ * R81: of the layout of an image, its first byte. An image of version 1, which had no counts, or of version 2,
+ * which had no line that leaves, is refused with 11 at 0.
+ */
+#define TRIMTHUEL_IMAGE_VERSION 3
 
 /* R2: slots of a table. */
 #define TRIMTHUEL_SLOTS 16
 
 /* R81: bytes of an image. */
-#define TRIMTHUEL_TABLE_SIZE 289
+#define TRIMTHUEL_TABLE_SIZE 297
 
-/* R95: counts of a table: one for each slot, then the idle count. */
-#define TRIMTHUEL_COUNTS 17
+/* R95: counts of a table: one for each slot, then the idle count, then the departed count. */
+#define TRIMTHUEL_COUNTS 18
 
 /* R6: numbers of a request: sixteen stretched periods, then need and period. */
 #define TRIMTHUEL_REQUEST_SIZE 18
@@ -61,7 +65,7 @@ extern "C" {
 /*
  * R63: what a call answers. Where the number is 0 it is granted, and the value is what was asked for;
  * the place is 0 unless the function says otherwise. Else the number is a refusal's, the place is the
- * slot or the byte offset that it speaks of or 0 (R21 to R35), and the value is 0.
+ * slot, the number or the byte offset that it speaks of or 0 (R21 to R36), and the value is 0.
  */
 struct trimthuel_result {
     uint64_t number;
@@ -69,7 +73,7 @@ struct trimthuel_result {
     uint64_t value;
 };
 
-/* R21 to R35: why, in words. Refusal n is rule R(20 + n). 12 is no longer given; its number stays taken (R32). */
+/* R21 to R36: why, in words. Refusal n is rule R(20 + n). 12 is no longer given; its number stays taken (R32). */
 static inline const char *trimthuel_why(uint64_t number)
 {
     static const char *const why[] = {
@@ -78,7 +82,7 @@ static inline const char *trimthuel_why(uint64_t number)
         /*  2 */ "no slot is empty",
         /*  3 */ "a line still waits",
         /*  4 */ "a line's numbers are unsound, or more ticks are counted than have gone by",
-        /*  5 */ "a period would be shortened",
+        /*  5 */ "a period would be shortened, or a leaving line's changed",
         /*  6 */ "the new line does not fit its period",
         /*  7 */ "the frame is above 1,000,000",
         /*  8 */ "more than all of the pump is asked for",
@@ -89,6 +93,7 @@ static inline const char *trimthuel_why(uint64_t number)
         /* 13 */ "the buffer is too short",
         /* 14 */ "a period ended short",
         /* 15 */ "the clock's last tick",
+        /* 16 */ "no line is there that could be let go",
     };
 
     return why[number < sizeof why / sizeof *why ? number : 0];
@@ -97,12 +102,12 @@ static inline const char *trimthuel_why(uint64_t number)
 /* R93: the version of the library's boundary. One that is not TRIMTHUEL_VERSION does not fit this header. */
 uint32_t trimthuel_version(void);
 
-/* R50, R90: how often the front lamp blinks for a refusal's number, 1 to 5; 0 for any other number. */
+/* R50, R90: how often the front lamp blinks for the refusals 1 to 15, 1 to 5 times; 0 for any other number, 16 too. */
 uint8_t trimthuel_lamp(uint64_t number);
 
 /* The pump. `table` is an image, and refusal 11 comes before any other (R83). */
 
-/* R85: writes the image of the empty table, with which a pump begins. The value is 289. Refuses with 13. */
+/* R85: writes the image of the empty table, with which a pump begins. The value is 297. Refuses with 13. */
 struct trimthuel_result trimthuel_empty(uint8_t *table, size_t table_len);
 
 /*
@@ -125,14 +130,24 @@ struct trimthuel_result trimthuel_admit(uint8_t *table, size_t table_len, uint16
  */
 struct trimthuel_result trimthuel_step(uint8_t *table, size_t table_len);
 
+/*
+ * R102: lets the line of a slot go. A running line stays up to the end of its period, with the ticks that it is
+ * still owed, and then its slot holds nothing (R46); a waiting one is removed at once. What it has had goes over
+ * to the departed count when it is gone (R101). The value is in how many ticks the slot holds nothing, 0 for a
+ * waiting line. Refuses with 11, then 4, then 16 where the number is no slot's, or the slot holds nothing or a
+ * line that leaves already; the place of 16 is the number as it was named.
+ */
+struct trimthuel_result trimthuel_leave(uint8_t *table, size_t table_len, uint64_t number);
+
 /* R89: the ready word (R49): bit k of the value is 1 where slot k is still owed ticks. Refuses with 11. */
 struct trimthuel_result trimthuel_ready(const uint8_t *table, size_t table_len);
 
 /*
  * R98: what each line has had. counts[k] is the ticks that the line of slot k has had since it was admitted,
- * and counts[TRIMTHUEL_SLOTS] those in which no line ran. The value is the clock: on a table that came from
- * the empty one by these calls alone all counts add up to it (R79); on one that was read from a card they
- * begin at 0. Refuses with 11 alone, and then writes none; what 4 would refuse is shown too.
+ * counts[TRIMTHUEL_SLOTS] those in which no line ran, and counts[TRIMTHUEL_SLOTS + 1] those of lines that are
+ * gone. The value is the clock: on a table that came from the empty one by these calls alone all counts add up
+ * to it (R79); on one that was read from a card they begin at 0. Refuses with 11 alone, and then writes none;
+ * what 4 would refuse is shown too.
  */
 struct trimthuel_result trimthuel_counts(const uint8_t *table, size_t table_len, uint64_t counts[TRIMTHUEL_COUNTS]);
 
@@ -147,7 +162,7 @@ struct trimthuel_result trimthuel_write_card(const uint8_t *table, size_t table_
 
 /*
  * R92: reads a card into an image and a request: the sixteen stretched periods, then need and period. The
- * value is 289. Refuses with 11 at a byte offset of the card, then with 13 where `table` is too short.
+ * value is 297. Refuses with 11 at a byte offset of the card, then with 13 where `table` is too short.
  */
 struct trimthuel_result trimthuel_read_card(const uint8_t *card, size_t card_len, uint8_t *table, size_t table_len,
                                             uint16_t request[TRIMTHUEL_REQUEST_SIZE]);

@@ -51,12 +51,13 @@ static int is(struct trimthuel_result result, uint64_t number, uint64_t place, u
     return result.number == number && result.place == place && result.value == value;
 }
 
+static uint8_t pump[TRIMTHUEL_TABLE_SIZE];
+static uint64_t counts[TRIMTHUEL_COUNTS];
+
 /* A line with 1 tick in every 2 runs at once; one that wants the whole pump beside it is refused (R28). Both ticks are counted (R97). */
 static int pump_is_right(void)
 {
     static const uint16_t none[TRIMTHUEL_SLOTS] = {0}, kept[TRIMTHUEL_SLOTS] = {2};
-    static uint8_t pump[TRIMTHUEL_TABLE_SIZE];
-    static uint64_t counts[TRIMTHUEL_COUNTS];
 
     return trimthuel_version() == TRIMTHUEL_VERSION && is(trimthuel_step(pump, sizeof pump), 11, 0, 0) &&
            is(trimthuel_empty(pump, sizeof pump), 0, 0, TRIMTHUEL_TABLE_SIZE) &&
@@ -68,10 +69,22 @@ static int pump_is_right(void)
            is(trimthuel_counts(pump, sizeof pump, counts), 0, 0, 2) && counts[0] == 1 && counts[TRIMTHUEL_SLOTS] == 1;
 }
 
+/* The line is let go at the beginning of a period, which it still has (R100); what it has had goes with it (R101). */
+static int line_goes(void)
+{
+    return is(trimthuel_leave(pump, sizeof pump, UINT64_MAX), 16, UINT64_MAX, 0) &&
+           is(trimthuel_leave(pump, sizeof pump, 0), 0, 0, 2) && is(trimthuel_leave(pump, sizeof pump, 0), 16, 0, 0) &&
+           is(trimthuel_step(pump, sizeof pump), 0, 0, 0) &&
+           is(trimthuel_step(pump, sizeof pump), 0, 0, TRIMTHUEL_NO_SLOT) &&
+           is(trimthuel_leave(pump, sizeof pump, 0), 16, 0, 0) &&
+           is(trimthuel_counts(pump, sizeof pump, counts), 0, 0, 4) && counts[0] == 0 && counts[TRIMTHUEL_SLOTS] == 2 &&
+           counts[TRIMTHUEL_SLOTS + 1] == 2;
+}
+
 /* Linux enters here with the stack as no caller leaves it, and is left by its call 60. */
 __attribute__((force_align_arg_pointer, noreturn)) void _start(void)
 {
-    long status = pump_is_right() ? 0 : 1;
+    long status = pump_is_right() && line_goes() ? 0 : 1;
 
     for (;;)
         __asm__ volatile("syscall" : : "a"(60L), "D"(status) : "rcx", "r11", "memory");

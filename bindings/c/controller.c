@@ -3,7 +3,8 @@
  *
  * Two lines are admitted, and eight ticks later a bench, for which the first line's period is doubled (case A,
  * R67). Then it prints what the pump does in each of 56 ticks: the slot that it serves, or a dot for none; and
- * what each line has had since it was admitted.
+ * what each line has had since it was admitted. At last the second line is let go, and the same is printed of
+ * the ticks up to its end.
  */
 #include <inttypes.h>
 #include <stdio.h>
@@ -63,6 +64,21 @@ static void admit(uint16_t need, uint16_t period, const uint16_t stretched[TRIMT
         fprintf(stderr, "slot %" PRIu64 " starts at tick %" PRIu64 "\n", line.place, line.value);
 }
 
+/*
+ * R102: a running line stays up to the end of its period, with what that still owes it. Answers in how many ticks
+ * its slot is free; a refusal changes nothing, and then these are none.
+ */
+static uint64_t leave(uint64_t slot)
+{
+    struct trimthuel_result line = trimthuel_leave(pump, sizeof pump, slot);
+
+    if (line.number != 0)
+        report("leave", line);
+    else
+        fprintf(stderr, "slot %" PRIu64 " is free in %" PRIu64 " ticks\n", slot, line.value);
+    return line.value;
+}
+
 /* R88, R89: one tick of the pump; answers the slot that got it. */
 static uint64_t tick(void)
 {
@@ -72,12 +88,26 @@ static uint64_t tick(void)
     return slot;
 }
 
-/* R98: shows what each line has had, and the ticks in which none ran; answers whether they add up to the clock. */
+/* Lets the pump run, and shows who got each tick. */
+static void show_ticks(uint64_t ticks)
+{
+    while (ticks-- > 0) {
+        uint64_t slot = tick();
+
+        putchar(slot == TRIMTHUEL_NO_SLOT ? '.' : "0123456789abcdef"[slot]);
+    }
+    putchar('\n');
+}
+
+/*
+ * R98: shows what each line has had, the ticks in which none ran, and those of lines that are gone; answers whether
+ * they add up to the clock.
+ */
 static int show_counts(void)
 {
     uint64_t counts[TRIMTHUEL_COUNTS];
     uint64_t clock = granted("counts", trimthuel_counts(pump, sizeof pump, counts));
-    uint64_t left = clock;
+    uint64_t idle = counts[TRIMTHUEL_SLOTS], departed = counts[TRIMTHUEL_SLOTS + 1], left = clock;
 
     printf("clock %" PRIu64, clock);
     for (int slot = 0; slot < TRIMTHUEL_SLOTS; slot++) {
@@ -85,9 +115,22 @@ static int show_counts(void)
             printf(", slot %d had %" PRIu64, slot, counts[slot]);
         left -= counts[slot];
     }
-    printf(", idle %" PRIu64 "\n", counts[TRIMTHUEL_SLOTS]);
+    printf(", idle %" PRIu64, idle);
+    if (departed != 0)
+        printf(", departed %" PRIu64, departed);
+    putchar('\n');
     /* No step was refused with 4, so that they are not above the clock (R96), and nothing wraps here. */
-    return left == counts[TRIMTHUEL_SLOTS];
+    return left == idle + departed;
+}
+
+/* Lets the pump run and shows what it did; 0 if the counts do not add up, as they do on every table that came from the empty one (R79). */
+static int show(uint64_t ticks)
+{
+    show_ticks(ticks);
+    if (show_counts())
+        return 1;
+    fputs("the counts do not add up to the clock\n", stderr);
+    return 0;
 }
 
 int main(void)
@@ -106,16 +149,7 @@ int main(void)
     for (int t = 0; t < 8; t++)
         tick();
     admit(1, 4, doubled);
-    for (int t = 0; t < 56; t++) {
-        uint64_t slot = tick();
-
-        putchar(slot == TRIMTHUEL_NO_SLOT ? '.' : "0123456789abcdef"[slot]);
-    }
-    putchar('\n');
-    /* R79: as they do on every table that came from the empty one. */
-    if (!show_counts()) {
-        fputs("the counts do not add up to the clock\n", stderr);
+    if (!show(56) || !show(leave(1)))
         return EXIT_FAILURE;
-    }
     return fclose(stdout) == 0 ? EXIT_SUCCESS : EXIT_FAILURE;
 }

@@ -1,4 +1,4 @@
-//! What the boundary for C and Rust answers (R63 to R66, R85 to R93, R98), by this program's own rules.
+//! What the boundary for C and Rust answers (R63 to R66, R85 to R93, R98, R102), by this program's own rules.
 
 #[cfg(any(test, feature = "house"))]
 mod act;

@@ -1,13 +1,15 @@
 //! The card: reader (R52 to R58), writer (R59), and the line of the answering program (R60, R61).
 
 use crate::rules;
-use crate::types::{Content, Refusal, Request, Run, Table, EMPTY, SLOTS, ZEROS};
+use crate::types::{Content, Follows, Refusal, Request, Run, Table, EMPTY, SLOTS, ZEROS};
 
 /// R53: opens the clock's record.
 const CLOCK: &[u8] = b"CK";
-/// R53: opens a running line's record, five numbers.
+/// R53: opens the record of a running line that renews, five numbers.
 const LINE: &[u8] = b"TB";
-/// R58: opens the same record of the third generation, its two last numbers in the old order.
+/// R53: opens the record of one that leaves, laid out as the same.
+const LEAVING: &[u8] = b"TL";
+/// R58: opens a line's record of the third generation, its two last numbers in the old order.
 const OLD: &[u8] = b"TA";
 /// R53: the whole record of an empty slot.
 const FREE: &[u8] = b"TF";
@@ -82,11 +84,12 @@ fn mark(card: &[u8], offset: usize) -> Result<&[u8], Refusal> {
     record(card, offset, 2)
 }
 
-/// The order that a line's mark means; none for any other mark.
-fn order(mark: &[u8]) -> Option<Order> {
+/// R53, R58: the order that a line's mark means, and what follows the line's period; none for any other mark.
+fn meaning(mark: &[u8]) -> Option<(Order, Follows)> {
     match mark {
-        LINE => Some(Order::AgeFirst),
-        OLD => Some(Order::RemainingFirst),
+        LINE => Some((Order::AgeFirst, Follows::Renews)),
+        LEAVING => Some((Order::AgeFirst, Follows::Leaves)),
+        OLD => Some((Order::RemainingFirst, Follows::Renews)),
         _ => None,
     }
 }
@@ -112,9 +115,9 @@ pub fn parse(card: &[u8]) -> Result<Parsed, Refusal> {
         if slot == SLOTS {
             return Err(broken(offset));
         }
-        if let Some(order) = order(next) {
+        if let Some(meaning) = meaning(next) {
             let bytes = record(card, offset, LINE_LENGTH)?;
-            read_line(bytes, order, slot, &mut parsed);
+            read_line(bytes, meaning, slot, &mut parsed);
             offset += LINE_LENGTH;
         } else if next == FREE {
             offset += FREE_LENGTH;
@@ -140,7 +143,7 @@ fn read_clock(card: &[u8]) -> Result<u64, Refusal> {
 }
 
 /// R53, R58: a line record into its slot, its entry of the request, and its bit of the turned slots.
-fn read_line(bytes: &[u8], order: Order, slot: usize, parsed: &mut Parsed) {
+fn read_line(bytes: &[u8], (order, follows): (Order, Follows), slot: usize, parsed: &mut Parsed) {
     let (first, last) = (number(bytes, 8), number(bytes, 10));
     let (age, remaining) = match order {
         Order::AgeFirst => (first, last),
@@ -151,6 +154,7 @@ fn read_line(bytes: &[u8], order: Order, slot: usize, parsed: &mut Parsed) {
         period: number(bytes, 4),
         age,
         remaining,
+        follows,
     });
     parsed.request.stretched[slot] = number(bytes, 6);
     parsed.turned |= u16::from(order == Order::RemainingFirst) << slot;
@@ -176,8 +180,8 @@ fn read_asked(
     Ok(())
 }
 
-/// R55: the bytes of the card of a table, with empty slots written up to the last running line
-/// only, and each line as TB. A waiting line has no record; the writer refuses it before, and random cards take it as
+/// R55, R59: the bytes of the card of a table, with empty slots written up to the last running line
+/// only, and each line as TB or TL. A waiting line has no record; the writer refuses it before, and random cards take it as
 /// an empty slot.
 pub fn bytes(table: &Table, request: &Request) -> Vec<u8> {
     let mut card = CLOCK.to_vec();
@@ -195,7 +199,10 @@ pub fn bytes(table: &Table, request: &Request) -> Vec<u8> {
 }
 
 fn push_line(card: &mut Vec<u8>, run: &Run, stretched: u16) {
-    card.extend(LINE);
+    card.extend(match run.follows {
+        Follows::Renews => LINE,
+        Follows::Leaves => LEAVING,
+    });
     let numbers = [run.need, run.period, stretched, run.age, run.remaining];
     push_numbers(card, &numbers);
 }
@@ -246,6 +253,7 @@ mod tests {
     use crate::cases::{self, CARD_A};
     use crate::draw;
     use crate::draw_counts;
+    use crate::draw_leaving;
     use crate::orders;
     use crate::random::Random;
     use crate::types::{Wait, LONGEST_CARD, NO_COUNTS};
@@ -269,6 +277,7 @@ mod tests {
 
     const TB: &[u8] = b"TB0123456789";
     const TA: &[u8] = b"TA0123456789";
+    const TL: &[u8] = b"TL0123456789";
     const RQ: &[u8] = b"RQ0123";
 
     #[test]
@@ -316,42 +325,50 @@ mod tests {
         }
     }
 
-    /// R57, R58: a TA record is broken where a TB record would be.
+    /// R57, R58: a TA or a TL record is broken where a TB record would be.
     #[test]
-    fn broken_records_of_the_old_order() {
-        assert_eq!(refusal(b"TA"), (11, 0));
-        assert_eq!(refusal(&card(&[b"TA"])), (11, 10));
-        assert_eq!(refusal(&card(&[TB, b"TF", b"TA01"])), (11, 24));
-        assert_eq!(refusal(&card(&[b"TA012345678"])), (11, 10));
-        assert_eq!(refusal(&card(&[TA])), (11, 22));
-        assert_eq!(refusal(&card(&[TA, b"TF", RQ])), (11, 24));
-        assert_eq!(refusal(&card(&[b"T"])), (11, 10));
-        let full = TB.repeat(16);
-        assert_eq!(refusal(&card(&[&full, b"TA"])), (11, 202));
-        assert_eq!(refusal(&card(&[&full, TA, RQ])), (11, 202));
-        assert_eq!(refusal(&card(&[&TB.repeat(15), b"TA"])), (11, 190));
+    fn broken_records_of_the_old_order_and_of_lines_that_leave() {
+        for whole in [TB, TA, TL] {
+            let mark = &whole[..2];
+            assert_eq!(refusal(mark), (11, 0));
+            assert_eq!(refusal(whole), (11, 0));
+            assert_eq!(refusal(&card(&[mark])), (11, 10));
+            assert_eq!(refusal(&card(&[TB, b"TF", &whole[..4]])), (11, 24));
+            assert_eq!(refusal(&card(&[&whole[..11]])), (11, 10));
+            assert_eq!(refusal(&card(&[whole])), (11, 22));
+            assert_eq!(refusal(&card(&[whole, b"TF", RQ])), (11, 24));
+            assert_eq!(refusal(&card(&[&whole[..1]])), (11, 10));
+            let full = TB.repeat(16);
+            assert_eq!(refusal(&card(&[&full, mark])), (11, 202));
+            assert_eq!(refusal(&card(&[&full, whole, RQ])), (11, 202));
+            assert_eq!(refusal(&card(&[&TB.repeat(15), mark])), (11, 190));
+        }
     }
 
-    /// R58: the same five numbers in either order; in bytes "67" and "89" are the two last ones.
+    /// R53, R58: the same five numbers in either order, under each mark; in bytes "67" and "89" are the two last ones.
     #[test]
-    fn remaining_comes_before_age_in_the_old_order() {
-        let parsed = parse(&card(&[TB, b"TF", TA, RQ])).expect("a whole card");
+    fn what_each_mark_means() {
+        let parsed = parse(&card(&[TB, b"TF", TA, TL, RQ])).expect("a whole card");
         let (sixth, eighth) = (u16::from_le_bytes(*b"67"), u16::from_le_bytes(*b"89"));
-        let line = |age, remaining| {
+        let line = |age, remaining, follows| {
             Content::Running(Run {
                 need: u16::from_le_bytes(*b"01"),
                 period: u16::from_le_bytes(*b"23"),
                 age,
                 remaining,
+                follows,
             })
         };
         let mut slots = EMPTY.slots;
-        slots[0] = line(sixth, eighth);
-        slots[2] = line(eighth, sixth);
+        slots[0] = line(sixth, eighth, Follows::Renews);
+        slots[2] = line(eighth, sixth, Follows::Renews);
+        slots[3] = line(sixth, eighth, Follows::Leaves);
         assert_eq!(parsed.table.slots, slots);
-        let stretched = u16::from_le_bytes(*b"45");
-        assert_eq!(parsed.request.stretched[..4], [stretched, 0, stretched, 0]);
+        let t = u16::from_le_bytes(*b"45");
+        assert_eq!(parsed.request.stretched[..5], [t, 0, t, t, 0]);
         assert_eq!(parsed.turned, 0b100);
+        let anew = [TB, b"TF", b"TB0123458967", TL, RQ];
+        assert_eq!(bytes(&parsed.table, &parsed.request), card(&anew));
     }
 
     #[test]
@@ -360,6 +377,18 @@ mod tests {
         assert_eq!(turned(&card(&[&TA.repeat(16), RQ])), 0xFFFF);
         assert_eq!(turned(&card(&[&TB.repeat(15), TA, RQ])), 0x8000);
         assert_eq!(turned(&card(&[&TB.repeat(16), RQ])), 0);
+        assert_eq!(turned(&card(&[&TL.repeat(15), TA, RQ])), 0x8000);
+        assert_eq!(turned(&card(&[&TL.repeat(16), RQ])), 0);
+    }
+
+    /// Any table, of which half the lines leave, or one near full load.
+    fn drawn(random: &mut Random, round: u64) -> (Table, Request) {
+        if round % 2 == 1 {
+            return draw_leaving::near_full(random);
+        }
+        let (mut table, request) = draw::any(random);
+        draw_leaving::any(random, &mut table);
+        (table, request)
     }
 
     #[test]
@@ -367,10 +396,7 @@ mod tests {
         let mut random = Random::new(33);
         let mut mixed = 0;
         for round in 0..5_000 {
-            let (table, request) = match round % 2 {
-                0 => draw::any(&mut random),
-                _ => draw::near_full(&mut random),
-            };
+            let (table, request) = drawn(&mut random, round);
             let card = orders::drawn(&mut random, &bytes(&table, &request));
             let twin = orders::twin(&card);
             let (parsed, same) = (parse(&card), parse(&twin).expect("a whole card"));
@@ -387,7 +413,7 @@ mod tests {
     #[test]
     fn seventeenth_record_and_bytes_after() {
         let full = TB.repeat(16);
-        for seventeenth in [TB, TA, b"TF", b"TA", b"TB"] {
+        for seventeenth in [TB, TA, TL, b"TF", b"TA", b"TB", b"TL"] {
             assert_eq!(refusal(&card(&[&full, seventeenth, RQ])), (11, 202));
         }
         let longest = card(&[&full, RQ]);
@@ -403,7 +429,9 @@ mod tests {
         assert_eq!(refusal(&card(&[TB, b"TF", b"TF", b"RQ"])), (11, 26));
         assert_eq!(refusal(&card(&[b"TF", RQ, b"x"])), (11, 12));
         assert_eq!(refusal(&card(&[TB, &clock(), RQ])), (11, 22));
-        assert_eq!(refusal(&card(&[b"tb"])), (11, 10));
+        for mark in [b"tb", b"tl", b"Tl", b"LT"] {
+            assert_eq!(refusal(&card(&[mark])), (11, 10));
+        }
         assert_eq!(refusal(&card(&[b"TF"])), (11, 12));
         assert_eq!(refusal(RQ), (11, 0));
     }
@@ -412,10 +440,7 @@ mod tests {
     fn a_written_card_reads_back_with_zeros_in_empty_slots_and_counts() {
         let mut random = Random::new(31);
         for round in 0..5_000 {
-            let (mut table, mut request) = match round % 2 {
-                0 => draw::any(&mut random),
-                _ => draw::near_full(&mut random),
-            };
+            let (mut table, mut request) = drawn(&mut random, round);
             for slot in 0..SLOTS {
                 if table.slots[slot].is_waiting() {
                     table.slots[slot] = Content::Nothing;
@@ -446,7 +471,7 @@ mod tests {
             let mut card = full.clone();
             for _ in 0..random.below(4) {
                 let at = random.below(card.len() as u64) as usize;
-                card[at] = b"TBFARQCK0"[random.below(9) as usize];
+                card[at] = b"TBFALRQCK0"[random.below(10) as usize];
             }
             assert_eq!(read(&card), read(&card[..LONGEST_CARD + 1]));
         }

@@ -1,6 +1,6 @@
 //! R67: cases A to M, and a first few inputs on both sides of a limit; `edges.rs` has the others.
 
-use crate::types::{Content, Refusal, Request, Run, Table, EMPTY, ZEROS};
+use crate::types::{Content, Follows, Refusal, Request, Run, Table, EMPTY, ZEROS};
 
 /// R7: 2^48 − 65,536 in digits of its own, so that the rows hold the program's limit to it.
 pub const LAST_CLOCK: u64 = 281_474_976_645_120;
@@ -16,7 +16,7 @@ pub struct Case {
 /// R67: a line as (C, T, T', age, remaining).
 pub type Line = (u16, u16, u16, u16, u16);
 
-/// R67: the table and the request of a row, lines from slot 0 up.
+/// R67: the table and the request of a row, lines from slot 0 up, all of which renew.
 pub fn row(clock: u64, lines: &[Line], new: (u16, u16)) -> (Table, Request) {
     let (mut table, mut request) = (EMPTY, ZEROS);
     table.clock = clock;
@@ -27,6 +27,7 @@ pub fn row(clock: u64, lines: &[Line], new: (u16, u16)) -> (Table, Request) {
             period,
             age,
             remaining,
+            follows: Follows::Renews,
         });
         request.stretched[slot] = stretched;
     }
@@ -47,6 +48,18 @@ pub fn case(
         table,
         request,
         answer,
+    }
+}
+
+impl Case {
+    /// R99: the same, but that the lines of these slots leave.
+    pub fn leaving(mut self, slots: &[usize]) -> Case {
+        for slot in slots {
+            if let Content::Running(run) = &mut self.table.slots[*slot] {
+                run.follows = Follows::Leaves;
+            }
+        }
+        self
     }
 }
 

@@ -1,9 +1,11 @@
-//! Tables and requests drawn from the generator, for tests, vectors and histories. They have no counts: `draw_counts.rs` draws those.
+//! Tables and requests drawn from the generator, for tests, vectors and histories. They have no counts and no line that leaves:
+//! `draw_counts.rs` and `draw_leaving.rs` draw those.
 
 use crate::random::Random;
 use crate::rules;
 use crate::types::{
-    Content, Request, Run, Table, Wait, EMPTY, LAST_ASK, LAST_TICK, NO_COUNTS, SLOTS, ZEROS,
+    Content, Follows, Request, Run, Table, Wait, EMPTY, LAST_ASK, LAST_TICK, NO_COUNTS, SLOTS,
+    ZEROS,
 };
 
 /// Common multiples with many divisors; most tables take their periods from one of these.
@@ -36,6 +38,7 @@ fn fresh(need: u16, period: u16) -> Run {
         period,
         age: 0,
         remaining: need,
+        follows: Follows::Renews,
     }
 }
 
@@ -267,20 +270,22 @@ fn longer(base: u64, period: u16, times: u64) -> u16 {
     }
 }
 
-/// T' = T × times for seven in eight of the lines that owe nothing and one in eight of the others.
+/// T' = T × times for seven in eight of the lines that owe nothing and one in eight of the others; R25: T' = T for those that leave.
 fn stretched_by(random: &mut Random, base: u64, times: u64, table: &Table) -> Request {
     let mut request = ZEROS;
     for (slot, run) in table.running() {
         let odds = if run.remaining == 0 { 7 } else { 1 };
-        let times = if random.below(8) < odds { times } else { 1 };
+        let longer_too = random.below(8) < odds && !run.leaves();
+        let times = if longer_too { times } else { 1 };
         request.stretched[slot] = longer(base, run.period, times);
     }
     request
 }
 
-/// T' = T × times for the lowest line of which that divides the base.
+/// T' = T × times for the lowest line that renews and of which that divides the base.
 fn stretch_first(base: u64, times: u64, table: &Table, request: &mut Request) {
-    let grows = |(_, run): &(usize, &Run)| longer(base, run.period, times) > run.period;
+    let grows =
+        |(_, run): &(usize, &Run)| !run.leaves() && longer(base, run.period, times) > run.period;
     if let Some((slot, run)) = table.running().find(grows) {
         request.stretched[slot] = longer(base, run.period, times);
     }
@@ -342,6 +347,7 @@ fn content(random: &mut Random) -> Content {
             period,
             age: edge(random),
             remaining: edge(random),
+            follows: Follows::Renews,
         }),
         8 => Content::Waiting(Wait {
             need,

@@ -1,7 +1,7 @@
 //! Counts for a drawn table (R95): such as a run could have left, and too many of them (R96), in each way on its own.
 
 use crate::random::Random;
-use crate::types::{Content, Table, COUNTS, NO_COUNTS, SLOTS};
+use crate::types::{Content, Table, COUNTS, IDLE, NO_COUNTS, SLOTS};
 
 /// Counts that add up to 2^64, which is 0 to a sum that wraps.
 const WRAPPING: [&[u64]; 3] = [&[1 << 63; 2], &[1 << 60; SLOTS], &[u64::MAX, 1]];
@@ -10,18 +10,24 @@ fn any_place(random: &mut Random) -> usize {
     random.below(COUNTS as u64) as usize
 }
 
-/// So many ticks shared out among the slots that hold a line, and the rest of them idle, or now and then beside the lowest
-/// slot that holds nothing.
+/// So many ticks shared out among the slots that hold a line and, half of the time, the lines that are gone; and the rest of them
+/// idle, or now and then beside the lowest slot that holds nothing.
 fn share(random: &mut Random, table: &mut Table, ticks: u64) {
     table.counts = NO_COUNTS;
     let mut left = ticks;
-    for slot in (0..SLOTS).filter(|slot| table.slots[*slot] != Content::Nothing) {
+    let mut part = |random: &mut Random| {
         let part = random.wide(left.saturating_add(1));
-        table.counts.had[slot] = part;
         left -= part;
+        part
+    };
+    if random.below(2) == 0 {
+        table.counts.departed = part(random);
+    }
+    for slot in (0..SLOTS).filter(|slot| table.slots[*slot] != Content::Nothing) {
+        table.counts.had[slot] = part(random);
     }
     let rest = table.lowest_empty().filter(|_| random.below(4) == 0);
-    *table.counts.at_mut(rest.unwrap_or(SLOTS)) = left;
+    *table.counts.at_mut(rest.unwrap_or(IDLE)) = left;
 }
 
 /// Some of the ticks that have gone by, as after a card was read (R56) and the pump has run.
@@ -68,10 +74,11 @@ fn beside_nothing(random: &mut Random, table: &mut Table) {
     }
 }
 
-/// The idle count alone above the clock, by one or by far.
-fn idle_alone(random: &mut Random, table: &mut Table) {
+/// The idle count or the departed one alone above the clock, by one or by far.
+fn one_alone(random: &mut Random, table: &mut Table) {
     table.counts = NO_COUNTS;
-    table.counts.idle = match random.below(3) {
+    let place = IDLE + random.below(2) as usize;
+    *table.counts.at_mut(place) = match random.below(3) {
         0 => u64::MAX,
         _ => table.clock.saturating_add(1 + random.below(3)),
     };
@@ -95,7 +102,7 @@ pub fn too_many(random: &mut Random, table: &mut Table) {
         0 | 1 => one_above(random, table),
         2 => wrapping(random, table),
         3 => beside_nothing(random, table),
-        4 => idle_alone(random, table),
+        4 => one_alone(random, table),
         _ => any(random, table),
     }
 }
@@ -119,7 +126,7 @@ mod tests {
             wrapping(random, &mut table);
             let sum = table.counts.sum();
             assert!(sum > clock && sum % (1 << 64) <= clock, "{sum}");
-            idle_alone(random, &mut table);
+            one_alone(random, &mut table);
             assert!(table.counts.had == [0; SLOTS] && table.is_overcounted());
             beside_nothing(random, &mut table);
             assert!(table.is_overcounted());

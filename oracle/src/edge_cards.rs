@@ -35,6 +35,11 @@ const OLD: &[u8] = b"TA\xB6\x0C\x72\x0D\x58\x16\xCD\x0B\xD9\x09";
 const SECOND_OLD: &[u8] = b"TA\x4F\x08\xC7\x26\x24\x36\xF5\x02\x82\x03";
 const MARKED: &[u8] = b"TA\xB6\x0C\x72\x0D\x58\x16\xD9\x09\xCD\x0B";
 const SECOND_MARKED: &[u8] = b"TA\x4F\x08\xC7\x26\x24\x36\x82\x03\xF5\x02";
+/// R53: both lines with T' for their T, and leaving; age and remaining exchanged; and the first merely marked, with its T.
+const LEAVING: &[u8] = b"TL\xB6\x0C\x58\x16\x58\x16\xD9\x09\xCD\x0B";
+const LEAVING_BACK: &[u8] = b"TL\xB6\x0C\x58\x16\x58\x16\xCD\x0B\xD9\x09";
+const SECOND_LEAVING: &[u8] = b"TL\x4F\x08\x24\x36\x24\x36\x82\x03\xF5\x02";
+const STRETCHED: &[u8] = b"TL\xB6\x0C\x72\x0D\x58\x16\xD9\x09\xCD\x0B";
 
 /// R52, R53: every number in its place, its lower byte first.
 ///
@@ -193,7 +198,83 @@ fn old_forms() -> Vec<EdgeCard> {
     ]
 }
 
-/// Every card with its line.
+/// R53: the card of `numbers` with lines that leave. The start lies between the first ends, so that it is the same.
+fn leaving_numbers() -> Vec<EdgeCard> {
+    let card =
+        |name, first, second, line| edge(name, &[CLOCK, FREE, first, FREE, second, ASKED], line);
+    let (said, exchanged) = ("release 116940353647775\n", "release 116940353647275\n");
+    vec![
+        card("TL and TB", LEAVING, SECOND, said),
+        card("TL and TA", LEAVING, SECOND_OLD, said),
+        card("TB and TL", FIRST, SECOND_LEAVING, said),
+        card("TA and TL", OLD, SECOND_LEAVING, said),
+        card("TL and TL", LEAVING, SECOND_LEAVING, said),
+        card("TL, exchanged", LEAVING_BACK, SECOND_BACK, exchanged),
+        card("TL, T' longer", STRETCHED, SECOND, "refused 5 1\n"),
+    ]
+}
+
+/// R57: the mark TL in each place, whole and cut, as TA in `old_marks`; the first line alone is behind its share (R29).
+fn leaving_marks() -> Vec<EdgeCard> {
+    let (fifteen, sixteen) = (FIRST.repeat(15), FIRST.repeat(16));
+    let no_clock = [b"TL", &CLOCK[2..], FIRST, ASKED];
+    let card = |name, records: &[&[u8]], line| edge(name, &[&[CLOCK], records].concat(), line);
+    vec![
+        card("TL, whole", &[LEAVING, ASKED], "refused 9 0\n"),
+        card("TL, its mark only", &[b"TL"], "refused 11 10\n"),
+        card("TL, then nothing", &[LEAVING], "refused 11 22\n"),
+        card("TL, cut", &[FIRST, &LEAVING[..11]], "refused 11 22\n"),
+        card("TF after TL", &[LEAVING, FREE, ASKED], "refused 11 24\n"),
+        edge("TL for CK", &no_clock, "refused 11 0\n"),
+        edge("TL alone", &[LEAVING], "refused 11 0\n"),
+        card(
+            "the sixteenth TL",
+            &[&fifteen, LEAVING, ASKED],
+            "refused 2 0\n",
+        ),
+        card(
+            "the seventeenth TL",
+            &[&sixteen, LEAVING, ASKED],
+            "refused 11 202\n",
+        ),
+        card(
+            "the seventeenth TL, cut",
+            &[&sixteen, b"TL"],
+            "refused 11 202\n",
+        ),
+    ]
+}
+
+/// R55: cards of light lines that leave, (1, 64, 64, 0, 1), with (1, 4): no start is later than the clock.
+fn leaving_lengths() -> Vec<EdgeCard> {
+    let light: &[u8] = b"TL\x01\x00\x40\x00\x40\x00\x00\x00\x01\x00";
+    let (fifteen, sixteen) = (light.repeat(15), light.repeat(16));
+    let eight: &[u8] = b"CK\x08\x00\x00\x00\x00\x00\x00\x00";
+    let quarter: &[u8] = b"RQ\x01\x00\x04\x00";
+    let card =
+        |name, records: &[&[u8]], line| edge(name, &[&[eight], records, &[quarter]].concat(), line);
+    vec![
+        card("one TL", &[light], "release 8\n"),
+        card("TL after TF", &[FREE, light], "release 8\n"),
+        card("fifteen TL", &[&fifteen], "release 8\n"),
+        card("sixteen TL", &[&sixteen], "refused 2 0\n"),
+        card("seventeen TL", &[&sixteen, light], "refused 11 202\n"),
+        // The R of RQ is taken for the record's last byte, and no mark begins with Q.
+        card(
+            "TL a byte short, then RQ",
+            &[&light[..11]],
+            "refused 11 22\n",
+        ),
+    ]
+}
+
+/// The cards with lines that leave. They stand by themselves, so that no card of the stored set moves.
+pub fn leaving() -> Vec<EdgeCard> {
+    let all = [leaving_numbers(), leaving_marks(), leaving_lengths()];
+    all.into_iter().flatten().collect()
+}
+
+/// Every other card with its line.
 pub fn all() -> Vec<EdgeCard> {
     [
         numbers(),

@@ -13,8 +13,9 @@ const SHRUNK: Line = (1, 16, 15, 0, 1);
 /// R34: one of two such lines ends short.
 const LATE: Line = (1, 16, 16, 15, 1);
 
-/// R2, R81: the idle count's place, behind those of the slots.
+/// R2, R81: the places of the idle count and of the departed one, behind those of the slots.
 const IDLE: usize = 16;
+const DEPARTED: usize = 17;
 
 /// R7: 2^48 in digits of its own, as `LAST_CLOCK`.
 const LAST: u64 = 281_474_976_710_656;
@@ -67,6 +68,10 @@ fn sums() -> Vec<Edge> {
         at("one more, a slot's", &[(0, 5), (IDLE, 6)]).both(four),
         at("the idle count equal", &[(IDLE, 10)]),
         at("the idle count above", &[(IDLE, 11)]).both(four),
+        at("the departed count equal", &[(DEPARTED, 10)]),
+        at("the departed count above", &[(DEPARTED, 11)]).both(four),
+        at("equal, all three", &[(0, 3), (IDLE, 3), (DEPARTED, 4)]),
+        at("one more, departed", &[(0, 3), (IDLE, 3), (DEPARTED, 5)]).both(four),
         at("beside nothing, equal", &[(15, 10)]),
         at("beside nothing, above", &[(15, 11)]).both(four),
         edge("clock 0", 0, &[SOUND], &[]),
@@ -94,13 +99,18 @@ fn wide_sums() -> Vec<Edge> {
     vec![
         at("two halves", &[(0, 1 << 63), (1, 1 << 63)]),
         at("two halves, one idle", &[(15, 1 << 63), (IDLE, 1 << 63)]),
+        at(
+            "two halves, none a slot's",
+            &[(IDLE, 1 << 63), (DEPARTED, 1 << 63)],
+        ),
         at("sixteen sixteenths", &Vec::from_iter(all(1 << 60).take(16))),
         at(
-            "sixteen behind slot 0",
-            &Vec::from_iter(all(1 << 60).skip(1)),
+            "sixteen behind slot 1",
+            &Vec::from_iter(all(1 << 60).skip(2)),
         ),
         at("2^64 - 1 and 1", &[(0, u64::MAX), (1, 1)]),
         at("1 and 2^64 - 1", &[(0, 1), (IDLE, u64::MAX)]),
+        at("1 idle and 2^64 - 1", &[(IDLE, 1), (DEPARTED, u64::MAX)]),
         at("2^64 and the clock", &[(0, u64::MAX), (1, 11)]),
         at("2^64 - 1 alone", &[(7, u64::MAX)]),
         at("2^64 - 1 everywhere", &Vec::from_iter(all(u64::MAX))),
@@ -198,10 +208,10 @@ fn each_tick_is_counted_once() {
 /// R42: the new line's slot alone, whatever stood beside it while it held nothing; a stretched line keeps its own.
 #[test]
 fn an_admission_sets_one_count_to_0() {
-    // 1 to 17 add up to 153.
+    // 1 to 18 add up to 171.
     let counts: Vec<(usize, u64)> = (0..COUNTS).map(|place| (place, 1 + place as u64)).collect();
     let case_a = [(8, 16, 32, 8, 0), (8, 16, 16, 8, 8)];
-    for (lines, clock) in [(&case_a[..], 153), (&[SOUND; 2][..], 200)] {
+    for (lines, clock) in [(&case_a[..], 171), (&[SOUND; 2][..], 200)] {
         let Edge { table, request, .. } = edge("", clock, lines, &counts);
         let (_, next) = admit(&table, &request).expect("in order");
         let mut wanted = table.counts;

@@ -4,7 +4,8 @@
 //! Most starts are the clock, for one reason: a line of age 0, and one that owes nothing, has at no tick
 //! a demand above C / T' of the time gone by, so that with R28 passed the excess is never above 0.
 
-use crate::cases::{case, refused, Case, Line, LAST_CLOCK};
+use crate::cases::{self, case, refused, Case, Line, LAST_CLOCK};
+use crate::edge_leaving;
 
 /// R5: a sound line, and the same with one tick too many owed.
 const SOUND: Line = (1, 16, 16, 0, 1);
@@ -120,4 +121,10 @@ pub fn rows() -> Vec<Case> {
         .into_iter()
         .flatten()
         .collect()
+}
+
+/// Every row that has its answer beside it: the cases, these edges, and those of lines that leave.
+pub fn stated() -> impl Iterator<Item = Case> {
+    let edges = rows().into_iter().chain(edge_leaving::rows());
+    cases::all().into_iter().chain(edges)
 }

@@ -1,4 +1,4 @@
-//! Random histories over the C boundary (R63 to R66, R85 to R93, R98), done by the project's library and by the rules side by
+//! Random histories over the C boundary (R63 to R66, R85 to R93, R98, R102), done by the project's library and by the rules side by
 //! side. After every call both have told the same, and every byte and number that lies on their desks is the same. The
 //! first difference ends the comparison, and is shown as a short history in words.
 
@@ -43,8 +43,8 @@ fn compared(library: Doer, calls: u64, seed: u64, tally: &mut Tally) -> Option<S
     None
 }
 
-/// Compares at least so many calls; true when none differs, each refusal was met that is given at all, and so was all that the
-/// counts can meet.
+/// Compares at least so many calls; true when none differs, each refusal was met that is given at all, and so was all that can be
+/// met of the counts and of lines that leave.
 #[cfg(feature = "house")]
 pub fn compare(calls: u64, seed: u64) -> bool {
     let begun = std::time::Instant::now();
@@ -64,7 +64,7 @@ pub fn compare(calls: u64, seed: u64) -> bool {
         println!("refusals that were not met, or met though they are not given: {amiss:?}");
     }
     if !unmet.is_empty() {
-        println!("what the counts did not meet: {unmet:?}");
+        println!("what was not met: {unmet:?}");
     }
     amiss.is_empty() && unmet.is_empty()
 }

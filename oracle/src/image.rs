@@ -1,13 +1,13 @@
 //! The image of a table (R81 to R84): judge, reader and writer.
 
 use crate::card;
-use crate::types::{Content, Refusal, Run, Table, Wait, COUNTS, EMPTY, SLOTS};
+use crate::types::{Content, Follows, Refusal, Run, Table, Wait, COUNTS, EMPTY, SLOTS};
 
 /// R81: bytes of every image.
-pub const LENGTH: usize = 289;
+pub const LENGTH: usize = 297;
 
 /// R81: the only version there is.
-pub const VERSION: u8 = 2;
+pub const VERSION: u8 = 3;
 
 /// R81: where the clock and slot 0 stand, and the bytes of a slot.
 pub const CLOCK: usize = 1;
@@ -22,13 +22,14 @@ pub const COUNT_LENGTH: usize = 8;
 const NOTHING: u8 = 0;
 const RUNNING: u8 = 1;
 const WAITING: u8 = 2;
+const LEAVING: u8 = 3;
 
 /// R81: where slot k begins.
 pub fn slot_at(slot: usize) -> usize {
     FIRST_SLOT + SLOT_LENGTH * slot
 }
 
-/// R81: where the count of slot k begins; that of a seventeenth is the idle count.
+/// R81: where the count of slot k begins; behind that of slot 15 stand the idle count and the departed one.
 pub fn count_at(place: usize) -> usize {
     FIRST_COUNT + COUNT_LENGTH * place
 }
@@ -53,7 +54,7 @@ fn is_wrong(image: &[u8], offset: usize) -> bool {
     }
     let byte_of_slot = (offset - FIRST_SLOT) % SLOT_LENGTH;
     if byte_of_slot == 0 {
-        return byte > WAITING;
+        return byte > LEAVING;
     }
     let kind = image[offset - byte_of_slot];
     is_blank(kind, byte_of_slot) && byte != 0
@@ -82,23 +83,28 @@ pub fn clock(image: &[u8]) -> u64 {
     long_number(image, CLOCK)
 }
 
-/// R81: a count of an image that is long enough to have it; the seventeenth is the idle count.
+/// R81: a count of an image that is long enough to have it, by its place among the eighteen.
 pub fn count(image: &[u8], place: usize) -> u64 {
     long_number(image, count_at(place))
 }
 
-/// R81: what a slot of an image that is long enough to have it holds; R83 has let no fourth kind through.
+/// R81: what a slot of an image that is long enough to have it holds; R83 has let no fifth kind through.
 pub fn content(image: &[u8], slot: usize) -> Content {
     let at = slot_at(slot);
     let (need, period) = (number(image, at + 1), number(image, at + 3));
-    match image[at] {
-        NOTHING => Content::Nothing,
-        RUNNING => Content::Running(Run {
+    let running = |follows| {
+        Content::Running(Run {
             need,
             period,
             age: number(image, at + 5),
             remaining: number(image, at + 7),
-        }),
+            follows,
+        })
+    };
+    match image[at] {
+        NOTHING => Content::Nothing,
+        RUNNING => running(Follows::Renews),
+        LEAVING => running(Follows::Leaves),
         _ => Content::Waiting(Wait {
             need,
             period,
@@ -127,7 +133,10 @@ pub fn read(image: &[u8]) -> Result<Table, Refusal> {
 fn kind_and_numbers(content: &Content) -> (u8, [u16; 4]) {
     match content {
         Content::Nothing => (NOTHING, [0; 4]),
-        Content::Running(run) => (RUNNING, [run.need, run.period, run.age, run.remaining]),
+        Content::Running(run) => {
+            let kind = if run.leaves() { LEAVING } else { RUNNING };
+            (kind, [run.need, run.period, run.age, run.remaining])
+        }
         Content::Waiting(line) => (WAITING, [line.need, line.period, line.wait, 0]),
     }
 }
@@ -158,16 +167,20 @@ mod tests {
     use crate::cases;
     use crate::draw;
     use crate::draw_counts;
+    use crate::draw_leaving;
     use crate::random::Random;
 
     /// Slots of each kind, and no byte of their numbers and of the counts is 0 or, among the counts, like another.
-    fn three_kinds() -> Table {
-        let run = Content::Running(Run {
-            need: 0x0201,
-            period: 0x0403,
-            age: 0x0605,
-            remaining: 0x0807,
-        });
+    fn all_kinds() -> Table {
+        let run = |follows| {
+            Content::Running(Run {
+                need: 0x0201,
+                period: 0x0403,
+                age: 0x0605,
+                remaining: 0x0807,
+                follows,
+            })
+        };
         let wait = Content::Waiting(Wait {
             need: 0x0A09,
             period: 0x0C0B,
@@ -175,8 +188,9 @@ mod tests {
         });
         let mut table = EMPTY;
         table.clock = 0x1817_1615_1413_1211;
-        (table.slots[0], table.slots[2]) = (run, wait);
-        (table.slots[14], table.slots[15]) = (wait, run);
+        (table.slots[0], table.slots[2]) = (run(Follows::Renews), wait);
+        (table.slots[3], table.slots[13]) = (run(Follows::Leaves), run(Follows::Renews));
+        (table.slots[14], table.slots[15]) = (wait, run(Follows::Leaves));
         for place in 0..COUNTS {
             let above = 0x0808_0808_0808_0808 * place as u64;
             *table.counts.at_mut(place) = 0x2726_2524_2322_2120 + above;
@@ -199,56 +213,60 @@ mod tests {
     #[test]
     fn the_layout_byte_by_byte() {
         let mut wanted = vec![
-            2, 0x11, 0x12, 0x13, 0x14, 0x15, 0x16, 0x17, 0x18, // version, clock
-            1, 1, 2, 3, 4, 5, 6, 7, 8, // slot 0 runs
+            3, 0x11, 0x12, 0x13, 0x14, 0x15, 0x16, 0x17, 0x18, // version, clock
+            1, 1, 2, 3, 4, 5, 6, 7, 8, // slot 0 runs and renews
             0, 0, 0, 0, 0, 0, 0, 0, 0, // slot 1
             2, 9, 10, 11, 12, 13, 14, 0, 0, // slot 2 waits
+            3, 1, 2, 3, 4, 5, 6, 7, 8, // slot 3 runs and leaves
         ];
-        wanted.extend([0; 11 * 9]);
-        wanted.extend([2, 9, 10, 11, 12, 13, 14, 0, 0]);
+        wanted.extend([0; 9 * 9]);
         wanted.extend([1, 1, 2, 3, 4, 5, 6, 7, 8]);
+        wanted.extend([2, 9, 10, 11, 12, 13, 14, 0, 0]);
+        wanted.extend([3, 1, 2, 3, 4, 5, 6, 7, 8]);
         assert_eq!(wanted.len(), 153);
-        wanted.extend(0x20..0x20 + 17 * 8);
-        assert_eq!(bytes(&three_kinds()), wanted);
-        assert_eq!(wanted.len(), 289);
-        assert_eq!(read(&wanted), Ok(three_kinds()));
+        wanted.extend(0x20..0x20 + 18 * 8);
+        assert_eq!(bytes(&all_kinds()), wanted);
+        assert_eq!(wanted.len(), 297);
+        assert_eq!(read(&wanted), Ok(all_kinds()));
     }
 
     #[test]
     fn the_empty_table() {
-        let mut wanted = [0; 289];
-        wanted[0] = 2;
+        let mut wanted = [0; 297];
+        wanted[0] = 3;
         assert_eq!(bytes(&EMPTY), wanted);
         assert_eq!(read(&wanted), Ok(EMPTY));
     }
 
     #[test]
-    fn the_idle_count_stands_last() {
-        let mut idle = EMPTY;
-        idle.counts.idle = u64::MAX;
-        assert_eq!(bytes(&idle)[281..], [255; 8]);
-        assert_eq!(bytes(&idle)[..281], bytes(&EMPTY)[..281]);
-        let mut last = EMPTY;
+    fn slot_15_then_idle_then_departed() {
+        let [mut last, mut idle, mut departed] = [EMPTY; 3];
         last.counts.had[15] = u64::MAX;
-        assert_eq!(bytes(&last)[273..], [&[255; 8][..], &[0; 8]].concat());
+        idle.counts.idle = u64::MAX;
+        departed.counts.departed = u64::MAX;
+        for (table, at) in [(last, 273), (idle, 281), (departed, 289)] {
+            let mut wanted = bytes(&EMPTY);
+            wanted[at..at + 8].fill(255);
+            assert_eq!(bytes(&table), wanted, "{at}");
+        }
     }
 
     #[test]
-    fn version_2_alone() {
-        let image = bytes(&three_kinds());
+    fn version_3_alone() {
+        let image = bytes(&all_kinds());
         for version in 0..=255 {
-            let wanted = (version != 2).then_some(0);
+            let wanted = (version != 3).then_some(0);
             assert_eq!(refused(&with(&image, 0, version)), wanted, "{version}");
         }
     }
 
     #[test]
-    fn kinds_up_to_2() {
+    fn kinds_up_to_3() {
         let zeros = bytes(&EMPTY);
         for slot in 0..SLOTS {
             let at = 9 + 9 * slot;
             for kind in 0..=255 {
-                let wanted = (kind > 2).then_some(at);
+                let wanted = (kind > 3).then_some(at);
                 assert_eq!(refused(&with(&zeros, at, kind)), wanted, "{slot} {kind}");
             }
         }
@@ -258,12 +276,12 @@ mod tests {
     fn each_blank_byte() {
         for slot in 0..SLOTS {
             let at = 9 + 9 * slot;
-            for kind in 0..=2 {
+            for kind in 0..=3 {
                 let image = with(&bytes(&EMPTY), at, kind);
                 let blank = match kind {
                     0 => 1..9,
-                    1 => 9..9,
-                    _ => 7..9,
+                    2 => 7..9,
+                    _ => 9..9,
                 };
                 for byte_of_slot in 1..9 {
                     let offset = at + byte_of_slot;
@@ -278,30 +296,30 @@ mod tests {
 
     #[test]
     fn every_length() {
-        let mut long = bytes(&three_kinds());
+        let mut long = bytes(&all_kinds());
         long.extend([0; 20]);
         for length in 0..long.len() {
             let wanted = match length {
-                289 => None,
-                0..=288 => Some(length),
-                _ => Some(289),
+                297 => None,
+                0..=296 => Some(length),
+                _ => Some(297),
             };
             assert_eq!(refused(&long[..length]), wanted, "{length}");
         }
         // The length is wrong at its own offset, whatever the last byte that is there belongs to.
-        for length in [0, 1, 8, 9, 152, 153, 281, 288, 290] {
-            assert_eq!(refused(&long[..length]), Some(length.min(289)));
+        for length in [0, 1, 8, 9, 152, 153, 281, 289, 296, 298] {
+            assert_eq!(refused(&long[..length]), Some(length.min(297)));
         }
     }
 
     #[test]
     fn a_fault_before_a_wrong_length_and_one_behind_it() {
-        let mut long = bytes(&three_kinds());
+        let mut long = bytes(&all_kinds());
         long.push(0);
         // The kinds of slots 0, 5 and 15, two blank bytes, and the version.
         for offset in [0, 9, 18 + 1, 27 + 7, 27 + 8, 54, 144] {
-            let broken = with(&long, offset, 3);
-            for length in 0..=290 {
+            let broken = with(&long, offset, 4);
+            for length in 0..=298 {
                 let wanted = offset.min(length);
                 assert_eq!(
                     refused(&broken[..length]),
@@ -325,20 +343,20 @@ mod tests {
     }
 
     #[test]
-    fn a_buffer_of_289_bytes_against_288() {
-        let table = three_kinds();
-        let mut buffer = [7; 296];
-        let short = write(&table, &mut buffer[..288]);
-        assert_eq!((short, buffer), (Err(Refusal::at(13, 0)), [7; 296]));
+    fn a_buffer_of_297_bytes_against_296() {
+        let table = all_kinds();
+        let mut buffer = [7; 304];
+        let short = write(&table, &mut buffer[..296]);
+        assert_eq!((short, buffer), (Err(Refusal::at(13, 0)), [7; 304]));
         assert_eq!(write(&table, &mut []), Err(Refusal::at(13, 0)));
-        assert_eq!(write(&table, &mut buffer[..289]), Ok(289));
+        assert_eq!(write(&table, &mut buffer[..297]), Ok(297));
         assert_eq!(
-            (&buffer[..289], &buffer[289..]),
+            (&buffer[..297], &buffer[297..]),
             (&bytes(&table)[..], &[7; 7][..])
         );
-        buffer = [8; 296];
-        assert_eq!(write(&table, &mut buffer), Ok(289));
-        assert_eq!(&buffer[289..], [8; 7]);
+        buffer = [8; 304];
+        assert_eq!(write(&table, &mut buffer), Ok(297));
+        assert_eq!(&buffer[297..], [8; 7]);
     }
 
     #[test]
@@ -349,6 +367,7 @@ mod tests {
                 0 => draw::any(&mut random),
                 _ => draw::damaged(&mut random),
             };
+            draw_leaving::any(&mut random, &mut table);
             draw_counts::any(&mut random, &mut table);
             assert_eq!(read(&bytes(&table)), Ok(table));
         }
@@ -366,7 +385,7 @@ mod tests {
 
     #[test]
     fn every_change_of_one_byte() {
-        for table in [EMPTY, three_kinds()] {
+        for table in [EMPTY, all_kinds()] {
             let image = bytes(&table);
             let mut reading = 0;
             for offset in 0..LENGTH {
@@ -378,7 +397,7 @@ mod tests {
                 }
             }
             // R83: each byte of the counts may be any.
-            assert!((34_816 + 2_000..73_984).contains(&reading), "{reading}");
+            assert!((36_864 + 2_000..76_032).contains(&reading), "{reading}");
         }
     }
 
@@ -389,9 +408,9 @@ mod tests {
         for _ in 0..5_000 {
             let mut image = bytes(&draw::any(&mut random).0);
             for _ in 0..1 + random.below(3) {
-                let offset = random.below(289) as usize;
+                let offset = random.below(297) as usize;
                 let kind = offset < 153 && offset % 9 == 0;
-                image[offset] = random.below(if kind { 4 } else { 256 }) as u8;
+                image[offset] = random.below(if kind { 5 } else { 256 }) as u8;
             }
             reading += usize::from(written_back_if_it_reads(&image));
         }

@@ -5,13 +5,17 @@ mod bench;
 mod boundary;
 mod card;
 mod cases;
+#[cfg(test)]
+mod departures;
 mod digest;
 mod draw;
 #[cfg(any(test, feature = "house"))]
 mod draw_counts;
+mod draw_leaving;
 mod edge_cards;
 #[cfg(test)]
 mod edge_counts;
+mod edge_leaving;
 mod edges;
 mod esit;
 #[cfg(any(test, feature = "house"))]

@@ -1,11 +1,12 @@
-//! Cards whose line records stand in either order (R53, R58), made byte by byte: neither the reader nor the writer has a
-//! part in it.
+//! Cards whose line records stand in either order (R53, R58), or are of lines that leave, made byte by byte: neither the reader
+//! nor the writer has a part in it.
 
 use crate::random::Random;
 
 /// R53, R58: the marks of a line's record, and where its two last numbers begin.
 const PRESENT: &[u8] = b"TB";
 const OLD: &[u8] = b"TA";
+const LEAVING: &[u8] = b"TL";
 const TWO_LAST: usize = 8;
 
 /// The slots' records from the front, each with its slot, offset and mark; the last one may be cut.
@@ -13,7 +14,7 @@ fn records(card: &[u8]) -> Vec<(usize, usize, &[u8])> {
     let (mut all, mut at) = (Vec::new(), 10);
     while let Some(mark) = card.get(at..at + 2) {
         let length = match mark {
-            PRESENT | OLD => 12,
+            PRESENT | OLD | LEAVING => 12,
             b"TF" => 2,
             _ => break,
         };
@@ -84,6 +85,17 @@ pub fn drawn(random: &mut Random, card: &[u8]) -> Vec<u8> {
     drawn
 }
 
+/// A card of which half the TB records are TL.
+pub fn some_leaving(random: &mut Random, card: &[u8]) -> Vec<u8> {
+    let mut drawn = card.to_vec();
+    for (_, at, found) in records(card) {
+        if found == PRESENT && random.below(2) == 0 {
+            mark(&mut drawn, at, LEAVING);
+        }
+    }
+    drawn
+}
+
 #[cfg(test)]
 mod tests {
     use super::*;
@@ -102,5 +114,17 @@ mod tests {
         assert_eq!(old, wanted.concat());
         assert_eq!((twin(&old), old_slots(&old)), (CARD_A.to_vec(), 3));
         assert_eq!((twin(&CARD_A), old_slots(&CARD_A)), (CARD_A.to_vec(), 0));
+    }
+
+    /// R72: a TL record stands as it is, before one that is turned and behind it.
+    #[test]
+    fn a_line_that_leaves_stays_as_it_is() {
+        for (at, slots) in [(10, 0b10), (22, 0b01)] {
+            let mut card = CARD_A.to_vec();
+            mark(&mut card, at, LEAVING);
+            let old = old(&card);
+            assert_eq!(old[at..at + 12], card[at..at + 12]);
+            assert_eq!((twin(&old), old_slots(&old)), (card, slots));
+        }
     }
 }

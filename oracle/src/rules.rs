@@ -1,5 +1,5 @@
-//! The rules of docs/RULES.md: refusals 1 to 10 in their order (R18), ask, admit, step, what is counted
-//! (R97), lamp, ready word.
+//! The rules of docs/RULES.md: refusals 1 to 10 in their order (R18), ask, admit, step, leave, what is counted
+//! (R97, R101), lamp, ready word.
 //!
 //! Nothing here computes a start by a formula. The excess is summed from its definition for one
 //! tick after the other, and the starts are tried one after the other. Times are counted from
@@ -9,10 +9,10 @@
 //!
 //! R13 looks at every tick, however late. Let F be the frame, L the last end, r a start,
 //! M = max(L, r), and t ≥ M. Every running line is past its first end and the new line has started,
-//! so from t to t + F the whole periods of a running line rise by exactly F / T' (F is a multiple of
-//! T', and ⌊(x + F) / T'⌋ = ⌊x / T'⌋ + F / T'), and those of the new line by exactly F / Tn. The
-//! demand therefore rises by F × load, and the excess by F × (load − 1), which is not above 0 once
-//! R28 is passed. So
+//! so from t to t + F the whole periods of a line that renews rise by exactly F / T' (F is a multiple of
+//! T', and ⌊(x + F) / T'⌋ = ⌊x / T'⌋ + F / T'), those of the new line by exactly F / Tn, and the demand
+//! of a line that leaves not at all. The demand therefore rises by at most F × load, and the excess by at
+//! most F × (load − 1), which is not above 0 once R28 is passed. So
 //! excess(t + F) ≤ excess(t) for every t ≥ M: an excess above 0 anywhere from M + F on would stand
 //! already one frame earlier, and step by step in M .. M + F − 1. Looking at every tick of
 //! 0 .. M + F − 1 settles all t. For the running lines alone (R30) the same holds with
@@ -23,13 +23,14 @@
 //! Once R28, R29 and R30 are passed, the start r = L is smooth, so at most L + 1 starts are tried.
 //! Before L the new line demands nothing and the running lines alone have no excess above 0 (R30).
 //! For t ≥ L, dropping the floor only adds: a running line demands at most
-//! c + C × (t − (T' − a)) / T' = (c − C + C × a / T') + t × C / T', and the new line at most
-//! (t − r) × Cn / Tn ≤ t × Cn / Tn. The brackets sum to at most 0 (R29), the rest to at most
-//! t × load ≤ t (R28). The search does not use this; it only ends because of it, and the answer
-//! fits sixteen bits as T' − a does.
+//! c + C × (t − (T' − a)) / T' = (c − C + C × a / T') + t × C / T' (one that leaves demands c, the first
+//! summand alone), and the new line at most (t − r) × Cn / Tn ≤ t × Cn / Tn. The brackets sum to at most
+//! 0 (R29), the rest to at most t × load ≤ t (R28). The search does not use this; it only ends because of
+//! it, and the answer fits sixteen bits as T' − a does.
 
 use crate::types::{
-    Content, Counts, Refusal, Request, Run, Table, Wait, FRAME_LIMIT, LAST_ASK, LAST_TICK, SLOTS,
+    Content, Counts, Follows, Refusal, Request, Run, Table, Wait, FRAME_LIMIT, LAST_ASK, LAST_TICK,
+    SLOTS,
 };
 
 /// A running line under a request: the line with its T'.
@@ -44,6 +45,23 @@ impl Stretched {
     /// R9, counted from t0. Refusals 4 and 5 are passed, so a < T ≤ T'.
     fn first_end(&self) -> usize {
         usize::from(self.stretched).saturating_sub(usize::from(self.run.age))
+    }
+
+    /// R9, counted from t0: every T' ticks an end, or the first alone.
+    fn ends_before(&self, ticks: usize) -> impl Iterator<Item = usize> {
+        let all = (self.first_end()..ticks).step_by(usize::from(self.stretched).max(1));
+        all.take(match self.run.follows {
+            Follows::Renews => usize::MAX,
+            Follows::Leaves => 1,
+        })
+    }
+
+    /// R25: the period of a line that renews may not be shortened, that of one that leaves not be changed.
+    fn is_ill_stretched(&self) -> bool {
+        match self.run.follows {
+            Follows::Renews => self.stretched < self.run.period,
+            Follows::Leaves => self.stretched != self.run.period,
+        }
     }
 }
 
@@ -143,14 +161,13 @@ impl<'a> Outlook<'a> {
     }
 }
 
-/// R10, R12: a line's demand rises by c at its first end and by C at each end after that; the excess
-/// is what all demands come to, less the ticks since t0.
+/// R10, R12: a line's demand rises by c at its first end and by C at each end after that, if it has one, and never
+/// falls; the excess is what all demands come to, less the ticks since t0.
 fn running_excess(lines: &[Stretched], ticks: usize) -> Vec<i64> {
     let mut rise = vec![0i64; ticks];
     for line in lines {
         let mut amount = i64::from(line.run.remaining);
-        let ends = (line.first_end()..ticks).step_by(usize::from(line.stretched).max(1));
-        for end in ends {
+        for end in line.ends_before(ticks) {
             rise[end] += amount;
             amount = i64::from(line.run.need);
         }
@@ -196,7 +213,7 @@ fn refuse_plain(table: &Table, request: &Request, lines: &[Stretched]) -> Result
     if let Some(place) = fault(table) {
         return refuse(4, place);
     }
-    if let Some(line) = lines.iter().find(|l| l.stretched < l.run.period) {
+    if let Some(line) = lines.iter().find(|l| l.is_ill_stretched()) {
         return refuse(5, line.slot);
     }
     if request.need < 1 || request.need > request.period {
@@ -268,8 +285,8 @@ pub fn admit(table: &Table, request: &Request) -> Result<(u64, Table), Refusal> 
     Ok((start, admitted(table, request, start)))
 }
 
-/// R42, R43: periods stretched, ages and remainings kept, the new line in the lowest empty slot, which has
-/// had nothing yet. Also used for starts that are only tried.
+/// R42, R43: periods stretched, ages, remainings and what follows kept, the new line in the lowest empty slot, which
+/// has had nothing yet. Also used for starts that are only tried.
 pub fn admitted(table: &Table, request: &Request, start: u64) -> Table {
     let mut next = *table;
     for slot in 0..SLOTS {
@@ -295,13 +312,14 @@ fn new_line(request: &Request, wait: u64) -> Content {
     Content::Waiting(Wait { need, period, wait })
 }
 
-/// R43, R46, R47: a line at the beginning of a period.
+/// R43, R46, R47: a line at the beginning of a period, which renews.
 fn begin(need: u16, period: u16) -> Content {
     Content::Running(Run {
         need,
         period,
         age: 0,
         remaining: need,
+        follows: Follows::Renews,
     })
 }
 
@@ -323,7 +341,13 @@ pub fn step(table: &Table) -> Result<(Table, Option<usize>), Refusal> {
         *content = older(*content).ok_or(Refusal::at(14, slot))?;
     }
     next.clock += 1;
+    // R101: the tick is counted before the line that got it is gone.
     count(&mut next.counts, ran);
+    for slot in 0..SLOTS {
+        if table.slots[slot].is_leaving() && next.slots[slot] == Content::Nothing {
+            depart(&mut next.counts, slot);
+        }
+    }
     Ok((next, ran))
 }
 
@@ -333,6 +357,39 @@ fn count(counts: &mut Counts, ran: Option<usize>) {
     match ran {
         Some(slot) => counts.had[slot] += 1,
         None => counts.idle += 1,
+    }
+}
+
+/// R101: what the line of a slot has had is had by lines that are gone. R96 has let through no more counts than the clock, and so
+/// two of them together are a number of 64 bits too.
+fn depart(counts: &mut Counts, slot: usize) {
+    counts.departed += counts.had[slot];
+    counts.had[slot] = 0;
+}
+
+/// R100: the lines and the counts are tested first, then the number. In how many ticks the slot holds nothing, and the next table.
+#[cfg(any(test, feature = "house"))]
+pub fn leave(table: &Table, number: u64) -> Result<(u64, Table), Refusal> {
+    if let Some(place) = fault(table) {
+        return Err(Refusal::at(4, place));
+    }
+    let none = Refusal {
+        number: 16,
+        place: number,
+    };
+    let slot = (0..SLOTS).find(|slot| *slot as u64 == number).ok_or(none)?;
+    let mut next = *table;
+    match &mut next.slots[slot] {
+        Content::Running(run) if run.follows == Follows::Renews => {
+            run.follows = Follows::Leaves;
+            Ok((u64::from(run.period - run.age), next))
+        }
+        content if content.is_waiting() => {
+            *content = Content::Nothing;
+            depart(&mut next.counts, slot);
+            Ok((0, next))
+        }
+        _ => Err(none),
     }
 }
 
@@ -354,6 +411,7 @@ fn older(content: Content) -> Option<Content> {
             ..run
         })),
         Content::Running(run) if run.remaining > 0 => None,
+        Content::Running(run) if run.leaves() => Some(Content::Nothing),
         Content::Running(run) => Some(begin(run.need, run.period)),
         Content::Waiting(line) if line.wait > 1 => Some(Content::Waiting(Wait {
             wait: line.wait - 1,
@@ -389,6 +447,7 @@ mod tests {
     use crate::cases;
     use crate::draw;
     use crate::draw_counts;
+    use crate::draw_leaving;
     use crate::edges;
     use crate::random::Random;
     use crate::types::EMPTY;
@@ -398,6 +457,9 @@ mod tests {
         let first_end = i64::from(line.stretched) - i64::from(line.run.age);
         if t < first_end {
             return 0;
+        }
+        if line.run.leaves() {
+            return i64::from(line.run.remaining);
         }
         let whole = (t - first_end) / i64::from(line.stretched);
         i64::from(line.run.remaining) + i64::from(line.run.need) * whole
@@ -415,7 +477,7 @@ mod tests {
 
     #[test]
     fn every_stated_answer() {
-        for case in cases::all().into_iter().chain(edges::rows()) {
+        for case in edges::stated() {
             assert_eq!(
                 ask(&case.table, &case.request),
                 case.answer,
@@ -438,7 +500,7 @@ mod tests {
     fn summed_excess_is_the_defined_one() {
         let mut random = Random::new(11);
         for _ in 0..200 {
-            let (table, request) = draw::small(&mut random);
+            let (table, request) = draw_leaving::small(&mut random);
             if refuse_plain(&table, &request, &stretched_lines(&table, &request)).is_err() {
                 continue;
             }
@@ -454,7 +516,7 @@ mod tests {
         let mut random = Random::new(12);
         let (mut answered, mut later) = (0, 0);
         for _ in 0..3_000 {
-            let (table, request) = draw::small(&mut random);
+            let (table, request) = draw_leaving::small(&mut random);
             let Ok(start) = ask(&table, &request) else {
                 continue;
             };
@@ -474,7 +536,7 @@ mod tests {
     fn looking_before_the_last_end_gives_the_same() {
         let mut random = Random::new(13);
         for _ in 0..3_000 {
-            let (table, request) = draw::small(&mut random);
+            let (table, request) = draw_leaving::small(&mut random);
             assert_eq!(ask(&table, &request), ask_before_last_end(&table, &request));
         }
     }
@@ -484,6 +546,7 @@ mod tests {
         let mut random = Random::new(14);
         for _ in 0..20_000 {
             let (mut table, request) = draw::any(&mut random);
+            draw_leaving::any(&mut random, &mut table);
             match random.below(3) {
                 0 => draw_counts::any(&mut random, &mut table),
                 1 => draw_counts::too_many(&mut random, &mut table),
@@ -492,6 +555,7 @@ mod tests {
             let asked = ask(&table, &request);
             assert_eq!(admit(&table, &request).map(|(start, _)| start), asked);
             let _ = step(&table);
+            let _ = leave(&table, random.below(20));
             let _ = ready(&table);
         }
     }
@@ -521,13 +585,14 @@ mod tests {
             period: 32,
             age: 8,
             remaining: 0,
+            follows: Follows::Renews,
         };
         assert_eq!(next.slots[0], Content::Running(stretched));
     }
 
     #[test]
     fn admitted_cases_run_without_a_short_period() {
-        for case in cases::all().into_iter().chain(edges::rows()) {
+        for case in edges::stated() {
             let Ok((_, mut table)) = admit(&case.table, &case.request) else {
                 continue;
             };
@@ -555,6 +620,7 @@ mod tests {
                 period: 4,
                 age,
                 remaining,
+                follows: Follows::Renews,
             })
         };
         let last = LAST_TICK;

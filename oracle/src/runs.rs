@@ -1,28 +1,80 @@
-//! R79: over runs (R73), what is counted against a list of the slots that ran, kept here.
+//! R79, R80: over runs (R73), what is counted against a list of the slots that ran, kept here, and what becomes of a line that is
+//! asked to leave.
 
 use crate::draw;
 use crate::random::Random;
 use crate::rules;
-use crate::types::{Request, Table, EMPTY, SLOTS};
+use crate::types::{Content, Follows, Request, Run as Line, Table, EMPTY, SLOTS};
 
 /// All periods divide it, so that they can be stretched.
 const BASE: u64 = 10_080;
 const RUNS: u64 = 3_000;
 const ACTS: u64 = 24;
 
-/// A run: its table, the slots that ran, tick by tick, and how many ticks there were when each slot's line was admitted.
+/// R80: a line that was asked to leave: how many ticks there were then and will be at its end, the ticks that it was owed, and itself.
+#[derive(Clone, Copy)]
+struct Asked {
+    since: usize,
+    end: usize,
+    line: Line,
+}
+
+/// A run: its table, the slots that ran, tick by tick, how many ticks there were when each slot's line was admitted, and of the
+/// lines that leave when they were asked; and how many ticks the lines had that are gone.
 struct Run {
     table: Table,
     ran: Vec<Option<usize>>,
     admitted: [Option<usize>; SLOTS],
+    asked: [Option<Asked>; SLOTS],
+    departed: u64,
 }
 
 impl Run {
+    fn new() -> Run {
+        Run {
+            table: EMPTY,
+            ran: Vec::new(),
+            admitted: [None; SLOTS],
+            asked: [None; SLOTS],
+            departed: 0,
+        }
+    }
+
     fn step(&mut self) {
         // R74: no step of a run is refused.
         let (next, slot) = rules::step(&self.table).expect("a run");
         self.ran.push(slot);
         self.table = next;
+        for slot in 0..SLOTS {
+            if let Some(asked) = self.asked[slot] {
+                self.stays_or_is_gone(slot, &asked);
+            }
+        }
+    }
+
+    /// R80: it stays up to its end with its need and its period, is served as often as it was owed, and is gone then.
+    fn stays_or_is_gone(&mut self, slot: usize, asked: &Asked) {
+        let served = self.named(asked.since, Some(slot));
+        if self.ran.len() == asked.end {
+            assert_eq!(served, u64::from(asked.line.remaining));
+            self.goes(slot);
+            return;
+        }
+        let wanted = Line {
+            age: asked.line.age + (self.ran.len() - asked.since) as u16,
+            remaining: asked.line.remaining - served as u16,
+            follows: Follows::Leaves,
+            ..asked.line
+        };
+        assert_eq!(self.table.slots[slot], Content::Running(wanted));
+    }
+
+    /// R101: a line is gone, and what it had is had by lines that are gone.
+    fn goes(&mut self, slot: usize) {
+        assert_eq!(self.table.slots[slot], Content::Nothing);
+        let admitted = self.admitted[slot].take().expect("a line");
+        self.departed += self.named(admitted, Some(slot));
+        self.asked[slot] = None;
     }
 
     /// True if it is granted.
@@ -33,6 +85,29 @@ impl Run {
         let new = (0..SLOTS).find(|slot| self.admitted[*slot].is_none());
         self.admitted[new.expect("R22")] = Some(self.ran.len());
         self.table = next;
+        true
+    }
+
+    /// True if it is granted; R36: so it is where a line is that was not asked yet.
+    fn leave(&mut self, slot: usize) -> bool {
+        let there = self.admitted[slot].is_some() && self.asked[slot].is_none();
+        let (held, left) = (
+            self.table.slots[slot],
+            rules::leave(&self.table, slot as u64),
+        );
+        assert_eq!(left.is_ok(), there);
+        let Ok((ticks, next)) = left else {
+            return false;
+        };
+        self.table = next;
+        match held {
+            Content::Running(line) => {
+                let since = self.ran.len();
+                let end = since + ticks as usize;
+                self.asked[slot] = Some(Asked { since, end, line });
+            }
+            _ => self.goes(slot),
+        }
         true
     }
 
@@ -49,7 +124,8 @@ impl Run {
             assert_eq!(counts.had[slot], wanted, "slot {slot}");
         }
         assert_eq!(counts.idle, self.named(0, None));
-        let all = counts.had.iter().sum::<u64>() + counts.idle;
+        assert_eq!(counts.departed, self.departed);
+        let all = counts.had.iter().sum::<u64>() + counts.idle + counts.departed;
         assert_eq!((all, self.ran.len() as u64), (self.table.clock, all));
     }
 }
@@ -65,6 +141,9 @@ fn half(random: &mut Random, table: &Table) -> Request {
 /// Some lines stretched, and a new line for all or nearly all that this leaves.
 fn freed(random: &mut Random, table: &Table) -> Request {
     let times = 2 + random.below(3);
+    if random.below(2) == 0 {
+        return draw::rest(random, BASE, times, table);
+    }
     let mut request = draw::stretched(random, BASE, times, table);
     let left = draw::room(BASE, table, &request);
     draw::newcomer(random, BASE, left, &mut request);
@@ -83,28 +162,47 @@ fn request(random: &mut Random, table: &Table) -> Request {
     drawn.find(waits).unwrap_or_else(|| freed(random, table))
 }
 
+/// What is done in a run, and met.
+#[derive(Clone, Copy)]
+enum Done {
+    Granted,
+    Refused,
+    LetGo,
+    Removed,
+    Stepped,
+}
+
+/// R73: an act of any kind; while a line waits it is often removed, and while the pump is not full new lines are admitted.
+fn act(random: &mut Random, run: &mut Run) -> Done {
+    let waiting = run.table.lowest(Content::is_waiting);
+    let slot = waiting.unwrap_or(random.below(6) as usize);
+    let full = run.table.lowest_empty() >= Some(2);
+    match random.below(if full { 8 } else { 3 }) {
+        0 | 1 if run.admit(&request(random, &run.table)) => Done::Granted,
+        0 | 1 => Done::Refused,
+        2 | 3 if waiting.is_some() && run.leave(slot) => Done::Removed,
+        2 if random.below(4) == 0 && run.leave(slot) => Done::LetGo,
+        _ => {
+            (0..1 + random.below(12)).for_each(|_| run.step());
+            Done::Stepped
+        }
+    }
+}
+
 #[test]
 fn every_tick_is_accounted_for() {
     let mut random = Random::new(71);
-    let random = &mut random;
-    let (mut granted, mut refused, mut waiting, mut idle) = (0, 0, 0, 0);
+    let (mut done, mut waiting, mut idle, mut departed) = ([0; 5], 0, 0, 0);
     for _ in 0..RUNS {
-        let mut run = Run {
-            table: EMPTY,
-            ran: Vec::new(),
-            admitted: [None; SLOTS],
-        };
+        let mut run = Run::new();
         for _ in 0..ACTS {
-            match random.below(6) {
-                0 if run.admit(&request(random, &run.table)) => granted += 1,
-                0 => refused += 1,
-                _ => (0..1 + random.below(12)).for_each(|_| run.step()),
-            }
+            done[act(&mut random, &mut run) as usize] += 1;
             run.is_accounted_for();
-            waiting += u64::from(run.table.slots.iter().any(|content| content.is_waiting()));
+            waiting += u64::from(run.table.lowest(Content::is_waiting).is_some());
         }
         idle += run.table.counts.idle;
+        departed += run.table.counts.departed;
     }
-    let seen = [granted, refused, waiting, idle];
+    let seen = [&done[..], &[waiting, idle, departed]].concat();
     assert!(seen.iter().all(|times| *times > 100), "{seen:?}");
 }

@@ -1,5 +1,5 @@
-//! The sample cards: cases A to M, cards of the old order, a broken card of each kind, and a card for each
-//! refusal of ask that no case has. Refusal 3 has none, as a card carries no waiting line.
+//! The sample cards: cases A to M, cards of the old order and with lines that leave, a broken card of each kind, and a card for
+//! each refusal of ask that no case has. Refusal 3 has none, as a card carries no waiting line.
 
 use crate::card;
 use crate::cases::{letters, refused, row, Case, Line, CARD_A, LAST_CLOCK};
@@ -50,6 +50,25 @@ fn old_orders() -> Vec<Sample> {
     [("mixed-order", mixed), ("old-order", old)].map(of).into()
 }
 
+/// R53: a line that leaves, without which, or with its ticks wanted no more when it is gone, the start would be 0; and case E with
+/// every mark, of which the start would be 45 if its first line renewed. `edge_leaving.rs` says why.
+fn leaving() -> Vec<Sample> {
+    let owed = [(2, 8, 8, 6, 2), (2, 8, 8, 4, 2), (4, 16, 16, 0, 0)];
+    let e = [(1, 4, 4, 0, 1), (16, 64, 64, 52, 8), (16, 32, 64, 12, 0)];
+    let first = with_mark(&card_of(0, &owed, (1, 4)), 10, b"TL");
+    let e = with_mark(&card_of(40, &e, (1, 4)), 10, b"TL");
+    let (before, last) = (&e[..34], &orders::old(&e)[34..]);
+    let mixed = [&before[..22], b"TF", &before[22..], last].concat();
+    let of = |(name, bytes, start)| Sample {
+        name,
+        bytes,
+        answer: Ok(start),
+    };
+    [("leaving", first, 1), ("mixed-marks", mixed, 40)]
+        .map(of)
+        .into()
+}
+
 /// Equal lines with time to spare; R55: sixteen make the longest card.
 fn equal_lines(lines: usize) -> Vec<u8> {
     card_of(0, &[(1, 64, 64, 0, 1); 16][..lines], (1, 64))
@@ -65,9 +84,10 @@ fn broken() -> Vec<Sample> {
     let seventeenth = [&full[..202], &full[190..]].concat();
     let free = [before, b"TF", asked].concat();
     let misplaced = [first, &a[..10], second, asked].concat();
-    let cut_old = with_mark(&a[..30], 22, b"TA");
+    let [cut_leaving, cut_old] = [b"TL", b"TA"].map(|mark| with_mark(&a[..30], 22, mark));
     vec![
         sample("broken-byte-after", [a, &b"\0"[..]].concat(), 11, 40),
+        sample("broken-cut-leaving-record", cut_leaving, 11, 22),
         sample("broken-cut-old-record", cut_old, 11, 22),
         sample("broken-cut-record", a[..30].to_vec(), 11, 22),
         sample("broken-empty", Vec::new(), 11, 0),
@@ -89,13 +109,15 @@ const NEW: (u16, u16) = (1, 8);
 fn one_fault() -> Vec<Sample> {
     let late = card_of(LAST_CLOCK + 1, &FINE, NEW);
     let (mut unsound, mut shortened) = (FINE, FINE);
-    // R5: an age of T. R25: a T' of T − 1.
+    // R5: an age of T. R25: a T' of T − 1, and one of 2 × T of a line that leaves.
     unsound[2].3 = 32;
     shortened[1].2 = 15;
+    let stretched = with_mark(&card_of(40, &FINE, NEW), 34, b"TL");
     vec![
         sample("refused-1-late-clock", late, 1, 0),
         sample("refused-2-full", equal_lines(16), 2, 0),
         sample("refused-4-unsound", card_of(40, &unsound, NEW), 4, 2),
+        sample("refused-5-leaving-stretched", stretched, 5, 2),
         sample("refused-5-shortened", card_of(40, &shortened, NEW), 5, 1),
         sample("refused-6-no-fit", card_of(40, &FINE, (9, 8)), 6, 0),
     ]
@@ -103,7 +125,7 @@ fn one_fault() -> Vec<Sample> {
 
 /// Every sample card.
 pub fn all() -> Vec<Sample> {
-    [cases(), old_orders(), broken(), one_fault()]
+    [cases(), old_orders(), leaving(), broken(), one_fault()]
         .into_iter()
         .flatten()
         .collect()
@@ -137,7 +159,7 @@ mod tests {
             let said = match sample.name.split('-').collect::<Vec<_>>()[..] {
                 ["broken", ..] => number == 11,
                 ["refused", said, ..] => said == number.to_string(),
-                [_, "order"] => number == 0,
+                ["leaving"] | [_, "order" | "marks"] => number == 0,
                 _ => sample.name.len() == 1,
             };
             assert!(said, "{}", sample.name);
@@ -151,6 +173,28 @@ mod tests {
             orders::old_slots(&sample.bytes)
         });
         assert_eq!(slots.collect::<Vec<_>>(), [0b10, 0b11]);
+    }
+
+    /// R67, case E, and the table that `edge_leaving.rs` begins with.
+    #[test]
+    fn the_start_is_another_if_the_line_renews_or_is_not_there() {
+        let answers = leaving().into_iter().map(|sample| {
+            let renewing = with_mark(&sample.bytes, 10, b"TB");
+            let without = [&sample.bytes[..10], b"TF", &sample.bytes[22..]].concat();
+            [renewing, without].map(|card| card::judge(&card))
+        });
+        let wanted = [[Ok(1), Ok(0)], [Ok(45), Ok(40)]];
+        assert_eq!(answers.collect::<Vec<_>>(), wanted);
+    }
+
+    /// R53: each mark of a slot's record stands on it, and the twin keeps all but TA.
+    #[test]
+    fn every_mark_stands_on_one_card() {
+        let mixed = leaving().pop().expect("a sample").bytes;
+        let marks = [10, 22, 24, 36].map(|at| &mixed[at..at + 2]);
+        assert_eq!(marks, [b"TL", b"TF", b"TB", b"TA"]);
+        assert_eq!(orders::old_slots(&mixed), 0b1000);
+        assert_eq!(orders::twin(&mixed)[..36], mixed[..36]);
     }
 
     #[test]

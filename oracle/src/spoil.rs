@@ -3,17 +3,21 @@
 use crate::card;
 use crate::cases;
 use crate::draw;
+#[cfg(any(test, feature = "house"))]
+use crate::draw_leaving;
+use crate::orders;
 use crate::random::Random;
 use crate::types::{EMPTY, SLOTS, ZEROS};
 
-/// R53: the marks that are put in each other's places, and some that are none.
+/// R53: the marks that are put in each other's places, and some that are none; `leaving` has what TL adds.
 const MARKS: [&[u8]; 12] = [
     b"CK", b"TB", b"TF", b"TA", b"RQ", b"XX", b"tb", b"ck", b"BT", b"T\0", b"TG", b"\0\0",
 ];
 
-/// A whole TB, TA and RQ record and a clock record, with numbers that a sound line may have.
+/// A whole TB, TA, TL and RQ record and a clock record, with numbers that a sound line may have.
 const LINE: &[u8] = b"TB\x01\x00\x40\x00\x40\x00\x00\x00\x01\x00";
 const OLD: &[u8] = b"TA\x01\x00\x40\x00\x40\x00\x01\x00\x00\x00";
+const LEAVING: &[u8] = b"TL\x01\x00\x40\x00\x40\x00\x00\x00\x01\x00";
 const ASKED: &[u8] = b"RQ\x01\x00\x04\x00";
 const CLOCK: &[u8] = b"CK\x08\x00\x00\x00\x00\x00\x00\x00";
 
@@ -146,6 +150,40 @@ pub fn named() -> Vec<Vec<u8>> {
     .concat()
 }
 
+/// R57: TL, and marks that are nearly it, in the place of each mark of the longest card and of card A.
+fn leaving_marks() -> Vec<Vec<u8>> {
+    let full = equal_lines(SLOTS);
+    let mut cards = Vec::new();
+    for mark in [b"TL", b"Tl", b"tL", b"LT", b"TK", b"TM"] {
+        cards.extend([0, 10, 22, 34].map(|at| with_mark(&cases::CARD_A, at, mark)));
+    }
+    cards.extend(offsets(SLOTS).iter().map(|at| with_mark(&full, *at, b"TL")));
+    cards
+}
+
+/// R57: TL after some lines, cut to every length and whole, with and without more records after it.
+fn leaving_records() -> Vec<Vec<u8>> {
+    let mut cards = vec![LEAVING.to_vec()];
+    for lines in [0, 1, 2, 14, 15, 16] {
+        let before = &[CLOCK, &LINE.repeat(lines)].concat()[..];
+        cards.extend((1..=12).map(|cut| [before, &LEAVING[..cut]].concat()));
+        cards.push([before, LEAVING, ASKED].concat());
+        cards.push([before, LEAVING, &ASKED[..5]].concat());
+        cards.push([before, LEAVING, b"TF", ASKED].concat());
+        cards.push([before, b"TF", LEAVING, ASKED].concat());
+        cards.push([before, LEAVING, OLD, b"TF", LINE, ASKED].concat());
+    }
+    for seventeenth in [LINE, OLD, LEAVING, b"TF", b"TL", b"XX", b"", b"RQ"] {
+        cards.push([CLOCK, &LEAVING.repeat(16), seventeenth, ASKED].concat());
+    }
+    cards
+}
+
+/// The same for TL (R53). It stands by itself, so that no card of the stored set moves.
+pub fn leaving() -> Vec<Vec<u8>> {
+    [leaving_marks(), leaving_records()].concat()
+}
+
 /// A card of any table whatever; waiting lines cannot stand on a card.
 fn any_card(random: &mut Random) -> Vec<u8> {
     let (table, request) = draw::any(random);
@@ -190,15 +228,30 @@ pub fn random_card(random: &mut Random) -> Vec<u8> {
     card
 }
 
-/// A random card of one of the kinds of the histories: near full load, wide, damaged, any, broken.
+/// The same, half of its TB records TL.
+pub fn random_leaving_card(random: &mut Random) -> Vec<u8> {
+    let card = random_card(random);
+    orders::some_leaving(random, &card)
+}
+
+/// A random card of one of the kinds of the histories: near full load, wide, damaged, any, broken; R99: of about half of them some
+/// lines leave.
 #[cfg(any(test, feature = "house"))]
 pub fn mixed_card(random: &mut Random) -> Vec<u8> {
     let of = |(table, request)| card::bytes(&table, &request);
     match random.below(100) {
-        0..=59 => of(draw::near_full(random)),
+        0..=35 => of(draw::near_full(random)),
+        36..=47 => of(draw_leaving::near_full(random)),
+        48..=59 => of(draw_leaving::hurried(random)),
         60 => of(draw::wide(random)),
-        61..=74 => of(draw::damaged(random)),
-        75..=79 => of(draw::any(random)),
-        _ => random_card(random),
+        61..=67 => of(draw::damaged(random)),
+        68..=74 => of(draw_leaving::damaged(random)),
+        75 | 76 => of(draw::any(random)),
+        77..=79 => {
+            let card = of(draw::any(random));
+            orders::some_leaving(random, &card)
+        }
+        80..=89 => random_card(random),
+        _ => random_leaving_card(random),
     }
 }

@@ -14,12 +14,12 @@ use std::path::Path;
 /// R67 and the edges: nothing is stored unless each has the answer that is written out beside it.
 fn check_stated() -> io::Result<()> {
     let differs = |name: &str| Err(io::Error::other(format!("{name}: another answer")));
-    for row in cases::all().into_iter().chain(edges::rows()) {
+    for row in edges::stated() {
         if card::judge(&card::bytes(&row.table, &row.request)) != row.answer {
             return differs(row.name);
         }
     }
-    for edge in edge_cards::all() {
+    for edge in edge_cards::all().into_iter().chain(edge_cards::leaving()) {
         if card::answer(&edge.bytes) != edge.line {
             return differs(edge.name);
         }

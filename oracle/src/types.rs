@@ -1,13 +1,17 @@
-//! Tables, lines, counts, requests and refusals (R2 to R8, R17, R95) as types of this program's own.
+//! Tables, lines, counts, requests and refusals (R2 to R8, R17, R95, R99) as types of this program's own.
 
 use std::fmt;
 
 /// R2: slots of a table.
 pub const SLOTS: usize = 16;
 
-/// R95: counts of a table: one for each slot, and the idle count.
+/// R95: counts of a table: one for each slot, the idle count and the departed count.
 #[cfg(any(test, feature = "house"))]
-pub const COUNTS: usize = SLOTS + 1;
+pub const COUNTS: usize = SLOTS + 2;
+
+/// R81, R98: where the idle count stands among them; the departed count is the last.
+#[cfg(any(test, feature = "house"))]
+pub const IDLE: usize = SLOTS;
 
 /// R7: where the clock stops.
 pub const LAST_TICK: u64 = 1 << 48;
@@ -21,13 +25,21 @@ pub const FRAME_LIMIT: u64 = 1_000_000;
 /// R55: bytes of a card with all sixteen slots in use.
 pub const LONGEST_CARD: usize = 208;
 
-/// R3: C, T, a and c of a line that runs.
+/// R99: what follows the present period of a line that runs: its next one, or an empty slot.
+#[derive(Clone, Copy, Debug, PartialEq, Eq)]
+pub enum Follows {
+    Renews,
+    Leaves,
+}
+
+/// R3: C, T, a and c of a line that runs, and what follows its period.
 #[derive(Clone, Copy, Debug, PartialEq, Eq)]
 pub struct Run {
     pub need: u16,
     pub period: u16,
     pub age: u16,
     pub remaining: u16,
+    pub follows: Follows,
 }
 
 /// R3: C, T and w of a line that has not started yet.
@@ -46,17 +58,20 @@ pub enum Content {
     Waiting(Wait),
 }
 
-/// R95: the ticks that the present line of each slot has had since it was admitted, and those in which no line ran.
+/// R95: the ticks that the present line of each slot has had since it was admitted, those in which no line ran, and those of
+/// lines that are gone.
 #[derive(Clone, Copy, Debug, PartialEq, Eq)]
 pub struct Counts {
     pub had: [u64; SLOTS],
     pub idle: u64,
+    pub departed: u64,
 }
 
 /// R4, R56: nothing is counted yet.
 pub const NO_COUNTS: Counts = Counts {
     had: [0; SLOTS],
     idle: 0,
+    departed: 0,
 };
 
 /// R2: a clock, 16 slots and their counts.
@@ -114,6 +129,11 @@ impl fmt::Display for Refusal {
 }
 
 impl Run {
+    /// R99: it is in its last period.
+    pub fn leaves(&self) -> bool {
+        self.follows == Follows::Leaves
+    }
+
     /// R5: a need within the period, no more owed than that, the period not over.
     pub fn is_sound(&self) -> bool {
         1 <= self.need
@@ -144,27 +164,37 @@ impl Content {
     pub fn is_waiting(&self) -> bool {
         matches!(self, Content::Waiting(_))
     }
+
+    /// True for a slot that holds a running line that leaves.
+    pub fn is_leaving(&self) -> bool {
+        matches!(self, Content::Running(run) if run.leaves())
+    }
 }
 
 impl Counts {
-    /// R96: all of them together, exact: seventeen numbers of 64 bits are far from the end of 128.
+    /// R96: all of them together, exact: eighteen numbers of 64 bits are far from the end of 128.
     pub fn sum(&self) -> u128 {
         let had: u128 = self.had.iter().map(|ticks| u128::from(*ticks)).sum();
-        had + u128::from(self.idle)
+        had + u128::from(self.idle) + u128::from(self.departed)
     }
 
-    /// R81, R98: in their order, slot 0 first and the idle count last.
+    /// R81, R98: in their order: slot 0 first, then the idle count, then the departed one.
     #[cfg(any(test, feature = "house"))]
     pub fn all(&self) -> [u64; COUNTS] {
-        let mut all = [self.idle; COUNTS];
+        let mut all = [self.departed; COUNTS];
         all[..SLOTS].copy_from_slice(&self.had);
+        all[IDLE] = self.idle;
         all
     }
 
     /// One of them by its place in that order, to be changed.
     #[cfg(any(test, feature = "house"))]
     pub fn at_mut(&mut self, place: usize) -> &mut u64 {
-        self.had.get_mut(place).unwrap_or(&mut self.idle)
+        match place {
+            0..SLOTS => &mut self.had[place],
+            IDLE => &mut self.idle,
+            _ => &mut self.departed,
+        }
     }
 }
 
@@ -180,7 +210,7 @@ impl Table {
             })
     }
 
-    /// The same, to be changed.
+    /// The same without their slots, to be changed.
     #[cfg(any(test, feature = "house"))]
     pub fn running_mut(&mut self) -> impl Iterator<Item = &mut Run> {
         self.slots.iter_mut().filter_map(|content| match content {
@@ -202,6 +232,16 @@ impl Table {
     /// R96: more ticks are counted than have gone by.
     pub fn is_overcounted(&self) -> bool {
         self.counts.sum() > u128::from(self.clock)
+    }
+
+    /// The same with every line renewing.
+    #[cfg(any(test, feature = "house"))]
+    pub fn renewing(&self) -> Table {
+        let mut renewing = *self;
+        for run in renewing.running_mut() {
+            run.follows = Follows::Renews;
+        }
+        renewing
     }
 
     /// The same with nothing counted.

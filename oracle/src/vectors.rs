@@ -3,7 +3,9 @@
 use crate::card;
 use crate::cases;
 use crate::draw;
-use crate::edge_cards;
+use crate::draw_leaving;
+use crate::edge_cards::{self, EdgeCard};
+use crate::edge_leaving;
 use crate::edges;
 use crate::orders;
 use crate::published;
@@ -24,6 +26,10 @@ const BROKEN: usize = 600;
 const MANY_LINES: usize = 60;
 const SAMPLES: u64 = 4;
 const OLD_ORDERS: usize = 250;
+const LEAVING: usize = 300;
+const HURRIED: usize = 300;
+const LEAVING_DAMAGED: usize = 150;
+const LEAVING_BROKEN: usize = 100;
 
 fn of(drawn: (Table, Request)) -> Vec<u8> {
     card::bytes(&drawn.0, &drawn.1)
@@ -35,11 +41,8 @@ fn of_rows(rows: &[cases::Case]) -> Vec<Vec<u8>> {
         .collect()
 }
 
-fn of_edge_cards() -> Vec<Vec<u8>> {
-    edge_cards::all()
-        .into_iter()
-        .map(|edge| edge.bytes)
-        .collect()
+fn of_edge_cards(cards: Vec<EdgeCard>) -> Vec<Vec<u8>> {
+    cards.into_iter().map(|edge| edge.bytes).collect()
 }
 
 /// R7, R21: case D and the empty table at clocks around every limit.
@@ -135,6 +138,11 @@ fn small_grid() -> Vec<Vec<u8>> {
     cards
 }
 
+/// R53, R58: lines that leave beside lines of either order.
+fn every_mark(random: &mut Random, drawn: (Table, Request)) -> Vec<u8> {
+    orders::drawn(random, &of(drawn))
+}
+
 /// R58: near full load, with lines of either order.
 fn either_order(random: &mut Random) -> Vec<u8> {
     let card = of(draw::near_full(random));
@@ -163,8 +171,18 @@ fn cards() -> Vec<Vec<u8>> {
         repeat(WIDE, || of(draw::wide(random))),
         published_cards(random),
         of_rows(&edges::rows()),
-        of_edge_cards(),
+        of_edge_cards(edge_cards::all()),
         repeat(OLD_ORDERS, || either_order(random)),
+        of_rows(&edge_leaving::rows()),
+        of_edge_cards(edge_cards::leaving()),
+        spoil::leaving(),
+        repeat(LEAVING, || {
+            let drawn = draw_leaving::near_full(random);
+            every_mark(random, drawn)
+        }),
+        repeat(HURRIED, || of(draw_leaving::hurried(random))),
+        repeat(LEAVING_DAMAGED, || of(draw_leaving::damaged(random))),
+        repeat(LEAVING_BROKEN, || spoil::random_leaving_card(random)),
     ]
     .concat()
 }
@@ -224,13 +242,16 @@ pub fn set() -> io::Result<(Vec<u8>, String)> {
 mod tests {
     use super::*;
 
+    /// The program of `crates/vectors` takes a longer card for the end of the set.
+    const LONGEST: usize = 256;
+
     #[test]
     fn the_set_keeps_its_limits() {
         let cards = cards();
         let bytes: usize = cards.iter().map(|card| card.len() + 2).sum();
-        assert!(cards.len() <= 8_000, "{}", cards.len());
+        assert!(cards.len() <= 9_000, "{}", cards.len());
         assert!(bytes <= 1_500_000, "{bytes}");
-        assert!(cards.iter().all(|card| card.len() < usize::from(END)));
+        assert!(cards.iter().all(|card| card.len() <= LONGEST));
     }
 
     /// R32

@@ -3,7 +3,7 @@
 use crate::card::read;
 use crate::pump::{Held, Pump, Request, SLOTS};
 
-/// R9: a running line at its stretched period, its first end counted from the clock.
+/// R9, R10: a running line at its stretched period, its first end counted from the clock; the need is what each later end brings.
 #[derive(Clone, Copy, Default)]
 pub(crate) struct Line {
     pub(crate) end: u32,
@@ -90,7 +90,7 @@ fn lowest(pump: &Pump, test: impl Fn(usize, Held) -> bool) -> Option<u64> {
 /// The running lines at their stretched periods, and how many there are.
 pub(crate) type Lines = ([Line; SLOTS], usize);
 
-/// R21 to R29 in that order, and the lines gathered.
+/// R21 to R29 in that order, and the lines gathered. R10: of a line that leaves later ends bring nothing, which is as good as if there were none.
 #[inline]
 pub(crate) fn tested(pump: &Pump, request: &Request) -> Result<Lines, (u16, u64)> {
     if pump.clock > (1 << 48) - 65_536 {
@@ -99,12 +99,17 @@ pub(crate) fn tested(pump: &Pump, request: &Request) -> Result<Lines, (u16, u64)
     if !pump.slots.contains(&Held::Nothing) {
         return Err((2, 0));
     }
-    let shrunk = |i: usize, h: Held| matches!(h, Held::Running { period, .. } if request.stretched[i] < period);
+    let misfit = |i: usize, h: Held| match h {
+        Held::Running { period, leaves, .. } => {
+            request.stretched[i] < period || leaves && request.stretched[i] > period
+        }
+        _ => false,
+    };
     let unsound = || lowest(pump, |_, h| !h.sound());
     let found = [
         (3, lowest(pump, |_, h| matches!(h, Held::Waiting { .. }))),
         (4, unsound().or_else(|| pump.overcounted().then_some(0))),
-        (5, lowest(pump, shrunk)),
+        (5, lowest(pump, misfit)),
     ];
     if let Some((number, Some(place))) = found.into_iter().find(|(_, k)| k.is_some()) {
         return Err((number, place));
@@ -113,15 +118,17 @@ pub(crate) fn tested(pump: &Pump, request: &Request) -> Result<Lines, (u16, u64)
         return Err((6, 0));
     }
     let mut lines = [Line::default(); SLOTS];
-    let mut count = 0;
+    let (mut count, mut leaving) = (0, 0u16);
     for (held, stretched) in pump.slots.iter().zip(request.stretched) {
         if let Held::Running {
             need,
             age,
             remaining,
+            leaves,
             ..
         } = *held
         {
+            leaving |= u16::from(leaves) << count;
             let period = u32::from(stretched);
             lines[count] = Line {
                 end: period - u32::from(age),
@@ -138,6 +145,11 @@ pub(crate) fn tested(pump: &Pump, request: &Request) -> Result<Lines, (u16, u64)
         u32::from(request.period),
     )
     .map_err(|number| (number, 0))?;
+    if leaving != 0 {
+        let all = lines.iter_mut().enumerate();
+        all.filter(|(i, _)| leaving >> i & 1 == 1)
+            .for_each(|(_, line)| line.need = 0);
+    }
     Ok((lines, count))
 }
 
@@ -177,7 +189,7 @@ pub fn answer(card: &[u8]) -> Result<u64, (u16, u64)> {
 
 #[cfg(test)]
 mod tests {
-    use crate::{answer, read, write};
+    use crate::{answer, answer_in_order, read, write};
 
     /// R59: the card of case A.
     const CASE_A: &[u8] = b"CK\x08\0\0\0\0\0\0\0TB\x08\0\x10\0\x20\0\x08\0\0\0TB\x08\0\x10\0\x10\0\x08\0\x08\0RQ\x01\0\x04\0";
@@ -189,5 +201,32 @@ mod tests {
         let mut out = [0; 208];
         assert_eq!(write(&pump, &request, &mut out), Ok(40));
         assert_eq!(&out[..40], CASE_A);
+    }
+
+    /// R67: the card of case E, its first line leaving; and one whose first line's ticks are wanted after it is gone.
+    const CASE_E: &[u8] = b"CK\x28\0\0\0\0\0\0\0TL\x01\0\x04\0\x04\0\0\0\x01\0TB\x10\0\x40\0\x40\0\x34\0\x08\0TB\x10\0\x20\0\x40\0\x0C\0\0\0RQ\x01\0\x04\0";
+    const OWED: &[u8] = b"CK\0\0\0\0\0\0\0\0TL\x02\0\x08\0\x08\0\x06\0\x02\0TB\x02\0\x08\0\x08\0\x04\0\x02\0TB\x04\0\x10\0\x10\0\0\0\0\0RQ\x01\0\x04\0";
+
+    /// A card with another byte at an offset, answered by every way.
+    fn answered(card: &[u8], at: usize, byte: u8) -> Result<u64, (u16, u64)> {
+        let mut card = card.to_vec();
+        card[at] = byte;
+        assert_eq!(answer(&card), answer_in_order(&card));
+        answer(&card)
+    }
+
+    #[test]
+    fn lines_that_leave() {
+        assert_eq!(answered(CASE_E, 11, b'L'), Ok(40));
+        assert_eq!(answered(CASE_E, 11, b'B'), Ok(45));
+        assert_eq!(answered(OWED, 11, b'L'), Ok(1));
+        // R25: another T', and the lowest slot of both breaches.
+        for stretched in [0, 3, 5, 8] {
+            assert_eq!(answered(CASE_E, 16, stretched), Err((5, 0)));
+        }
+        assert_eq!(answered(CASE_E, 35, b'L'), Err((5, 2)));
+        assert_eq!(answered(CASE_E, 28, 63), Err((5, 1)));
+        // R30: with an age of 7 the first line wants 2 ticks by 1.
+        assert_eq!(answered(OWED, 18, 7), Err((10, 0)));
     }
 }

@@ -39,14 +39,15 @@ pub fn read(card: &[u8]) -> Result<(Pump, Request, u16), (u16, u64)> {
             (request.need, request.period) = (two(rest, 2), two(rest, 4));
             return Ok((pump, request, turned));
         }
-        let old = rest.starts_with(b"TA");
-        if slot < SLOTS && (old || rest.starts_with(b"TB")) && rest.len() >= 12 {
+        let (old, leaves) = (rest.starts_with(b"TA"), rest.starts_with(b"TL"));
+        if slot < SLOTS && (old || leaves || rest.starts_with(b"TB")) && rest.len() >= 12 {
             let (age, remaining) = if old { (10, 8) } else { (8, 10) };
             pump.slots[slot] = Held::Running {
                 need: two(rest, 2),
                 period: two(rest, 4),
                 age: two(rest, age),
                 remaining: two(rest, remaining),
+                leaves,
             };
             turned |= u16::from(old) << slot;
             request.stretched[slot] = two(rest, 6);
@@ -88,9 +89,10 @@ pub fn write(pump: &Pump, request: &Request, out: &mut [u8]) -> Result<usize, (u
             period,
             age,
             remaining,
+            leaves,
         } = held
         {
-            out[at..at + 2].copy_from_slice(b"TB");
+            out[at..at + 2].copy_from_slice(if *leaves { b"TL" } else { b"TB" });
             for (k, v) in [need, period, stretched, age, remaining]
                 .into_iter()
                 .enumerate()
@@ -133,5 +135,22 @@ mod tests {
         assert_eq!(rewritten(OLD), (NEW.to_vec(), 2));
         assert_eq!(rewritten(&both), (NEW.to_vec(), 3));
         assert_eq!(read(&OLD[..33]).err(), Some((11, 22)));
+    }
+
+    /// R53, R72: TL is laid out as TB, and stands as it is.
+    #[test]
+    fn reads_lines_that_leave() {
+        let mut leaving = OLD.to_vec();
+        leaving[11] = b'L';
+        let mut twin = NEW.to_vec();
+        twin[11] = b'L';
+        assert_eq!(rewritten(&leaving), (twin.clone(), 2));
+        assert_eq!(rewritten(&twin), (twin.clone(), 0));
+        let (pump, ..) = read(&leaving).unwrap_or_else(|_| unreachable!());
+        let kinds = pump
+            .slots
+            .map(|held| matches!(held, Held::Running { leaves, .. } if leaves));
+        assert_eq!(kinds[..3], [true, false, false]);
+        assert_eq!(read(&twin[..21]).err(), Some((11, 10)));
     }
 }

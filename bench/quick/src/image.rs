@@ -2,16 +2,17 @@
 
 use crate::pump::{Held, Pump};
 
-/// R81: bytes of an image, of a slot and of a count, and where slot 0, its count and the idle count stand.
-const LENGTH: usize = 289;
+/// R81: bytes of an image, of a slot and of a count, and where slot 0, its count, the idle count and the departed one stand.
+const LENGTH: usize = 297;
 const SLOT: usize = 9;
 const COUNT: usize = 8;
 const FIRST: usize = 9;
 const HAD: usize = 153;
 const IDLE: usize = 281;
+const DEPARTED: usize = 289;
 
 /// R81: the version.
-const VERSION: u8 = 2;
+const VERSION: u8 = 3;
 
 /// R81: what the nine bytes of a slot hold, or the first of them that is wrong.
 #[inline]
@@ -24,11 +25,12 @@ fn held(slot: &[u8]) -> Result<Held, usize> {
     let (need, period) = (two(1), two(3));
     match slot[0] {
         0 => blank(1).map(|()| Held::Nothing),
-        1 => Ok(Held::Running {
+        kind @ (1 | 3) => Ok(Held::Running {
             need,
             period,
             age: two(5),
             remaining: two(7),
+            leaves: kind == 3,
         }),
         2 => blank(7).map(|()| Held::Waiting {
             need,
@@ -39,7 +41,7 @@ fn held(slot: &[u8]) -> Result<Held, usize> {
     }
 }
 
-/// R83: the refusal of bytes whose length is not 289. With zeros for what is missing, nothing is wrong behind what is there.
+/// R83: the refusal of bytes whose length is not 297. With zeros for what is missing, nothing is wrong behind what is there.
 #[cold]
 fn wrong_length(image: &[u8]) -> (u16, u64) {
     let there = image.len().min(LENGTH);
@@ -73,7 +75,8 @@ fn read_whole(image: &[u8; LENGTH], pump: &mut Pump) -> Result<(), (u16, u64)> {
     for (place, count) in pump.had.iter_mut().zip(had) {
         *place = eight(count);
     }
-    pump.idle = eight(&image[IDLE..]);
+    pump.idle = eight(&image[IDLE..DEPARTED]);
+    pump.departed = eight(&image[DEPARTED..]);
     Ok(())
 }
 
@@ -98,7 +101,8 @@ fn write_image(pump: &Pump, image: &mut [u8; LENGTH]) {
     for (count, place) in pump.had.iter().zip(had) {
         place.copy_from_slice(&count.to_le_bytes());
     }
-    image[IDLE..].copy_from_slice(&pump.idle.to_le_bytes());
+    image[IDLE..DEPARTED].copy_from_slice(&pump.idle.to_le_bytes());
+    image[DEPARTED..].copy_from_slice(&pump.departed.to_le_bytes());
     let slots = image[FIRST..HAD].chunks_exact_mut(SLOT);
     for (held, slot) in pump.slots.iter().zip(slots) {
         let (kind, numbers) = match *held {
@@ -108,7 +112,8 @@ fn write_image(pump: &Pump, image: &mut [u8; LENGTH]) {
                 period,
                 age,
                 remaining,
-            } => (1, [need, period, age, remaining]),
+                leaves,
+            } => (1 + 2 * u8::from(leaves), [need, period, age, remaining]),
             Held::Waiting { need, period, wait } => (2, [need, period, wait, 0]),
         };
         slot[0] = kind;
@@ -153,7 +158,7 @@ mod tests {
     /// A line that runs in slot 0, one that waits in slot 15, and at tick 3 a tick of slot 0's line and two idle ones.
     fn image() -> [u8; LENGTH] {
         let mut image = [0; LENGTH];
-        (image[0], image[1], image[153], image[281]) = (2, 3, 1, 2);
+        (image[0], image[1], image[153], image[281]) = (3, 3, 1, 2);
         image[9..18].copy_from_slice(&[1, 2, 0, 4, 0, 1, 0, 2, 0]);
         image[144..153].copy_from_slice(&[2, 1, 0, 4, 0, 1, 0, 0, 0]);
         image
@@ -172,9 +177,25 @@ mod tests {
         assert_eq!(ready_image(&stepped), Ok(0x8001));
     }
 
+    /// R46, R101: a line that leaves is gone with its last tick, and what it had stands last.
+    #[test]
+    fn a_line_that_leaves_reads_and_goes() {
+        let mut stepped = image();
+        stepped[9..18].copy_from_slice(&[3, 2, 0, 4, 0, 2, 0, 1, 0]);
+        assert_eq!(ready_image(&stepped), Ok(1));
+        assert_eq!(step_image(&mut stepped), Ok(Some(0)));
+        assert_eq!(stepped[9..18], [3, 2, 0, 4, 0, 3, 0, 0, 0]);
+        assert_eq!(step_image(&mut stepped), Ok(Some(15)));
+        let mut wanted = image();
+        (wanted[1], wanted[153], wanted[273], wanted[289]) = (5, 0, 1, 2);
+        wanted[9..18].fill(0);
+        wanted[144..153].copy_from_slice(&[1, 1, 0, 4, 0, 1, 0, 0, 0]);
+        assert_eq!(stepped, wanted);
+    }
+
     #[test]
     fn counts_of_any_place() {
-        for place in 0..17 {
+        for place in 0..18 {
             let mut counted = image();
             counted[1..9].fill(0);
             counted[153..].fill(0);
@@ -188,24 +209,24 @@ mod tests {
     #[test]
     fn the_first_fault() {
         for (offset, byte) in [
-            (0, 1),
-            (0, 3),
-            (18, 3),
+            (0, 2),
+            (0, 4),
+            (18, 4),
             (19, 1),
             (26, 9),
-            (144, 3),
+            (144, 4),
             (151, 1),
             (152, 1),
         ] {
             let mut broken = image().to_vec();
             broken[offset] = byte;
             broken.push(0);
-            for length in 0..=290 {
+            for length in 0..=298 {
                 let wanted = Err((11, offset.min(length) as u64));
                 assert_eq!(step_image(&mut broken[..length]), wanted);
             }
         }
-        assert_eq!(ready_image(&image()[..288]), Err((11, 288)));
-        assert_eq!(ready_image(&[&image()[..], &[0]].concat()), Err((11, 289)));
+        assert_eq!(ready_image(&image()[..296]), Err((11, 296)));
+        assert_eq!(ready_image(&[&image()[..], &[0]].concat()), Err((11, 297)));
     }
 }

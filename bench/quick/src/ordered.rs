@@ -118,7 +118,7 @@ fn dense(lines: &[Line], last: u32, mut bound: Bound) -> Option<u32> {
         for (n, l) in next.iter_mut().zip(lines) {
             // R10: the first end brings what remains, each later one the need.
             if let Some(step) = steps.get_mut(l.end.wrapping_sub(base) as usize) {
-                *step += i64::from(l.need - l.remaining) * period;
+                *step += (i64::from(l.need) - i64::from(l.remaining)) * period;
             }
             let taken = i64::from(l.need) * period;
             let mut k = (*n - base) as usize;

@@ -2,10 +2,10 @@
 //!
 //! Two lines are admitted, and eight ticks later a bench, for which the first line's period is doubled (case A, R67). Then
 //! it prints what the pump does in each of 56 ticks: the slot that it serves, or a dot for none; and what each line has had
-//! since it was admitted.
+//! since it was admitted. At last the second line is let go, and the same is printed of the ticks up to its end.
 
 use std::process::ExitCode;
-use trimthuel::{Counts, Pump, Refusal, Request};
+use trimthuel::{Pump, Refusal, Request};
 
 /// Stands for the ports of the valve board: bit k belongs to slot k.
 #[derive(Default)]
@@ -41,6 +41,21 @@ fn admit(pump: &mut Pump, request: &Request) {
     }
 }
 
+/// R100: a running line stays up to the end of its period, with what that still owes it. Answers in how many ticks its slot is
+/// free; a refusal changes nothing, and then these are none.
+fn leave(pump: &mut Pump, slot: usize) -> u64 {
+    match pump.leave(slot) {
+        Ok(ticks) => {
+            eprintln!("slot {slot} is free in {ticks} ticks");
+            ticks
+        }
+        Err(refusal) => {
+            report(refusal);
+            0
+        }
+    }
+}
+
 /// R48, R49: one tick of the pump; answers the slot that got it.
 fn tick(pump: &mut Pump, board: &mut Board) -> Result<Option<usize>, Refusal> {
     let slot = pump.step()?;
@@ -53,17 +68,37 @@ fn mark(slot: Option<usize>) -> char {
         .unwrap_or('.')
 }
 
-/// R98: what each line has had, and the ticks in which none ran.
-fn shown(counts: &Counts) -> String {
-    let slots = counts.had.iter().enumerate();
-    let had = slots.filter(|(_, ticks)| **ticks > 0);
-    let words: String = had
-        .map(|(slot, ticks)| format!(", slot {slot} had {ticks}"))
-        .collect();
-    format!("clock {}{words}, idle {}", counts.clock, counts.idle)
+/// Lets the pump run, and shows who got each tick.
+fn show_ticks(pump: &mut Pump, board: &mut Board, ticks: u64) -> Result<(), Refusal> {
+    let row = (0..ticks).map(|_| tick(pump, board).map(mark));
+    println!("{}", row.collect::<Result<String, Refusal>>()?);
+    Ok(())
 }
 
-fn control(board: &mut Board) -> Result<(String, Counts), Refusal> {
+/// R98: shows what each line has had, the ticks in which none ran, and those of lines that are gone; answers whether they add up
+/// to the clock.
+fn show_counts(pump: &Pump) -> bool {
+    let counts = pump.counts();
+    print!("clock {}", counts.clock);
+    for (slot, ticks) in counts.had.iter().enumerate().filter(|(_, had)| **had > 0) {
+        print!(", slot {slot} had {ticks}");
+    }
+    print!(", idle {}", counts.idle);
+    if counts.departed > 0 {
+        print!(", departed {}", counts.departed);
+    }
+    println!();
+    counts.sum() == counts.clock.into()
+}
+
+/// Lets the pump run and shows what it did; false if the counts do not add up, as they do on every table that came from the empty
+/// one (R79).
+fn show(pump: &mut Pump, board: &mut Board, ticks: u64) -> Result<bool, Refusal> {
+    show_ticks(pump, board, ticks)?;
+    Ok(show_counts(pump))
+}
+
+fn control(board: &mut Board) -> Result<bool, Refusal> {
     let mut pump = Pump::new();
     for _ in 0..2 {
         let line = pump.request(8, 16);
@@ -74,9 +109,9 @@ fn control(board: &mut Board) -> Result<(String, Counts), Refusal> {
     }
     let bench = pump.request(1, 4).stretch(0, 32);
     admit(&mut pump, &bench);
-    let ticks = (0..56).map(|_| tick(&mut pump, board).map(mark));
-    let row = ticks.collect::<Result<String, Refusal>>()?;
-    Ok((row, pump.counts()))
+    let accounted_for = show(&mut pump, board, 56)?;
+    let ticks = leave(&mut pump, 1);
+    Ok(show(&mut pump, board, ticks)? && accounted_for)
 }
 
 fn main() -> ExitCode {
@@ -86,12 +121,8 @@ fn main() -> ExitCode {
     }
     let mut board = Board::default();
     match control(&mut board) {
-        Ok((row, counts)) => {
-            println!("{row}\n{}", shown(&counts));
-            // R79: as they do on every table that came from the empty one.
-            if counts.sum() == counts.clock.into() {
-                return ExitCode::SUCCESS;
-            }
+        Ok(true) => ExitCode::SUCCESS,
+        Ok(false) => {
             eprintln!("the counts do not add up to the clock");
             ExitCode::FAILURE
         }

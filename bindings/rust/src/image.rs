@@ -38,6 +38,16 @@ pub fn step(table: &mut [u8]) -> Result<Option<usize>, Refusal> {
     numbers::step(table).granted(Numbers::slot)
 }
 
+/// R102: lets the line of a slot go. A running line stays up to the end of its period, with what that still owes it; a waiting
+/// one is removed at once. Answers in how many ticks the slot holds nothing.
+///
+/// # Errors
+/// Refusal 11, 4, or 16 at the number as it is named, where it is no slot's, or its slot holds nothing or a line that leaves
+/// already.
+pub fn leave(table: &mut [u8], number: u64) -> Result<u64, Refusal> {
+    numbers::leave(table, number).granted(Numbers::ticks)
+}
+
 /// R89: the ready word: bit k is 1 where slot k is still owed ticks (R49).
 ///
 /// # Errors

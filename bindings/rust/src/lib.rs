@@ -1,5 +1,5 @@
 //! A greenhouse pump's admission and scheduling core, proved down to the code: safe functions over `libhouse.a`, whose C
-//! side is `include/trimthuel.h`. The rules, R1 to R98, are those of docs/RULES.md.
+//! side is `include/trimthuel.h`. The rules, R1 to R102, are those of docs/RULES.md.
 //!
 //! ```
 //! use trimthuel::{Answer, Pump, Refusal};
@@ -21,7 +21,10 @@
 //! let counts = pump.counts();
 //! assert_eq!((counts.had[0], counts.had[1], counts.idle, counts.clock), (1, 0, 0, 1));
 //!
-//! // The table is 289 bytes, which may be kept while the power is off.
+//! // The first bench is let go: it stays up to the end of its period, 31 ticks from now, and then its slot is free.
+//! assert_eq!(pump.leave(0)?, 31);
+//!
+//! // The table is 297 bytes, which may be kept while the power is off.
 //! let kept = *pump.image();
 //! assert_eq!(Pump::from_image(&kept)?, pump);
 //! # Ok(())
@@ -54,19 +57,20 @@ pub use refusal::Refusal;
 pub use request::{Answer, Request};
 
 /// R93: of the boundary that this crate declares; the library's own is [`version()`].
-pub const VERSION: u32 = 3;
+pub const VERSION: u32 = 4;
 
-/// R81: of the layout of an image, its first byte. An image of version 1, which had no counts, is refused with 11 at 0.
-pub const IMAGE_VERSION: u8 = 2;
+/// R81: of the layout of an image, its first byte. An image of version 1, which had no counts, or of version 2, which had no
+/// line that leaves, is refused with 11 at 0.
+pub const IMAGE_VERSION: u8 = 3;
 
 /// R2: slots of a table.
 pub const SLOTS: usize = 16;
 
 /// R81: bytes of an image.
-pub const TABLE_SIZE: usize = 289;
+pub const TABLE_SIZE: usize = 297;
 
-/// R95: counts of a table: one for each slot, then the idle count.
-pub const COUNTS: usize = 17;
+/// R95: counts of a table: one for each slot, then the idle count, then the departed count.
+pub const COUNTS: usize = 18;
 
 /// R6: numbers of a request: sixteen stretched periods, then need and period.
 pub const REQUEST_SIZE: usize = 18;

@@ -38,6 +38,7 @@ unsafe extern "C" {
     fn trimthuel_ask(table: Bytes, table_len: usize, need: u16, period: u16, stretched: Stretched) -> Numbers;
     fn trimthuel_admit(table: Lent, table_len: usize, need: u16, period: u16, stretched: Stretched) -> Numbers;
     fn trimthuel_step(table: Lent, table_len: usize) -> Numbers;
+    fn trimthuel_leave(table: Lent, table_len: usize, number: u64) -> Numbers;
     fn trimthuel_ready(table: Bytes, table_len: usize) -> Numbers;
     fn trimthuel_counts(table: Bytes, table_len: usize, counts: Counts) -> Numbers;
     fn trimthuel_write_card(table: Bytes, table_len: usize, need: u16, period: u16, stretched: Stretched,
@@ -54,7 +55,7 @@ pub fn version() -> u32 {
     trimthuel_version()
 }
 
-/// R90: how often the front lamp blinks for a refusal's number, 1 to 5; 0 for any other number.
+/// R90: how often the front lamp blinks for the refusals 1 to 15, 1 to 5 times; 0 for any other number, 16 too.
 /// [`Refusal::blinks`](crate::Refusal::blinks) asks it.
 #[must_use]
 pub fn lamp(number: u64) -> u8 {
@@ -86,6 +87,12 @@ pub fn step(table: &mut [u8]) -> Numbers {
     unsafe { trimthuel_step(table.as_mut_ptr(), table.len()) }
 }
 
+/// R102.
+pub fn leave(table: &mut [u8], number: u64) -> Numbers {
+    // SAFETY: one slice, with its length.
+    unsafe { trimthuel_leave(table.as_mut_ptr(), table.len(), number) }
+}
+
 /// R89.
 #[must_use]
 pub fn ready(table: &[u8]) -> Numbers {
@@ -95,7 +102,7 @@ pub fn ready(table: &[u8]) -> Numbers {
 
 /// R98.
 pub fn counts(table: &[u8], counts: &mut [u64; COUNTS]) -> Numbers {
-    // SAFETY: a slice with its length, and an array of seventeen numbers, borrowed mutably.
+    // SAFETY: a slice with its length, and an array of eighteen numbers, borrowed mutably.
     unsafe { trimthuel_counts(table.as_ptr(), table.len(), counts) }
 }
 

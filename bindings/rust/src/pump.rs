@@ -48,7 +48,8 @@ impl Pump {
         &self.image
     }
 
-    /// A request for a new line with which every running line keeps its period; [`Request::stretch`] stretches some.
+    /// A request for a new line with which every running line keeps its period, as one that leaves has to (R25);
+    /// [`Request::stretch`] stretches others.
     #[must_use]
     pub fn request(&self, need: u16, period: u16) -> Request {
         (0..SLOTS).fold(Request::new(need, period), |request, slot| {
@@ -84,6 +85,15 @@ impl Pump {
     /// Refusal 15, 4 or 14; on a pump that began as [`Pump::new`] and was never read from bytes, 15 only (R74).
     pub fn step(&mut self) -> Result<Option<usize>, Refusal> {
         image::step(&mut self.image)
+    }
+
+    /// R100: lets the line of a slot go. A running line stays up to the end of its period, with what that still owes it; a
+    /// waiting one is removed at once. Answers in how many ticks the slot holds nothing.
+    ///
+    /// # Errors
+    /// Refusal 4, or 16 at the slot, where there is no such slot, or it holds nothing or a line that leaves already.
+    pub fn leave(&mut self, slot: usize) -> Result<u64, Refusal> {
+        image::leave(&mut self.image, slot as u64)
     }
 
     /// R49: bit k is 1 where slot k is still owed ticks.

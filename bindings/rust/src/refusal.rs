@@ -7,19 +7,19 @@ use core::{error, fmt};
 pub struct Refusal {
     /// Refusal n is rule R(20 + n) of docs/RULES.md.
     pub number: u16,
-    /// The slot or the byte offset that it speaks of, or 0.
+    /// The slot, the number or the byte offset that it speaks of, or 0.
     pub place: u64,
 }
 
-/// R21 to R35: why, by the refusal's number. The header has the same words. 12 is no longer given; its number stays
+/// R21 to R36: why, by the refusal's number. The header has the same words. 12 is no longer given; its number stays
 /// taken (R32).
-const WHY: [&str; 16] = [
+const WHY: [&str; 17] = [
     "no refusal has this number",
     "the clock is too late to ask",
     "no slot is empty",
     "a line still waits",
     "a line's numbers are unsound, or more ticks are counted than have gone by",
-    "a period would be shortened",
+    "a period would be shortened, or a leaving line's changed",
     "the new line does not fit its period",
     "the frame is above 1,000,000",
     "more than all of the pump is asked for",
@@ -30,6 +30,7 @@ const WHY: [&str; 16] = [
     "the buffer is too short",
     "a period ended short",
     "the clock's last tick",
+    "no line is there that could be let go",
 ];
 
 impl Refusal {

@@ -11,7 +11,8 @@ pub struct Request {
     pub need: u16,
     /// The ticks of its period.
     pub period: u16,
-    /// For each slot the new period of its line, not below the present one (R25). Where no line runs it is never looked at.
+    /// For each slot the new period of its line, not below the present one, and equal to it where the line leaves (R25). Where no
+    /// line runs it is never looked at.
     pub stretched: [u16; SLOTS],
 }
 

@@ -16,7 +16,7 @@ impl Numbers {
         })
     }
 
-    /// R66, R98: ticks.
+    /// R66, R98, R102: ticks.
     pub(crate) fn ticks(self) -> u64 {
         self.value
     }

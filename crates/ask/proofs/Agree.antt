@@ -2,7 +2,6 @@
 use Prim.Native.Nat.{ℕ, suc, _<_}
 use mathlib.Core.Path.{_≡_, refl, ap, _∙_}
 use mathlib.Core.Bool.{Bool, false}
-use lib.Dec.{ltb}
 use mathlib.Core.List.{List, [], _∷_}
 use native.Mathlib.Omega.{arith}
 use lib.ListN.{length, set, replicate}
@@ -20,7 +19,7 @@ use Rattle.table.specs.Words.{emptyTable, requestWith}
 use Rattle.line.specs.Streams.{due, every, endsBefore}
 use Rattle.line.specs.Demand.{lastEnd}
 use Rattle.table.specs.Grounds.{entry, asked}
-use Rattle.line.specs.Stretch.{stretch, stretched, shrunk}
+use Rattle.line.specs.Stretch.{stretch, stretched, barredRun, barred}
 use Rattle.line.specs.Shares.{periodsIn}
 use Rattle.line.specs.Ends.{endsOf, slack, bound, greatest, anyOf, start}
 use Rattle.table.specs.Ask.{askIn, askOf}
@@ -37,8 +36,8 @@ runs-agree z f p r (Waiting w) e = refl
 stretch-agrees : (p r : ℕ) (h : Held) → (Runs h → p ≡ r) → stretch p h ≡ stretch r h
 stretch-agrees p r h e = runs-agree h (λ k x. Running (withPeriod x k)) p r h e
 
-shrunk-agrees : (p r : ℕ) (h : Held) → (Runs h → p ≡ r) → shrunk p h ≡ shrunk r h
-shrunk-agrees p r h e = runs-agree false (λ k x. ltb k (x .period)) p r h e
+barred-agrees : (p r : ℕ) (h : Held) → (Runs h → p ≡ r) → barred p h ≡ barred r h
+barred-agrees p r h e = runs-agree false barredRun p r h e
 
 slots-agree : (l : List Slot) (p r : ℕ → ℕ) → ((i : ℕ) → i < length l → Runs (at l i) → p i ≡ r i) → stretched l p ≡ stretched l r
 unfolding mapAt
@@ -53,14 +52,14 @@ module _ (t : Table) (q r : Request) (a : Agree t q r) where
   asked-agrees : asked t q ≡ asked t r
   asked-agrees = slots-agree (t .slots) (entry q) (entry r) (a .entries)
 
-  abbrev shrinks : Request → ℕ → Bool
-  shrinks x i = shrunk (entry x i) (at (t .slots) i)
+  abbrev bars : Request → ℕ → Bool
+  bars x i = barred (entry x i) (at (t .slots) i)
 
   answers-agree : askOf t q ≡ askOf t r
   unfolding askOf
   answers-agree =
       rw (
-        lowest-congr (shrinks q) (shrinks r) (length (t .slots)) (λ i h. shrunk-agrees (entry q i) (entry r i) (at (t .slots) i) (a .entries i h)),
+        lowest-congr (bars q) (bars r) (length (t .slots)) (λ i h. barred-agrees (entry q i) (entry r i) (at (t .slots) i) (a .entries i h)),
         a .need,
         a .period,
         asked-agrees,

@@ -21,43 +21,43 @@ use Rattle.table.specs.Counts.{fault}
 use Rattle.table.proofs.Counts.{faultless}
 use Rattle.line.specs.Sound.{sound}
 use Rattle.table.specs.Grounds.{entry}
-use Rattle.line.specs.Stretch.{shrunk}
+use Rattle.line.specs.Stretch.{barred}
 use Rattle.table.specs.Ask.{askOf}
 use Rattle.line.proofs.Read.{seen}
 use Rattle.line.proofs.Search.{lowest-none, Looking, look-start, look-on, look-stop, look-end}
 use Rattle.ask.specs.Asked.{Within}
 use Rattle.ask.specs.Gathered.{AllAllowed, pastFive}
 
-abbrev shrinks : Table → Request → ℕ → Bool
-shrinks t q i = shrunk (entry q i) (at (t .slots) i)
+abbrev bars : Table → Request → ℕ → Bool
+bars t q i = barred (entry q i) (at (t .slots) i)
 
--- ---- the search for a line that is to shrink
+-- ---- the search for a line that may not have its T'
 
 -- a search that has passed the slots below i
-pub record Shrinking (t : Table) (q : Request) (i : ℕ) : Type 0 where
+pub record Barring (t : Table) (q : Request) (i : ℕ) : Type 0 where
   pub long : length (t .slots) ≡ 16
-  pub looking : Looking (shrinks t q) (length (t .slots)) i
+  pub looking : Looking (bars t q) (length (t .slots)) i
 
 -- no slot is passed
-pub shrink-start : (t : Table) (q : Request) → length (t .slots) ≡ 16 → Shrinking t q 0
-shrink-start t q e = record { long = e; looking = look-start _ _ }
+pub bar-start : (t : Table) (q : Request) → length (t .slots) ≡ 16 → Barring t q 0
+bar-start t q e = record { long = e; looking = look-start _ _ }
 
-module _ {t : Table} {q : Request} {i : ℕ} (v : Shrinking t q i) where
-  module _ (d : Slot) {b : Bool} (h : i < 16) (e : b ≡ shrunk (entry q i) (getD (t .slots) i d .held)) where
-    shrinks-read : {a : Bool} → b ≡ a → shrinks t q i ≡ a
-    shrinks-read g = seen (shrunk (entry q i)) (t .slots) i d e g (omega (arith, v .long))
+module _ {t : Table} {q : Request} {i : ℕ} (v : Barring t q i) where
+  module _ (d : Slot) {b : Bool} (h : i < 16) (e : b ≡ barred (entry q i) (getD (t .slots) i d .held)) where
+    bars-read : {a : Bool} → b ≡ a → bars t q i ≡ a
+    bars-read g = seen (barred (entry q i)) (t .slots) i d e g (omega (arith, v .long))
 
     -- R25: slot i is passed
-    pub shrink-on : b ≡ false → Shrinking t q (i + 1)
-    shrink-on g = record { long = v .long; looking = look-on (v .looking) (omega (arith, v .long)) (shrinks-read g) }
+    pub bar-on : b ≡ false → Barring t q (i + 1)
+    bar-on g = record { long = v .long; looking = look-on (v .looking) (omega (arith, v .long)) (bars-read g) }
 
     -- R25, R19: slot i is the one
-    pub shrink-stop : b ≡ true → slotOf (At i) ≡ lowest (shrinks t q) (length (t .slots))
-    shrink-stop g = sym (look-stop (v .looking) (omega (arith, v .long)) (shrinks-read g))
+    pub bar-stop : b ≡ true → slotOf (At i) ≡ lowest (bars t q) (length (t .slots))
+    bar-stop g = sym (look-stop (v .looking) (omega (arith, v .long)) (bars-read g))
 
   -- R25: there is none
-  pub shrink-end : 16 ≤ i → slotOf None ≡ lowest (shrinks t q) (length (t .slots))
-  shrink-end h = sym (look-end (v .looking) (omega (arith, v .long)))
+  pub bar-end : 16 ≤ i → slotOf None ≡ lowest (bars t q) (length (t .slots))
+  bar-end h = sym (look-end (v .looking) (omega (arith, v .long)))
 
 -- ---- each way out
 
@@ -93,11 +93,11 @@ module _ (t : Table) (q : Request) {r : Answer} where
         unfolding askOf
         ask-unsound g e = rw (le-ltb (2 ^ 48 - 65536) (t .clock) h, which-says e2 g2, which-says e3 g3, which-says e4 g) e
 
-        module _ {s : Which} (g4 : u ≡ None) (e5 : slotOf s ≡ lowest (shrinks t q) (length (t .slots))) where
-          -- R25: a line is to shrink
-          pub ask-shrunk : {k : ℕ} → s ≡ At k → r ≡ Refused (refusal 5 k) → r ≡ askOf t q
+        module _ {s : Which} (g4 : u ≡ None) (e5 : slotOf s ≡ lowest (bars t q) (length (t .slots))) where
+          -- R25: a line may not have its T'
+          pub ask-barred : {k : ℕ} → s ≡ At k → r ≡ Refused (refusal 5 k) → r ≡ askOf t q
           unfolding askOf
-          ask-shrunk g e = rw (le-ltb (2 ^ 48 - 65536) (t .clock) h, which-says e2 g2, which-says e3 g3, which-says e4 g4, which-says e5 g) e
+          ask-barred g e = rw (le-ltb (2 ^ 48 - 65536) (t .clock) h, which-says e2 g2, which-says e3 g3, which-says e4 g4, which-says e5 g) e
 
           -- R26: the new line does not fit its period
           pub ask-misfit : {b : Bool} → s ≡ None → b ≡ both (leb 1 (q .need)) (leb (q .need) (q .period)) → not b ≡ true → r ≡ Refused (refusal 6 0) → r ≡ askOf t q
@@ -112,9 +112,9 @@ module _ (t : Table) (q : Request) {r : Answer} where
 
 -- R23 to R25: what is known past the first five grounds
 pub allowed-all : (t : Table) (q : Request) {w v u : Which} → slotOf w ≡ lowestOf isWaiting (t .slots) → w ≡ None → slotOf v ≡ fault t → v ≡ None
-    → slotOf u ≡ lowest (shrinks t q) (length (t .slots)) → u ≡ None → AllAllowed t q
+    → slotOf u ≡ lowest (bars t q) (length (t .slots)) → u ≡ None → AllAllowed t q
 allowed-all t q e3 g3 e4 g4 e5 g5 i h = (
   lowest-none (λ k. isWaiting (at (t .slots) k)) (length (t .slots)) (which-says e3 g3) i h,
   not-false _ (lowest-none (λ k. not (sound (at (t .slots) k))) (length (t .slots)) (faultless t (which-says e4 g4) .0) i h),
-  lowest-none (shrinks t q) (length (t .slots)) (which-says e5 g5) i h,
+  lowest-none (bars t q) (length (t .slots)) (which-says e5 g5) i h,
 )

@@ -20,17 +20,18 @@ use Rattle.line.specs.Shares.{frame, share, claim, full}
 use Rattle.line.specs.Ends.{endsOf, anyOf, start, shortAt}
 use Rattle.line.specs.Stretch.{stretch, stretched}
 use Rattle.line.proofs.Search.{true-false}
-use Rattle.line.proofs.Sound.{sound-says}
+use Rattle.line.proofs.After.{by-follows}
+use Rattle.line.proofs.Sound.{sound-says, barred-not, not-barred}
 use Rattle.table.specs.declared.Table.{Table}
 use Rattle.table.specs.declared.Request.{Request}
 use Rattle.table.specs.declared.Answer.{Answer}
 use Rattle.table.specs.declared.Answer.the-variants.{Start}
 use Rattle.table.specs.Grounds.{entry, asked}
 use Rattle.table.specs.Ask.{refusedIf, askIn}
-use Rattle.sums.specs.Lines.{Fit}
+use Rattle.sums.specs.Lines.{longest, Fit}
 use Rattle.sums.specs.Weighed.{fitting, weighedFit, weighed}
 use Rattle.sums.proofs.Along.{along-length}
-use Rattle.sums.proofs.Weighing.{says-fitting, none-weighs}
+use Rattle.sums.proofs.Weighing.{says-fitting, fitting-says, none-weighs}
 use Rattle.pass.specs.declared.Pass.{Pass}
 use Rattle.pass.specs.Pass.{passIn, passOf}
 use Rattle.pass.proofs.Passing.{pass-fit}
@@ -54,9 +55,11 @@ slot-fits : (p : ℕ) (h : Held) → Allowed p h → p ≤ 65535 → All Fits (b
 slot-fits p Nothing a w = tt
 slot-fits p (Running r) a w =
     let v = sound-says (Running r) (a .1) in
-    let k = ltb-false p (r .period) (a .2) in
-    let f : Fit (stream (p - r .age) (r .remaining) (r .need) p) = record { some = omega arith; ends = omega arith; less = omega arith; rest = v .2; wide = omega arith } in
-    ((f, f), tt)
+    let k = not-barred p r (λ b. barred-not p (Running r) b (a .2)) in
+    let f : (g : ℕ) → p ≤ g → g ≤ longest → Fit (stream (p - r .age) (r .remaining) (r .need) g) = λ g b c.
+    record { some = omega (arith, v, k); ends = omega arith; less = omega (arith, v, k); rest = v .2; wide = c } in
+    let own = f p (omega arith) (omega arith) in
+    ((own, by-follows (λ (g : ℕ). Fit (stream (p - r .age) (r .remaining) (r .need) g)) p longest (r .follows) own (f longest (omega arith) (omega arith))), tt)
 slot-fits p (Waiting x) a w = absurd (true-false refl (a .0))
 
 asked-fits : (l : List Slot) (p : ℕ → ℕ) → ((i : ℕ) → i < length l → Allowed (p i) (at l i)) → ((i : ℕ) → p i ≤ 65535) → All Fits (linesIn (stretched l p))
@@ -144,14 +147,14 @@ module _ (t : Table) (q : Request) (fp : fitting (map byPeriod (linesIn (asked t
     pass-is = pass-fit (map byGap (linesIn l)) (q .need) (q .period) fg need-some
 
     short-is : pass .short ≡ short
-    short-is = ap (λ (y : Pass). y .short) pass-is ∙ any-lines l (t .clock) (q .need) (q .period)
+    short-is = ap (λ (y : Pass). y .short) pass-is ∙ any-lines l (fitting-says _ fg) (t .clock) (q .need) (q .period)
 
     rest-is : (b : Bool) → pass .short ≡ b → refusedIf b 10 (Start (t .clock + pass .start)) ≡ rest
     rest-is true e = rw (sym short-is ∙ e)
     rest-is false e =
         let k : passIn (map byGap (linesIn l)) (q .need) (q .period) .short ≡ false = ap (λ (y : Pass). y .short) (sym pass-is) ∙ e in
         let z : t .clock + pass .start ≡ start (t .clock) l (q .need) (q .period) =
-        ap (λ (y : Pass). t .clock + y .start) pass-is ∙ start-lines l (t .clock) (q .need) (q .period) need-some k in
+        ap (λ (y : Pass). t .clock + y .start) pass-is ∙ start-lines l (fitting-says _ fg) (t .clock) (q .need) (q .period) need-some k in
         rw (sym short-is ∙ e) (ap Start z)
 
   decided-is : answerFrom (t .clock) (decided (linesIn l) (q .need) (q .period)) ≡ refusedIf (ltb 0 first) first (refusedIf (pass .short) 10 (Start (t .clock + pass .start)))

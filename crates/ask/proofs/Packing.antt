@@ -1,6 +1,6 @@
 -- From the slots to the arrays: what is gathered are the lines of the slots, each at its T'.
 use Prim.Native.Nat.{ℕ, zero, suc, _+_, _≤_, _<_}
-use mathlib.Core.Path.{_≡_, refl, ap, sym, _∙_}
+use mathlib.Core.Path.{_≡_, refl, ap, sym, _∙_, subst}
 use mathlib.Core.Bool.{Bool, true, false, not}
 use mathlib.Core.List.{List, [], _∷_, _++_, append-assoc, append-nil}
 use native.Mathlib.Nat.{le-of-suc-le-suc}
@@ -19,7 +19,7 @@ use Rattle.line.specs.Stretch.{stretch, stretchSlot, stretched}
 use Rattle.line.proofs.Read.{seen}
 use Rattle.sums.specs.Lines.{along}
 use Rattle.sums.proofs.Along.{along-more, along-same}
-use Rattle.decide.specs.Lines.{Line, gatheredAt, gathered, allAlike, lineOf, linesIn}
+use Rattle.decide.specs.Lines.{Line, gatheredAt, gathered, allAlike, gapOf, lineOf, linesIn}
 use Rattle.decide.specs.Decided.{decided, decidedIn}
 use Rattle.ask.specs.declared.gather.Gathered.{Gathered}
 use Rattle.ask.specs.Gathered.{gatheredLines, Room}
@@ -30,16 +30,20 @@ use Rattle.ask.specs.Gathered.{gatheredLines, Room}
 abbrev Sixteen : Gathered → Type 0
 Sixteen g = (length (g .end) ≡ 16) × (length (g .remaining) ≡ 16) × (length (g .need) ≡ 16) × (length (g .period) ≡ 16) × (length (g .gap) ≡ 16)
 
--- a line behind those before it
-abbrev pushed : Gathered → Stream → Gathered
-pushed g y = record {
+-- a line behind those before it, with this gap
+abbrev pushedBy : Gathered → Stream → (gap : ℕ) → Gathered
+pushedBy g y z = record {
   count = g .count + 1;
   end = set (g .end) (g .count) (y .end);
   remaining = set (g .remaining) (g .count) (y .remaining);
   need = set (g .need) (g .count) (y .need);
   period = set (g .period) (g .count) (y .period);
-  gap = set (g .gap) (g .count) (y .period);
+  gap = set (g .gap) (g .count) z;
 }
+
+-- and with its own
+abbrev pushed : Gathered → Stream → Gathered
+pushed g y = pushedBy g y (gapOf y)
 
 module _ (g : Gathered) (y : Stream) where
   abbrev before : ℕ → Line
@@ -56,7 +60,7 @@ module _ (g : Gathered) (y : Stream) where
         getD-set-other (g .remaining) (g .count) k (y .remaining) 0 (λ e. omega arith),
         getD-set-other (g .need) (g .count) k (y .need) 0 (λ e. omega arith),
         getD-set-other (g .period) (g .count) k (y .period) 0 (λ e. omega arith),
-        getD-set-other (g .gap) (g .count) k (y .period) 0 (λ e. omega arith),
+        getD-set-other (g .gap) (g .count) k (gapOf y) 0 (λ e. omega arith),
       )
 
   line-new : Sixteen g → g .count < 16 → after (g .count) ≡ lineOf y
@@ -66,7 +70,7 @@ module _ (g : Gathered) (y : Stream) where
         getD-set-same (g .remaining) (g .count) (y .remaining) 0 (omega (arith, r .1)),
         getD-set-same (g .need) (g .count) (y .need) 0 (omega (arith, r .2)),
         getD-set-same (g .period) (g .count) (y .period) 0 (omega (arith, r .3)),
-        getD-set-same (g .gap) (g .count) (y .period) 0 (omega (arith, r .4)),
+        getD-set-same (g .gap) (g .count) (gapOf y) 0 (omega (arith, r .4)),
       )
 
   lines-push : Sixteen g → g .count < 16 → gatheredLines (pushed g y) ≡ gatheredLines g ++ (lineOf y ∷ [])
@@ -145,14 +149,15 @@ module _ {l : List Slot} {p : ℕ → ℕ} {i : ℕ} {g : Gathered} (v : Gatheri
         (sym (append-nil (gatheredLines g)) ∙ ap (λ (k : List Line). gatheredLines g ++ k) (sym (taken (p i) (getD l i d .held) ∙ rw (sym t ∙ not-false b n))))
 
     -- slot i holds a line, which at its T' is x and asks for y
-    pub gather-push : {x : Slot} {y : Stream} → not b ≡ true → x ≡ stretchSlot (p i) (getD l i d) → y ≡ byStream (noStream) (λ s. s) (x .held)
-        → Gathering l p (i + 1) (pushed g y)
-    gather-push {x} {y} n e f =
-        gather-on (pushed g y) d h (omega arith) (simp length-set (v .room))
+    pub gather-push : {x : Slot} {y : Stream} {z : ℕ} → not b ≡ true → x ≡ stretchSlot (p i) (getD l i d) → y ≡ byStream (noStream) (λ s. s) (x .held) → z ≡ gapOf y
+        → Gathering l p (i + 1) (pushedBy g y z)
+    gather-push {x} {y} n e f k =
+        subst (λ (z : ℕ). Gathering l p (i + 1) (pushedBy g y z)) (sym k)
+        (gather-on (pushed g y) d h (omega arith) (simp length-set (v .room))
         (lines-push g y (v .room) (omega (arith, v .few))
         ∙ ap (λ (k : List Line). gatheredLines g ++ k)
         (sym (taken (p i) (getD l i d .held) ∙ rw (sym t ∙ not-true b n, f ∙ ap (λ (s : Slot). byStream (noStream) (λ u. u) (s .held)) e)))
-        )
+        ))
 
   -- the arrays have room for what is gathered
   pub gather-room : Room g

@@ -9,7 +9,7 @@ use Rattle.line.specs.declared.Held.{Held}
 use Rattle.line.specs.Slots.{both, at, isWaiting}
 use Rattle.line.specs.Sound.{sound}
 use Rattle.line.specs.Shares.{frame}
-use Rattle.line.specs.Stretch.{shrunk}
+use Rattle.line.specs.Stretch.{barred}
 use Rattle.table.specs.declared.Table.{Table}
 use Rattle.table.specs.declared.Request.{Request}
 use Rattle.table.specs.declared.Answer.{Answer}
@@ -41,7 +41,7 @@ pub record Gathers (t : Table) (q : Request) (g : Gathered) : Type 0 where
 
 -- R23 to R25: what is known of a slot, with p for its T', since none of these grounds held
 abbrev pub Allowed : ℕ → Held → Type 0
-Allowed p h = (isWaiting h ≡ false) × (sound h ≡ true) × (shrunk p h ≡ false)
+Allowed p h = (isWaiting h ≡ false) × (sound h ≡ true) × (barred p h ≡ false)
 
 -- the same of every slot, with its entry for its T'
 abbrev pub AllAllowed : Table → Request → Type 0

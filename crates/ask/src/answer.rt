@@ -4,7 +4,7 @@ ghost use Prim.Native.Nat.{_-_, _^_, _≤_};
 ghost use lib.Dec.{leb};
 ghost use lib.ListN.{length};
 ghost use Rattle.line.specs.Slots.{at, both, lowest};
-ghost use Rattle.line.specs.Stretch.{shrunk};
+ghost use Rattle.line.specs.Stretch.{barred};
 ghost use Rattle.table.specs.declared.Answer.the-variants.{Refused};
 ghost use Rattle.table.specs.Words.{slotOf, refusal};
 ghost use Rattle.table.specs.Grounds.{entry};
@@ -24,15 +24,15 @@ fn refused(number: u16, place: u64) -> table::Answer
     table::Answer::Refused(table::Refusal::new(number, place))
 }
 
-// R25, R19: the lowest slot of a line that is asked to shrink
-fn lowest_shrunk(t: table::Table, q: table::Request) -> table::Which
-    ensures { λ r. ⌜ slotOf r ≡ lowest (λ i. shrunk (entry q i) (at (t .slots) i)) (length (t .slots)) ⌝ }
+// R25, R19: the lowest slot of a line that may not have its T'
+fn lowest_barred(t: table::Table, q: table::Request) -> table::Which
+    ensures { λ r. ⌜ slotOf r ≡ lowest (λ i. barred (entry q i) (at (t .slots) i)) (length (t .slots)) ⌝ }
 {
     let mut i: usize = 0;
     while i < 16 {
         let s = t.slots[i];
         let p = q.stretched[i];
-        if s.shrunk(p) {
+        if s.bars(p) {
             return table::Which::At(i);
         }
         i = i + 1;
@@ -103,7 +103,7 @@ pub(crate) fn answer(t: table::Table, q: table::Request) -> table::Answer
         table::Which::At(k) => return refused(4, k as u64),
         table::Which::None => {}
     }
-    match lowest_shrunk(t, q) {
+    match lowest_barred(t, q) {
         table::Which::At(k) => return refused(5, k as u64),
         table::Which::None => {}
     }

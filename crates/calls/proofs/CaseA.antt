@@ -13,6 +13,7 @@ use Rattle.line.specs.Shares.{periodsIn}
 use Rattle.table.specs.Ask.{says, askIn, askOf}
 use Rattle.line.specs.Ends.{endsOf, slack, bound, greatest, anyOf, start}
 use Rattle.table.specs.Admit.{admitOf}
+use Rattle.table.specs.Counts.{settling}
 use Rattle.table.specs.Step.{chosen, advance, stepOf}
 use Rattle.table.specs.Cases.{caseA}
 use Rattle.card.specs.Card.{cardOf, carrying}
@@ -39,7 +40,7 @@ pub line-A : lineFor cardA ≡ 114 ∷ 101 ∷ 108 ∷ 101 ∷ 97 ∷ 115 ∷ 10
 line-A = ap (λ (a : Answer). answerLine (says a)) (ap answerFor reads-A ∙ asks-A) ∙ line-of-case-A
 
 runs-A : runAdmitted 26 (admitOf (caseA .table) (caseA .request)) ≡ gives 23
-unfolding euclid gcdOf lcmOf frameFrom total lowest due lastEnd mapAt periodsIn every endsBefore endsOf slack bound greatest anyOf start askIn askOf chosen advance stepOf ticksRun
+unfolding euclid gcdOf lcmOf frameFrom total lowest due lastEnd mapAt periodsIn every endsBefore endsOf slack bound greatest anyOf start askIn askOf chosen settling advance stepOf ticksRun
 runs-A = refl
 
 -- R66: three of the 26 ticks run no line

@@ -14,6 +14,7 @@ use Rattle.line.specs.Demand.{lastEnd}
 use Rattle.line.specs.Shares.{periodsIn}
 use Rattle.line.specs.Ends.{endsOf, slack, bound, greatest, anyOf, start}
 use Rattle.table.specs.Ask.{askIn, askOf}
+use Rattle.table.specs.Counts.{settling}
 use Rattle.table.specs.Step.{chosen, advance, stepOf}
 use Rattle.table.specs.Cases.{running, tableOf}
 use Rattle.card.specs.Bytes.{marked}
@@ -84,7 +85,7 @@ rewritten-edges = (refl, refl)
 
 -- R66: no tick, one, a whole period, and two ticks of the next
 pub run-edges : map (runOf (emptyCard 3)) (0 ∷ 1 ∷ 5 ∷ 7 ∷ []) ≡ gives 0 ∷ gives 1 ∷ gives 3 ∷ gives 5 ∷ []
-unfolding readWith recordsOf recordOf marked euclid gcdOf lcmOf frameFrom total lowest due lastEnd mapAt periodsIn every endsBefore endsOf slack bound greatest anyOf start askIn askOf chosen advance stepOf ticksRun
+unfolding readWith recordsOf recordOf marked euclid gcdOf lcmOf frameFrom total lowest due lastEnd mapAt periodsIn every endsBefore endsOf slack bound greatest anyOf start askIn askOf chosen settling advance stepOf ticksRun
 run-edges = refl
 
 -- R66: the reader's refusal, with no tick to run and with some
@@ -107,15 +108,15 @@ late = tableOf (2 ^ 48 - 1) (running 1 2 0 1 ∷ [])
 
 -- R66, R34: the second step is refused, and no step after it is made
 pub stops-at-a-short-period : map (λ (n : ℕ). runAdmitted n (record { table = crowded; answer = Start 0 })) (0 ∷ 1 ∷ 2 ∷ 3 ∷ []) ≡ gives 0 ∷ gives 1 ∷ refuses (refusal 14 1) ∷ refuses (refusal 14 1) ∷ []
-unfolding lowest chosen advance stepOf ticksRun
+unfolding lowest chosen settling advance stepOf ticksRun
 stops-at-a-short-period = refl
 
 -- R66, R35: the step at the clock's end is refused, and the run with it
 pub stops-at-the-last-tick : map (λ (n : ℕ). ticksRun n late) (0 ∷ 1 ∷ 2 ∷ 3 ∷ []) ≡ gives 0 ∷ gives 1 ∷ refuses (refusal 15 0) ∷ refuses (refusal 15 0) ∷ []
-unfolding lowest chosen advance stepOf ticksRun
+unfolding lowest chosen settling advance stepOf ticksRun
 stops-at-the-last-tick = refl
 
 -- R66: a refused admission runs nothing, whatever table stands beside it
 pub refused-admission-runs : map (λ (n : ℕ). runAdmitted n (record { table = crowded; answer = Refused (refusal 8 0) })) (0 ∷ 2 ∷ []) ≡ refuses (refusal 8 0) ∷ refuses (refusal 8 0) ∷ []
-unfolding lowest chosen advance stepOf ticksRun
+unfolding lowest chosen settling advance stepOf ticksRun
 refused-admission-runs = refl

@@ -1,5 +1,5 @@
 -- The operations on images at their edges, by computation: what is answered and left for a table that was loaded, and for an image that is refused.
-use Prim.Native.Nat.{ℕ, zero, suc, _/_, _%_, _^_, _<_}
+use Prim.Native.Nat.{ℕ, zero, suc, _-_, _/_, _%_, _^_, _<_}
 use mathlib.Core.Path.{_≡_, refl}
 use mathlib.Core.List.{[], _∷_, _++_, map}
 use native.Mathlib.Omega.{arith}
@@ -14,15 +14,17 @@ use Rattle.line.specs.Ends.{endsOf, slack, bound, greatest, anyOf, start}
 use Rattle.table.specs.declared.Table.{Table}
 use Rattle.table.specs.Words.{tableWith, refusal, Said, gives, refuses}
 use Rattle.table.specs.Ask.{askIn, askOf}
+use Rattle.table.specs.Counts.{settling}
 use Rattle.table.specs.Step.{chosen, advance, stepOf}
-use Rattle.table.specs.Cases.{running, waiting, tableOf, tallied, caseA}
+use Rattle.table.specs.Leave.{leaveOf}
+use Rattle.table.specs.Cases.{running, parting, waiting, tableOf, talliedWith, caseA}
 use Rattle.card.specs.Card.{carrying, cardOf}
 use Rattle.card.specs.Answers.{lengthOf}
 use Rattle.board.specs.Board.{bit}
 use Rattle.image.specs.Image.{imageOf}
 use Rattle.image.specs.Answers.{storeOf}
 use Rattle.calls.specs.Results.{grantedAs, refusedAs}
-use Rattle.calls.specs.Tables.{requestOf, changed, askFor, afterAdmit, stepFor, afterStep, ReadyFor, countsFor, countsAfter}
+use Rattle.calls.specs.Tables.{requestOf, changed, askFor, afterAdmit, stepFor, afterStep, leaveFor, afterLeave, ReadyFor, countsFor, countsAfter}
 use Rattle.calls.specs.Moves.{eighteen, writeCardFor, cardAfter, readCardFor, imageAfter, numbersAfter}
 
 -- an image that is refused
@@ -59,13 +61,36 @@ crowded = tableOf 0 (running 1 2 1 0 ∷ running 2 2 1 2 ∷ [])
 pub step-edges : map stepFor (
     gives (tableOf 0 (running 1 4 0 0 ∷ running 1 4 0 1 ∷ [])) ∷ gives (tableOf 0 (running 1 4 0 0 ∷ waiting 1 4 2 ∷ [])) ∷ gives (tableOf (2 ^ 48) []) ∷ gives (tableOf 0 (running 0 4 0 0 ∷ [])) ∷ gives crowded ∷ broken ∷ [])
     ≡ grantedAs 0 1 ∷ grantedAs 0 255 ∷ refusedAs (refusal 15 0) ∷ refusedAs (refusal 4 0) ∷ refusedAs (refusal 14 1) ∷ refusedAs (refusal 11 9) ∷ []
-unfolding lowest chosen advance stepOf
+unfolding lowest chosen settling advance stepOf
 step-edges = refl
 
 -- R88: a refused step and a refused image leave every byte
 pub step-leaves-edges : map (λ (s : Said Table). afterStep s (7 ∷ 8 ∷ [])) (gives (tableOf (2 ^ 48) []) ∷ gives crowded ∷ broken ∷ []) ≡ (7 ∷ 8 ∷ []) ∷ (7 ∷ 8 ∷ []) ∷ (7 ∷ 8 ∷ []) ∷ []
-unfolding lowest chosen advance stepOf
+unfolding lowest chosen settling advance stepOf
 step-leaves-edges = refl
+
+-- slot 0 runs, slot 1 waits, slot 2 leaves
+abbrev several : Table
+several = tableOf 9 (running 2 8 3 1 ∷ waiting 1 4 3 ∷ parting 1 4 2 1 ∷ [])
+
+-- R102: the ticks to the end of the running line's period, 0 of the waiting line, and each refusal of a leave with its place; an image's comes before them
+pub leave-edges : (map (leaveFor (gives several)) (0 ∷ 1 ∷ 2 ∷ 3 ∷ 16 ∷ (2 ^ 64 - 1) ∷ [])
+    ≡ grantedAs 0 5 ∷ grantedAs 0 0 ∷ refusedAs (refusal 16 2) ∷ refusedAs (refusal 16 3) ∷ refusedAs (refusal 16 16) ∷ refusedAs (refusal 16 (2 ^ 64 - 1)) ∷ [])
+    × (leaveFor (gives (tableOf 0 (running 0 4 0 0 ∷ []))) 99 ≡ refusedAs (refusal 4 0))
+    × (leaveFor broken 99 ≡ refusedAs (refusal 11 9))
+unfolding lowest leaveOf
+leave-edges = (refl, refl, refl)
+
+-- R102: a refused leave and a refused image leave every byte
+pub leave-leaves-edges : map (λ (s : Said Table). afterLeave s 99 (7 ∷ 8 ∷ [])) (gives several ∷ gives (tableOf 0 (running 0 4 0 0 ∷ [])) ∷ broken ∷ [])
+    ≡ (7 ∷ 8 ∷ []) ∷ (7 ∷ 8 ∷ []) ∷ (7 ∷ 8 ∷ []) ∷ []
+unfolding lowest leaveOf
+leave-leaves-edges = refl
+
+-- R102: the table with the line let go goes into a buffer that holds an image, and the byte after it stays
+pub leave-stores : afterLeave (gives several) 0 (replicate 298 7) ≡ imageOf (tableOf 9 (parting 2 8 3 1 ∷ waiting 1 4 3 ∷ parting 1 4 2 1 ∷ [])) ++ (7 ∷ [])
+unfolding lowest leaveOf storeOf imageOf
+leave-stores = refl
 
 -- R89: an image's refusal is the whole answer
 pub ready-refused : ReadyFor broken (refusedAs (refusal 11 9))
@@ -92,7 +117,7 @@ unfolding lowest lengthOf cardOf
 card-granted = (refl, refl)
 
 -- R92: the image of the card's table, and the byte after it as it was
-pub image-granted : imageAfter (gives (carrying (caseA .table) (caseA .request))) (replicate 290 7) ≡ imageOf (caseA .table) ++ (7 ∷ [])
+pub image-granted : imageAfter (gives (carrying (caseA .table) (caseA .request))) (replicate 298 7) ≡ imageOf (caseA .table) ++ (7 ∷ [])
 unfolding storeOf imageOf
 image-granted = refl
 
@@ -104,28 +129,28 @@ card-edges = refl
 pub eighteen-edges : eighteen (requestOf 1 4 (32 ∷ 16 ∷ [])) ≡ 32 ∷ 16 ∷ 1 ∷ 4 ∷ []
 eighteen-edges = refl
 
--- R92: the reader's refusal comes before the room's; 288 bytes are too few, 289 are enough
-pub read-edges : (map (readCardFor (gives (carrying (caseA .table) (caseA .request)))) (288 ∷ 289 ∷ []) ≡ refuses (refusal 13 0) ∷ gives 289 ∷ [])
-    × (map (readCardFor (refuses (refusal 12 22))) (288 ∷ 289 ∷ []) ≡ refuses (refusal 12 22) ∷ refuses (refusal 12 22) ∷ [])
+-- R92: the reader's refusal comes before the room's; 296 bytes are too few, 297 are enough
+pub read-edges : (map (readCardFor (gives (carrying (caseA .table) (caseA .request)))) (296 ∷ 297 ∷ []) ≡ refuses (refusal 13 0) ∷ gives 297 ∷ [])
+    × (map (readCardFor (refuses (refusal 12 22))) (296 ∷ 297 ∷ []) ≡ refuses (refusal 12 22) ∷ refuses (refusal 12 22) ∷ [])
 unfolding storeOf
 read-edges = (refl, refl)
 
 -- R92: the numbers are written where the image is, and left where anything is refused
-pub numbers-edges : (map (λ (room : ℕ). numbersAfter (gives (carrying (caseA .table) (requestOf 1 4 (32 ∷ [])))) room (7 ∷ [])) (288 ∷ 289 ∷ []) ≡ (7 ∷ []) ∷ (32 ∷ 1 ∷ 4 ∷ []) ∷ [])
-    × (numbersAfter (refuses (refusal 11 0)) 289 (7 ∷ []) ≡ 7 ∷ []) × (imageAfter (refuses (refusal 11 0)) (7 ∷ 8 ∷ []) ≡ 7 ∷ 8 ∷ [])
+pub numbers-edges : (map (λ (room : ℕ). numbersAfter (gives (carrying (caseA .table) (requestOf 1 4 (32 ∷ [])))) room (7 ∷ [])) (296 ∷ 297 ∷ []) ≡ (7 ∷ []) ∷ (32 ∷ 1 ∷ 4 ∷ []) ∷ [])
+    × (numbersAfter (refuses (refusal 11 0)) 297 (7 ∷ []) ≡ 7 ∷ []) × (imageAfter (refuses (refusal 11 0)) (7 ∷ 8 ∷ []) ≡ 7 ∷ 8 ∷ [])
     × (imageAfter (gives (carrying (caseA .table) (caseA .request))) (7 ∷ 8 ∷ []) ≡ 7 ∷ 8 ∷ [])
 unfolding storeOf
 numbers-edges = (refl, refl, refl, refl)
 
--- a table whose slots have had 1 to 16 ticks, which with 17 idle ones are more than its clock
+-- a table whose slots have had 1 to 16 ticks, which with 17 idle and 18 departed ones are more than its clock
 abbrev served : Table
-served = tallied (1 ∷ 2 ∷ 3 ∷ 4 ∷ 5 ∷ 6 ∷ 7 ∷ 8 ∷ 9 ∷ 10 ∷ 11 ∷ 12 ∷ 13 ∷ 14 ∷ 15 ∷ 16 ∷ []) 17 (tableOf 100 [])
+served = talliedWith (1 ∷ 2 ∷ 3 ∷ 4 ∷ 5 ∷ 6 ∷ 7 ∷ 8 ∷ 9 ∷ 10 ∷ 11 ∷ 12 ∷ 13 ∷ 14 ∷ 15 ∷ 16 ∷ []) 17 18 (tableOf 100 [])
 
--- R98: the slots' counts in their order, then the idle one, and the clock as the value, though R24 would refuse the table; an image's refusal leaves every number
+-- R98: the slots' counts in their order, then the idle one and the departed one, and the clock as the value, though R24 would refuse the table; an image's refusal leaves every number
 pub counts-edges : (countsFor (gives served) ≡ grantedAs 0 100)
-    × (countsAfter (gives served) (replicate 17 7) ≡ 1 ∷ 2 ∷ 3 ∷ 4 ∷ 5 ∷ 6 ∷ 7 ∷ 8 ∷ 9 ∷ 10 ∷ 11 ∷ 12 ∷ 13 ∷ 14 ∷ 15 ∷ 16 ∷ 17 ∷ [])
+    × (countsAfter (gives served) (replicate 18 7) ≡ 1 ∷ 2 ∷ 3 ∷ 4 ∷ 5 ∷ 6 ∷ 7 ∷ 8 ∷ 9 ∷ 10 ∷ 11 ∷ 12 ∷ 13 ∷ 14 ∷ 15 ∷ 16 ∷ 17 ∷ 18 ∷ [])
     × (stepFor (gives served) ≡ refusedAs (refusal 4 0))
     × (countsFor broken ≡ refusedAs (refusal 11 9))
-    × (countsAfter broken (replicate 17 7) ≡ replicate 17 7)
+    × (countsAfter broken (replicate 18 7) ≡ replicate 18 7)
 unfolding lowest stepOf
 counts-edges = (refl, refl, refl, refl, refl)

@@ -11,16 +11,19 @@ use Rattle.table.specs.declared.Admitted.{Admitted}
 use Rattle.table.specs.declared.Which.{Which}
 use Rattle.table.specs.declared.Outcome.{Outcome}
 use Rattle.table.specs.declared.Stepped.{Stepped}
+use Rattle.table.specs.declared.Leaving.{Leaving}
+use Rattle.table.specs.declared.Left.{Left}
 use Rattle.table.specs.Words.{slotOf, gives}
 use Rattle.table.specs.Ask.{says, askOf}
 use Rattle.table.specs.Admit.{admitOf}
 use Rattle.table.specs.Step.{saysRan, stepOf}
+use Rattle.table.specs.Leave.{saysLeaving, leaveOf}
 use Rattle.admit.proofs.Right.{admitted-answer}
 use Rattle.board.specs.Board.{ReadyWord}
 use Rattle.image.specs.Answers.{storedIn}
 use Rattle.calls.specs.declared.Result.{Result}
-use Rattle.calls.specs.Results.{grantedAs, refusedAs, slotNumber}
-use Rattle.calls.specs.Tables.{changed, askedAs, admittedIn, ranAs, steppedAs, steppedIn, ReadyFor}
+use Rattle.calls.specs.Results.{grantedAs, refusedAs, resultOf, slotNumber}
+use Rattle.calls.specs.Tables.{changed, askedAs, admittedIn, ranAs, steppedAs, steppedIn, leftAs, leftIn, ReadyFor}
 
 -- R89: the value is the ready word
 pub ready-granted : (t : Table) {r : Result} {w : ℕ} → r ≡ grantedAs 0 w → ReadyWord (t .slots) w → ReadyFor (gives t) r
@@ -64,4 +67,23 @@ module _ (t : Table) {s : Stepped} (e : s ≡ stepOf t) where
   step-refused l h g = (
     g ∙ ap (λ (x : Outcome). ranAs (saysRan x)) (sym h ∙ outcome-is),
     ap (λ (x : Outcome). changed (saysRan x) (storedIn (stepOf t .table) l) l) (sym h ∙ outcome-is),
+  )
+
+module _ (t : Table) (n : ℕ) {s : Left} (e : s ≡ leaveOf t n) where
+  leaving-is : s .leaving ≡ leaveOf t n .leaving
+  leaving-is = ap (λ (x : Left). x .leaving) e
+
+  -- R102: the ticks are answered, and the new table was stored
+  pub leave-granted : {k : ℕ} {r : Result} (l o : List ℕ) → s .leaving ≡ Leaving.In k → r ≡ grantedAs 0 k → o ≡ storedIn (s .table) l → (r ≡ leftAs t n) × (o ≡ leftIn t n l)
+  leave-granted l o h g p = (
+    g ∙ ap (λ (x : Leaving). resultOf (saysLeaving x)) (sym h ∙ leaving-is),
+    p ∙ ap (λ (x : Left). storedIn (x .table) l) e
+        ∙ ap (λ (x : Leaving). changed (saysLeaving x) (storedIn (leaveOf t n .table) l) l) (sym h ∙ leaving-is),
+  )
+
+  -- R17, R102: a refused leave stores nothing
+  pub leave-refused : {x : Refusal} {r : Result} (l : List ℕ) → s .leaving ≡ Leaving.Refused x → r ≡ refusedAs x → (r ≡ leftAs t n) × (l ≡ leftIn t n l)
+  leave-refused l h g = (
+    g ∙ ap (λ (x : Leaving). resultOf (saysLeaving x)) (sym h ∙ leaving-is),
+    ap (λ (x : Leaving). changed (saysLeaving x) (storedIn (leaveOf t n .table) l) l) (sym h ∙ leaving-is),
   )

@@ -15,6 +15,7 @@ use Rattle.table.specs.Words.{refusal, Said, gives, refuses}
 use Rattle.table.specs.Ask.{says, askOf}
 use Rattle.table.specs.Admit.{admitOf}
 use Rattle.table.specs.Step.{saysRan, stepOf}
+use Rattle.table.specs.Leave.{saysLeaving, leaveOf}
 use Rattle.card.specs.Bytes.{Bytes}
 use Rattle.card.specs.Card.{Card, cardOf}
 use Rattle.card.specs.Reading.{readOf}
@@ -28,7 +29,7 @@ use Rattle.image.specs.Loading.{loadOf}
 use Rattle.image.specs.Answers.{storedIn}
 use Rattle.image.proofs.WritesBack.{loaded-length}
 use Rattle.image.proofs.Stored.{stored-is}
-use Rattle.calls.specs.Tables.{changed, afterAdmit, afterStep}
+use Rattle.calls.specs.Tables.{changed, afterAdmit, afterStep, afterLeave}
 use Rattle.calls.specs.Results.{grantedAs, refusedAs, resultAt}
 use Rattle.calls.specs.Cards.{answerFor, answerOf, rewriteFor, rewriteAs, rewrittenFor, rewrittenOf}
 
@@ -86,8 +87,8 @@ rewritten-fits card room = go (turnedOf card) (readOf card)
 -- R84: a buffer that an image fills holds a stored table's image and nothing else
 pub stored-image : (l : List ℕ) (t u : Table) → loadOf l ≡ gives t → storedIn u l ≡ imageOf u
 stored-image l t u e =
-    let n : length l ≡ 289 = loaded-length 16 l t e in
-    stored-is u l (omega arith) ∙ ap (λ (x : List ℕ). imageOf u ++ x) (drop-of-length-le l {i = 289} (omega arith)) ∙ append-nil (imageOf u)
+    let n : length l ≡ 297 = loaded-length 16 l t e in
+    stored-is u l (omega arith) ∙ ap (λ (x : List ℕ). imageOf u ++ x) (drop-of-length-le l {i = 297} (omega arith)) ∙ append-nil (imageOf u)
 
 -- bytes that load as a table
 module _ (l : List ℕ) (t : Table) (e : loadOf l ≡ gives t) where
@@ -102,3 +103,9 @@ module _ (l : List ℕ) (t : Table) (e : loadOf l ≡ gives t) where
   admit-leaves q r h =
       ap (λ (s : Said Table). afterAdmit s q l) e ∙ ap (λ (s : Said ℕ). changed s (storedIn (admitOf t q .table) l) l) h
       ∙ stored-image l t (admitOf t q .table) e
+
+  -- R102: where a line is let go they are the image of the table that this leaves
+  pub leave-leaves : (n k : ℕ) → saysLeaving (leaveOf t n .leaving) ≡ gives k → afterLeave (loadOf l) n l ≡ imageOf (leaveOf t n .table)
+  leave-leaves n k h =
+      ap (λ (s : Said Table). afterLeave s n l) e ∙ ap (λ (s : Said ℕ). changed s (storedIn (leaveOf t n .table) l) l) h
+      ∙ stored-image l t (leaveOf t n .table) e

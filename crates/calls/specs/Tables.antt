@@ -10,10 +10,11 @@ use Rattle.table.specs.Words.{requestWith, Said, gives, refuses}
 use Rattle.table.specs.Ask.{says, askOf}
 use Rattle.table.specs.Admit.{admitOf}
 use Rattle.table.specs.Step.{saysRan, stepOf}
+use Rattle.table.specs.Leave.{saysLeaving, leaveOf}
 use Rattle.board.specs.Board.{ReadyWord}
 use Rattle.image.specs.Answers.{storedIn}
 use Rattle.calls.specs.declared.Result.{Result}
-use Rattle.calls.specs.Results.{grantedAs, refusedAs, resultAt, slotNumber}
+use Rattle.calls.specs.Results.{grantedAs, refusedAs, resultAt, resultOf, slotNumber}
 
 -- R6: the request of a need, a period and the stretched periods
 abbrev pub requestOf : (need period : ℕ) → List ℕ → Request
@@ -65,14 +66,32 @@ abbrev pub afterStep : Said Table → List ℕ → List ℕ
 afterStep (gives t) l = steppedIn t l
 afterStep (refuses x) l = l
 
+-- R102: a line of a table let go: in how many ticks its slot holds nothing
+abbrev pub leftAs : Table → (number : ℕ) → Result
+leftAs t n = resultOf (saysLeaving (leaveOf t n .leaving))
+
+-- R102: the image of the table with that line let go
+abbrev pub leftIn : Table → (number : ℕ) → List ℕ → List ℕ
+leftIn t n l = changed (saysLeaving (leaveOf t n .leaving)) (storedIn (leaveOf t n .table) l) l
+
+-- R102: the image's refusal, or the leave's answer
+abbrev pub leaveFor : Said Table → (number : ℕ) → Result
+leaveFor (gives t) n = leftAs t n
+leaveFor (refuses x) n = refusedAs x
+
+-- R102: the lent image after a leave
+abbrev pub afterLeave : Said Table → (number : ℕ) → List ℕ → List ℕ
+afterLeave (gives t) n l = leftIn t n l
+afterLeave (refuses x) n l = l
+
 -- R89: the image's refusal, or the ready word
 abbrev pub ReadyFor : Said Table → Result → Type 0
 ReadyFor (gives t) r = (r ≡ grantedAs 0 (r .value)) × ReadyWord (t .slots) (r .value)
 ReadyFor (refuses x) r = r ≡ refusedAs x
 
--- R98: the seventeen counts: each slot's, slot 0's first, then the idle one
-abbrev pub seventeen : Table → List ℕ
-seventeen t = t .had ++ (t .idle ∷ [])
+-- R98: the eighteen counts: each slot's, slot 0's first, then the idle one, then the departed one
+abbrev pub allCounts : Table → List ℕ
+allCounts t = t .had ++ (t .idle ∷ t .departed ∷ [])
 
 -- R98: the image's refusal, or the clock
 abbrev pub countsFor : Said Table → Result
@@ -81,5 +100,5 @@ countsFor (refuses x) = refusedAs x
 
 -- R98: the lent numbers then
 abbrev pub countsAfter : Said Table → List ℕ → List ℕ
-countsAfter (gives t) ns = seventeen t
+countsAfter (gives t) ns = allCounts t
 countsAfter (refuses x) ns = ns

@@ -1,12 +1,13 @@
-// A table asked, admitted to, stepped and shown. What is lent is the image that the table was loaded from.
+// A table asked, admitted to, stepped, left and shown. What is lent is the image that the table was loaded from.
 ghost use mathlib.Core.Path.{_≡_};
 ghost use Rattle.table.specs.Words.{gives};
 ghost use Rattle.table.specs.Ask.{says, askOf};
 ghost use Rattle.calls.specs.Results.{grantedAs};
-ghost use Rattle.calls.specs.Tables.{askedAs, admittedIn, steppedAs, steppedIn, ReadyFor, seventeen};
+ghost use Rattle.calls.specs.Tables.{askedAs, admittedIn, steppedAs, steppedIn, leftAs, leftIn, ReadyFor, allCounts};
 use crate::Result;
 use line::Kind;
 use table::Answer;
+use table::Leaving;
 use table::Outcome;
 use table::Request;
 use table::Table;
@@ -58,6 +59,21 @@ pub fn step(t: Table, out: &mut [u8]) -> Result
     }
 }
 
+// R102: lets a line go in the lent image, which a refusal leaves as it is.
+pub fn leave(t: Table, number: u64, out: &mut [u8]) -> Result
+    ensures { λ r. ⌜ (r ≡ leftAs t number) × (now (out .exit) ≡ leftIn t number (now (out .entry))) ⌝ }
+{
+    let left = t.leave(number);
+    let a = left.leaving;
+    match a {
+        Leaving::In(ticks) => {
+            image::store(left.table, out);
+            Result::granted(0, ticks as u64)
+        }
+        Leaving::Refused(x) => Result::refused(x),
+    }
+}
+
 // R89: the ready word of a table.
 pub fn ready(t: Table) -> Result
     ensures { λ r. ⌜ ReadyFor (gives t) r ⌝ }
@@ -65,24 +81,25 @@ pub fn ready(t: Table) -> Result
     Result::granted(0, board::ready_word(t) as u64)
 }
 
-// R98: a table's seventeen counts.
-fn counts_of(t: Table) -> [u64; 17]
-    ensures { λ r. ⌜ r ≡ seventeen t ⌝ }
+// R98: a table's eighteen counts.
+fn counts_of(t: Table) -> [u64; 18]
+    ensures { λ r. ⌜ r ≡ allCounts t ⌝ }
 {
     let had = t.had;
-    let mut out = [0u64; 17];
+    let mut out = [0u64; 18];
     let mut i: usize = 0;
     while i < 16 {
         out[i] = had[i];
         i = i + 1;
     }
     out[16] = t.idle;
+    out[17] = t.departed;
     out
 }
 
 // R98: the clock of a table, and its counts into the lent numbers.
-pub fn counts(t: Table, out: &mut [u64; 17]) -> Result
-    ensures { λ r. ⌜ (r ≡ grantedAs 0 (t .clock)) × (now (out .exit) ≡ seventeen t) ⌝ }
+pub fn counts(t: Table, out: &mut [u64; 18]) -> Result
+    ensures { λ r. ⌜ (r ≡ grantedAs 0 (t .clock)) × (now (out .exit) ≡ allCounts t) ⌝ }
 {
     *out = counts_of(t);
     Result::granted(0, t.clock)

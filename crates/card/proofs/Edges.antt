@@ -1,16 +1,18 @@
 -- Cards and buffers on both sides of each edge of R53 to R59, by computation. The bytes are numbers here and no mark's name, and in `whole` no two numbers share
 -- a byte: an exchange of two numbers or marks in the definitions changes what a row says.
 use Prim.Native.Nat.{ℕ, zero, suc}
-use mathlib.Core.Path.{_≡_, refl}
+use mathlib.Core.Path.{_≡_, refl, sym, ap}
+use mathlib.Core.Bool.{Bool, false}
 use mathlib.Core.List.{List, [], _∷_, _++_, map}
-use lib.ListN.{length, take, replicate}
+use lib.ListN.{length, take, drop, replicate}
 use Rattle.line.specs.declared.Slot.{Slot}
 use Rattle.table.specs.declared.Table.{Table}
 use Rattle.table.specs.declared.Request.{Request}
 use Rattle.table.specs.declared.Refusal.{Refusal}
-use Rattle.line.specs.Slots.{empty, lowest}
+use Rattle.line.specs.Slots.{isLeaving, empty, ifRuns, at, lowest}
+use Rattle.line.proofs.Search.{true-false}
 use Rattle.table.specs.Words.{requestWith, refusal, Said, gives, refuses}
-use Rattle.table.specs.Cases.{running, waiting, tableOf}
+use Rattle.table.specs.Cases.{running, parting, waiting, tableOf}
 use Rattle.card.specs.declared.CardAnswer.{CardAnswer}
 use Rattle.card.specs.declared.WriteAnswer.{WriteAnswer}
 use Rattle.card.specs.Bytes.{marked}
@@ -55,8 +57,15 @@ request = 0x52 ∷ 0x51 ∷ 0x81 ∷ 0x82 ∷ 0x91 ∷ 0x92 ∷ []
 abbrev pub old : List ℕ
 old = 0x54 ∷ 0x41 ∷ 0x11 ∷ 0x12 ∷ 0x21 ∷ 0x22 ∷ 0x31 ∷ 0x32 ∷ 0x71 ∷ 0x72 ∷ 0x61 ∷ 0x62 ∷ []
 
+-- a whole record of a line that leaves, with the numbers of `line`
+abbrev pub leavingLine : List ℕ
+leavingLine = 0x54 ∷ 0x4C ∷ drop 2 line
+
 abbrev lineSlot : Slot
 lineSlot = running 0x1211 0x2221 0x6261 0x7271
+
+abbrev leavingSlot : Slot
+leavingSlot = parting 0x1211 0x2221 0x6261 0x7271
 
 -- the clock and new line of `whole` around these slots
 abbrev reads : List Slot → (stretched : List ℕ) → Said Card
@@ -84,6 +93,8 @@ clockEdges =
     ∷ edge (0x4B ∷ 0x4B ∷ 1 ∷ 2 ∷ 3 ∷ 4 ∷ 5 ∷ 6 ∷ 7 ∷ 8 ∷ request) (breaks 0)
     ∷ edge (0x54 ∷ 0x41 ∷ 1 ∷ 2 ∷ 3 ∷ 4 ∷ 5 ∷ 6 ∷ 7 ∷ 8 ∷ request) (breaks 0)
     ∷ edge (old ++ request) (breaks 0)
+    ∷ edge (0x54 ∷ 0x4C ∷ 1 ∷ 2 ∷ 3 ∷ 4 ∷ 5 ∷ 6 ∷ 7 ∷ 8 ∷ request) (breaks 0)
+    ∷ edge (leavingLine ++ request) (breaks 0)
     ∷ edge (clock ++ clock ++ request) (breaks 10)
     ∷ []
 
@@ -154,6 +165,51 @@ oldEdges =
     ∷ edge (clock ++ times 15 line ++ take 2 old) (breaks 190)
     ∷ []
 
+-- R53, R57: a record of a line that leaves where a slot's may stand, whole, cut and the seventeenth
+abbrev leavingEdges : List CardEdge
+leavingEdges =
+    edge (clock ++ leavingLine ++ request) (reads (leavingSlot ∷ replicate 15 empty) (0x3231 ∷ replicate 15 0))
+    ∷ edge (clock ++ line ++ leavingLine ++ old ++ request) (reads (lineSlot ∷ leavingSlot ∷ lineSlot ∷ replicate 13 empty) (0x3231 ∷ 0x3231 ∷ 0x3231 ∷ replicate 13 0))
+    ∷ edge (clock ++ free ++ leavingLine ++ request) (reads (empty ∷ leavingSlot ∷ replicate 14 empty) (0 ∷ 0x3231 ∷ replicate 14 0))
+    ∷ edge (clock ++ times 16 leavingLine ++ request) (reads (replicate 16 leavingSlot) (replicate 16 0x3231))
+    ∷ edge (clock ++ times 15 line ++ leavingLine ++ request) (reads (replicate 15 lineSlot ++ (leavingSlot ∷ [])) (replicate 16 0x3231))
+    ∷ edge (clock ++ times 16 leavingLine ++ request ++ (0x00 ∷ [])) (breaks 208)
+    ∷ edge (clock ++ times 17 leavingLine ++ request) (breaks 202)
+    ∷ edge (clock ++ times 16 line ++ leavingLine ++ request) (breaks 202)
+    ∷ edge (clock ++ times 16 leavingLine ++ line ++ request) (breaks 202)
+    ∷ edge (clock ++ times 16 line ++ take 2 leavingLine) (breaks 202)
+    ∷ edge (clock ++ leavingLine ++ free ++ request) (breaks 24)
+    ∷ edge (clock ++ leavingLine) (breaks 22)
+    ∷ edge (clock ++ take 2 leavingLine) (breaks 10)
+    ∷ edge (clock ++ take 11 leavingLine) (breaks 10)
+    ∷ edge (clock ++ line ++ take 11 leavingLine) (breaks 22)
+    ∷ edge (clock ++ times 15 line ++ take 11 leavingLine) (breaks 190)
+    ∷ []
+
+-- a whole record of a line's numbers under another mark
+abbrev numbersUnder : (first second : ℕ) → List ℕ
+numbersUnder a b = a ∷ b ∷ drop 2 line
+
+-- R53, R57: the marks next to TB, TL, TF and TA are none
+abbrev besideEdges : List CardEdge
+besideEdges =
+    map (λ (b : ℕ). edge (clock ++ numbersUnder 0x54 b ++ request) (breaks 10)) (0x00 ∷ 0x40 ∷ 0x43 ∷ 0x45 ∷ 0x47 ∷ 0x4B ∷ 0x4D ∷ 0x62 ∷ 0x6C ∷ [])
+    ++ map (λ (a : ℕ). edge (clock ++ numbersUnder a 0x4C ++ request) (breaks 10)) (0x4C ∷ 0x53 ∷ 0x55 ∷ [])
+
+-- a record of a line that leaves, whose period is 0x2221, with these two bytes for its T'
+abbrev leavingWith : (low high : ℕ) → List ℕ
+leavingWith a b = 0x54 ∷ 0x4C ∷ 0x11 ∷ 0x12 ∷ 0x21 ∷ 0x22 ∷ a ∷ b ∷ 0x61 ∷ 0x62 ∷ 0x71 ∷ 0x72 ∷ []
+
+-- R25, R56: whatever the T' of a line that leaves, the reader takes it: none, one below the period, the period, one above
+abbrev leavingPeriodEdges : List CardEdge
+leavingPeriodEdges =
+    edge (clock ++ leavingWith 0x00 0x00 ++ request) (reads (leavingSlot ∷ replicate 15 empty) (replicate 16 0))
+    ∷ edge (clock ++ leavingWith 0x20 0x22 ++ request) (reads (leavingSlot ∷ replicate 15 empty) (0x2220 ∷ replicate 15 0))
+    ∷ edge (clock ++ leavingWith 0x21 0x22 ++ request) (reads (leavingSlot ∷ replicate 15 empty) (0x2221 ∷ replicate 15 0))
+    ∷ edge (clock ++ leavingWith 0x22 0x22 ++ request) (reads (leavingSlot ∷ replicate 15 empty) (0x2222 ∷ replicate 15 0))
+    ∷ edge (clock ++ leavingWith 0xFF 0xFF ++ request) (reads (leavingSlot ∷ replicate 15 empty) (0xFFFF ∷ replicate 15 0))
+    ∷ []
+
 -- R56, R3: any numbers are taken, unsound lines too, up to the greatest of sixteen and of 64 bits
 abbrev numberEdges : List CardEdge
 numberEdges =
@@ -165,16 +221,28 @@ numberEdges =
       table = tableOf 18446744073709551615 (running 65535 65535 65535 65535 ∷ replicate 15 empty);
       request = requestWith (65535 ∷ replicate 15 0) 65535 65535;
     }))
+    ∷ edge ((0x43 ∷ 0x4B ∷ replicate 8 0) ++ (0x54 ∷ 0x4C ∷ replicate 10 0) ++ (0x54 ∷ 0x4C ∷ replicate 10 0xFF) ++ (0x52 ∷ 0x51 ∷ replicate 4 0))
+    (gives (record { table = tableOf 0 (parting 0 0 0 0 ∷ parting 65535 65535 65535 65535 ∷ replicate 14 empty); request = requestWith (0 ∷ 65535 ∷ replicate 14 0) 0 0 }))
     ∷ []
 
 -- R53 to R58: all of them
 unfoldable pub cardEdges : List CardEdge
-cardEdges = numberEdges ++ clockEdges ++ markEdges ++ requestEdges ++ sixteenEdges ++ oldEdges
+cardEdges = numberEdges ++ clockEdges ++ markEdges ++ requestEdges ++ sixteenEdges ++ oldEdges ++ leavingEdges ++ besideEdges ++ leavingPeriodEdges
 
 -- R31, R57, R58: what the reader says of each
 pub card-edges : map (λ (c : CardEdge). readOf (c .bytes)) cardEdges ≡ map (λ (c : CardEdge). c .says) cardEdges
 unfolding marked recordOf recordsOf readWith cardEdges
 card-edges = refl
+
+-- the line of slot 0 leaves
+abbrev firstLeaves : Said Card → Bool
+firstLeaves (gives c) = ifRuns false (λ r. isLeaving (r .follows)) (at (c .table .slots) 0)
+firstLeaves (refuses r) = false
+
+-- R53, R99: the same numbers under TB and under TL are different tables
+pub marks-tell : readOf (clock ++ leavingLine ++ request) ≡ readOf (clock ++ line ++ request) → ⊥
+unfolding marked recordOf recordsOf readWith
+marks-tell e = true-false (sym (ap firstLeaves e)) refl
 
 -- R52, R53, R54: each mark and each byte of a number stands where `whole` has it
 pub whole-written : cardOf wholeTable wholeRequest ≡ whole
@@ -247,9 +315,30 @@ lengthEdges =
     ∷ written (tableOf 0x0807060504030201 (replicate 16 lineSlot)) (requestWith (replicate 16 0x3231) 0x8281 0x9291) (lent 208) 208 longest
     ∷ []
 
+-- a line that leaves, and behind a slot that holds nothing one that renews
+abbrev leavingTable : Table
+leavingTable = tableOf 0x0807060504030201 (leavingSlot ∷ empty ∷ lineSlot ∷ replicate 13 empty)
+
+abbrev leavingRequest : Request
+leavingRequest = requestWith (0x3231 ∷ 0x5251 ∷ 0x3231 ∷ replicate 13 0x5453) 0x8281 0x9291
+
+-- R53, R55, R59: a line that leaves has a record under its own mark, as long as another
+abbrev leavingWriteEdges : List WriteEdge
+leavingWriteEdges =
+    unwritten leavingTable leavingRequest (lent 41) (refusal 13 0)
+    ∷ written leavingTable leavingRequest (lent 42) 42 (clock ++ leavingLine ++ free ++ line ++ request)
+    ∷ written leavingTable leavingRequest (lent 43) 42 (clock ++ leavingLine ++ free ++ line ++ request ++ (0xEE ∷ []))
+    ∷ written (tableOf 0x0807060504030201 (replicate 15 empty ++ (leavingSlot ∷ []))) (requestWith (replicate 16 0x3231) 0x8281 0x9291) (lent 58) 58
+    (clock ++ times 15 free ++ leavingLine ++ request)
+    ∷ unwritten (tableOf 0x0807060504030201 (replicate 16 leavingSlot)) (requestWith (replicate 16 0x3231) 0x8281 0x9291) (lent 207) (refusal 13 0)
+    ∷ written (tableOf 0x0807060504030201 (replicate 16 leavingSlot)) (requestWith (replicate 16 0x3231) 0x8281 0x9291) (lent 208) 208
+    (clock ++ times 16 leavingLine ++ request)
+    ∷ unwritten (tableOf 0x0807060504030201 (leavingSlot ∷ waiting 1 4 3 ∷ replicate 14 empty)) leavingRequest (lent 240) (refusal 3 1)
+    ∷ []
+
 -- R55, R59: all of them
 unfoldable pub writeEdges : List WriteEdge
-writeEdges = orderEdges ++ lengthEdges
+writeEdges = orderEdges ++ lengthEdges ++ leavingWriteEdges
 
 -- what the definitions say of the input
 abbrev pub writing : WriteEdge → Said ℕ × List ℕ
@@ -264,9 +353,9 @@ pub write-edges : map writing writeEdges ≡ map expected writeEdges
 unfolding lowest cardOf lengthOf writeEdges
 write-edges = refl
 
--- R72: what a card keeps of a request with entries for slots that hold nothing
-pub cleared-edge : cleared wholeTable fullRequest ≡ wholeRequest
-cleared-edge = refl
+-- R72: what a card keeps of a request with entries for slots that hold nothing; a line that leaves keeps its own
+pub cleared-edge : (cleared wholeTable fullRequest ≡ wholeRequest) × (cleared leavingTable leavingRequest ≡ requestWith (0x3231 ∷ 0 ∷ 0x3231 ∷ replicate 13 0) 0x8281 0x9291)
+cleared-edge = (refl, refl)
 
 -- R56: what is handed out with a refusal, and with a card that reads
 pub handed-edges :

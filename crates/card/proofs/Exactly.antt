@@ -29,7 +29,7 @@ module _ (n : ℕ) where
     λ k. (carrying (uncounted (k .0)) (cleared (k .0) (k .1)), sym (twin-reads n l b) ∙ ap (readWith n) (sym (k .3)) ∙ reads-back n (k .0) (k .1) (k .2)),
   )
 
-  -- R72: the twin of a card that reads has TB alone
+  -- R72: the twin of a card that reads has no TA
   pub twin-is-new : (l : List ℕ) → Bytes l → (c : Card) → readWith n l ≡ gives c → turnedWith n (twinWith n l) ≡ 0
   twin-is-new l b c e = ap (turnedWith n) (sym (writes-twin n l b c e)) ∙ no-old n (c .table) (c .request) (read-fits n l b c e)
 

@@ -12,7 +12,7 @@ use Rattle.card.specs.declared.SlotRecord.{SlotRecord}
 use Rattle.card.specs.declared.Record.{Record}
 use Rattle.card.specs.declared.Record.the-variants.{Slot, Last, Refused}
 use Rattle.card.specs.Bytes.{value, marked}
-use Rattle.card.specs.Layout.{CK, TB, TF, TA, RQ, isFree, clockAt, clockLength, lineLength, lastLength, recordLength}
+use Rattle.card.specs.Layout.{CK, TB, TL, TF, TA, RQ, isFree, clockAt, clockLength, lineLength, lastLength, recordLength}
 use Rattle.card.specs.Marked.{free, Records}
 use Rattle.card.specs.Reading.{lineRecordOf, lastOf, slotRecordOf, recordOf, broken, putInFront, step, recordsOf, meaning, readWith}
 
@@ -37,7 +37,8 @@ record-fails left l =
     let line : (m : Mark) → Fails (lineRecordOf m l) = λ m. either (leb lineLength (length l)) _ (Refused 11) tt refl in
     let last : Fails (lastOf l) = either (leb lastLength (length l)) _ (Refused 11) tt refl in
     let old : Fails (pick (marked TA l) (lineRecordOf Mark.TA l) (Refused 11)) = either (marked TA l) (lineRecordOf Mark.TA l) (Refused 11) (line Mark.TA) refl in
-    let slot : Fails (slotRecordOf l) = either (marked TB l) (lineRecordOf Mark.TB l) _ (line Mark.TB) (either (marked TF l) (Slot free) _ tt old) in
+    let slot : Fails (slotRecordOf l) =
+    either (marked TB l) (lineRecordOf Mark.TB l) _ (line Mark.TB) (either (marked TL l) (lineRecordOf Mark.TL l) _ (line Mark.TL) (either (marked TF l) (Slot free) _ tt old)) in
     either (marked RQ l) (lastOf l) _ last (either (ltb 0 left) (slotRecordOf l) (Refused 11) slot refl)
 
 in-front : (rs : List SlotRecord) (s : Said Records) → Refuses s → Refuses (putInFront rs s)

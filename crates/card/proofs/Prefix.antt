@@ -15,7 +15,7 @@ use Rattle.card.specs.declared.Mark.{Mark}
 use Rattle.card.specs.declared.Record.{Record}
 use Rattle.card.specs.declared.Record.the-variants.{Slot, Last, Refused}
 use Rattle.card.specs.Bytes.{value, marked}
-use Rattle.card.specs.Layout.{CK, TB, TF, TA, RQ, isFree, clockAt, needAt, periodAt, stretchedAt, fourthAt, fifthAt, clockLength, lineLength, lastLength, recordLength}
+use Rattle.card.specs.Layout.{CK, TB, TL, TF, TA, RQ, isFree, clockAt, needAt, periodAt, stretchedAt, fourthAt, fifthAt, clockLength, lineLength, lastLength, recordLength}
 use Rattle.card.specs.Marked.{Records}
 use Rattle.card.specs.Reading.{lineRecordOf, lastOf, slotRecordOf, recordOf, putInFront, ending, closing, broken, step, recordsOf, recordsWith, meaning, readWith, readOf}
 use Rattle.card.specs.Twin.{turnedIn, turnedWith, turnedOf}
@@ -68,7 +68,15 @@ module _ (n : ℕ) (l : List ℕ) where
 
   slot-take : lineLength ≤ n → slotRecordOf (take n l) ≡ slotRecordOf l
   slot-take h =
-      rw (line-take Mark.TB h, line-take Mark.TA h, marked-take TB n l (omega arith), marked-take TF n l (omega arith), marked-take TA n l (omega arith))
+      rw (
+        line-take Mark.TB h,
+        line-take Mark.TL h,
+        line-take Mark.TA h,
+        marked-take TB n l (omega arith),
+        marked-take TL n l (omega arith),
+        marked-take TF n l (omega arith),
+        marked-take TA n l (omega arith),
+      )
 
   full-take : lastLength ≤ n → recordOf 0 (take n l) ≡ recordOf 0 l
   unfolding recordOf

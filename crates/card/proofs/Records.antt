@@ -8,18 +8,19 @@ use lib.ListN.{length, drop, getD}
 use lib.Dec.{leb, ltb}
 use borrow.Author.Tests.{leb-true, ltb-true, le-leb, lt-leb, lt-ltb}
 use Rattle.line.specs.Slots.{pick}
+use Rattle.line.proofs.Search.{true-false}
 use Rattle.card.specs.declared.Mark.{Mark}
 use Rattle.card.specs.declared.SlotRecord.{SlotRecord}
 use Rattle.card.specs.declared.Record.{Record}
 use Rattle.card.specs.declared.Record.the-variants.{Slot, Last, Refused}
 use Rattle.card.specs.declared.Recorded.the-variants.{As}
 use Rattle.card.specs.Bytes.{Bytes, le, value, marked}
-use Rattle.card.specs.Layout.{TB, TF, TA, RQ, needAt, periodAt, stretchedAt, fourthAt, fifthAt, markLength, lineLength, lastLength, recordLength}
+use Rattle.card.specs.Layout.{TB, TL, TF, TA, RQ, markBytes, isFree, needAt, periodAt, stretchedAt, fourthAt, fifthAt, markLength, lineLength, lastLength, recordLength}
 use Rattle.card.specs.Marked.{recordWith, free, numbersOf, recordBytes, NumbersFit, Fitting, heldUnder, twin, recordFor}
 use Rattle.card.specs.Card.{requestRecord}
 use Rattle.card.specs.Reading.{recordAt, lineRecordOf, lastOf, slotRecordOf, recordOf}
 use Rattle.card.proofs.Numbers.{value-le, le-value, value-lt}
-use Rattle.card.proofs.Marks.{marked-here, marked-is, marked-long}
+use Rattle.card.proofs.Marks.{marked-here, marked-is, marked-long, marked-other}
 
 module _ (left : ℕ) (l : List ℕ) where
   -- R57: RQ is looked for first
@@ -42,17 +43,41 @@ module _ (l : List ℕ) where
   pub slot-line : marked TB l ≡ true → slotRecordOf l ≡ lineRecordOf Mark.TB l
   slot-line i = simp i
 
-  -- R53: TF
-  pub slot-free : marked TB l ≡ false → marked TF l ≡ true → slotRecordOf l ≡ Slot free
-  slot-free i j = simp (i, j)
+  -- the others are looked for where it is not TB
+  module _ (i : marked TB l ≡ false) where
+    -- R53: TL
+    pub slot-leaving : marked TL l ≡ true → slotRecordOf l ≡ lineRecordOf Mark.TL l
+    slot-leaving j = simp (i, j)
 
-  -- R58: TA
-  pub slot-old : marked TB l ≡ false → marked TF l ≡ false → marked TA l ≡ true → slotRecordOf l ≡ lineRecordOf Mark.TA l
-  slot-old i j k = simp (i, j, k)
+    -- nor TL
+    module _ (j : marked TL l ≡ false) where
+      -- R53: TF
+      pub slot-free : marked TF l ≡ true → slotRecordOf l ≡ Slot free
+      slot-free k = simp (i, j, k)
 
-  -- R57: no mark of a slot's record
-  pub slot-unknown : marked TB l ≡ false → marked TF l ≡ false → marked TA l ≡ false → slotRecordOf l ≡ Refused 11
-  slot-unknown i j k = simp (i, j, k)
+      -- R58: TA
+      pub slot-old : marked TF l ≡ false → marked TA l ≡ true → slotRecordOf l ≡ lineRecordOf Mark.TA l
+      slot-old k m = simp (i, j, k, m)
+
+      -- R57: no mark of a slot's record
+      pub slot-unknown : marked TF l ≡ false → marked TA l ≡ false → slotRecordOf l ≡ Refused 11
+      slot-unknown k m = simp (i, j, k, m)
+
+-- R57: what the mark of a slot's record opens is not RQ
+pub not-last : (m : Mark) (l : List ℕ) → marked (markBytes m) l ≡ true → marked RQ l ≡ false
+unfolding marked
+not-last Mark.TA l h = marked-other TA RQ l h refl
+not-last Mark.TB l h = marked-other TB RQ l h refl
+not-last Mark.TF l h = marked-other TF RQ l h refl
+not-last Mark.TL l h = marked-other TL RQ l h refl
+
+-- R53, R58: what a line's mark opens is a record under that mark
+pub slot-marked : (m : Mark) (l : List ℕ) → isFree m ≡ false → marked (markBytes m) l ≡ true → slotRecordOf l ≡ lineRecordOf m l
+unfolding marked
+slot-marked Mark.TA l f h = slot-old l (marked-other TA TB l h refl) (marked-other TA TL l h refl) (marked-other TA TF l h refl) h
+slot-marked Mark.TB l f h = slot-line l h
+slot-marked Mark.TF l f h = absurd (true-false refl f)
+slot-marked Mark.TL l f h = slot-leaving l (marked-other TL TB l h refl) h
 
 module _ (m : Mark) (l : List ℕ) where
   -- R53: twelve bytes are a line
@@ -96,27 +121,38 @@ Stands left l (Slot r) =
 Stands left l (Last c n) = (lastLength ≤ length l) × (marked RQ l ≡ true) × (c ≡ value 2 l needAt) × (n ≡ value 2 l periodAt)
 Stands left l (Refused n) = Unit {0}
 
+-- twelve bytes that a line's mark opens are a record under that mark
+line-stands : (left : ℕ) (l : List ℕ) (m : Mark) → isFree m ≡ false → 0 < left → marked (markBytes m) l ≡ true → lineLength ≤ length l
+    → Stands left l (Slot (recordAt m l))
+line-stands left l Mark.TA f p e h = (p, h, line-fronts Mark.TA (getD TA 0 0) (getD TA 1 0) l e h, refl)
+line-stands left l Mark.TB f p e h = (p, h, line-fronts Mark.TB (getD TB 0 0) (getD TB 1 0) l e h, refl)
+line-stands left l Mark.TF f p e h = absurd (true-false refl f)
+line-stands left l Mark.TL f p e h = (p, h, line-fronts Mark.TL (getD TL 0 0) (getD TL 1 0) l e h, refl)
+
 -- what stands at the front is what the definition says
 pub stands : (left : ℕ) (l : List ℕ) → Stands left l (recordOf left l)
 unfolding recordOf
-stands left l =
-    go (marked RQ l) refl (leb lastLength (length l)) refl (ltb 0 left) refl (marked TB l) refl (leb lineLength (length l)) refl (marked TF l) refl (marked TA l) refl
+stands left l = go (marked RQ l) refl (leb lastLength (length l)) refl (ltb 0 left) refl (marked TB l) refl (marked TL l) refl (marked TF l) refl (marked TA l) refl
   where
+    line : (m : Mark) → isFree m ≡ false → 0 < left → marked (markBytes m) l ≡ true → Stands left l (lineRecordOf m l)
+    line m f p e = whole (leb lineLength (length l)) refl
+      where
+        whole : (o : Bool) → leb lineLength (length l) ≡ o → Stands left l (pick o (Slot (recordAt m l)) (Refused 11))
+        whole true h = line-stands left l m f p e (leb-true lineLength (length l) h)
+        whole false h = tt
+
     go : (a : Bool) → marked RQ l ≡ a → (b : Bool) → leb lastLength (length l) ≡ b → (c : Bool) → ltb 0 left ≡ c → (d : Bool) → marked TB l ≡ d
-        → (e : Bool) → leb lineLength (length l) ≡ e → (f : Bool) → marked TF l ≡ f → (g : Bool) → marked TA l ≡ g
+        → (e : Bool) → marked TL l ≡ e → (f : Bool) → marked TF l ≡ f → (g : Bool) → marked TA l ≡ g
         → Stands left l (pick a (pick b (Last (value 2 l needAt) (value 2 l periodAt)) (Refused 11))
-        (pick c (pick d (pick e (Slot (recordAt Mark.TB l)) (Refused 11)) (pick f (Slot free) (pick g (pick e (Slot (recordAt Mark.TA l)) (Refused 11)) (Refused 11)))) (Refused 11)))
+        (pick c (pick d (lineRecordOf Mark.TB l) (pick e (lineRecordOf Mark.TL l) (pick f (Slot free) (pick g (lineRecordOf Mark.TA l) (Refused 11))))) (Refused 11)))
     go true p true q c r d s e t f u g v = (leb-true lastLength (length l) q, p, refl, refl)
     go true p false q c r d s e t f u g v = tt
     go false p b q false r d s e t f u g v = tt
-    go false p b q true r true s true t f u g v =
-        (ltb-true 0 left r, leb-true lineLength (length l) t, line-fronts Mark.TB (getD TB 0 0) (getD TB 1 0) l s (leb-true lineLength (length l) t), refl)
-    go false p b q true r true s false t f u g v = tt
-    go false p b q true r false s e t true u g v = (ltb-true 0 left r, marked-long TF l u, (λ y. (marked-is TF l u, refl)), refl)
-    go false p b q true r false s true t false u true v =
-        (ltb-true 0 left r, leb-true lineLength (length l) t, line-fronts Mark.TA (getD TA 0 0) (getD TA 1 0) l v (leb-true lineLength (length l) t), refl)
-    go false p b q true r false s false t false u true v = tt
-    go false p b q true r false s e t false u false v = tt
+    go false p b q true r true s e t f u g v = line Mark.TB refl (ltb-true 0 left r) s
+    go false p b q true r false s true t f u g v = line Mark.TL refl (ltb-true 0 left r) t
+    go false p b q true r false s false t true u g v = (ltb-true 0 left r, marked-long TF l u, (λ y. (marked-is TF l u, refl)), refl)
+    go false p b q true r false s false t false u true v = line Mark.TA refl (ltb-true 0 left r) v
+    go false p b q true r false s false t false u false v = tt
 
 -- the same of a record that was seen
 pub seen-stands : (left : ℕ) (l : List ℕ) {r : Record} → recordOf left l ≡ r → Stands left l r
@@ -142,18 +178,21 @@ gets-numbers m a b C T t x y r f =
     let ey : value 2 l fifthAt ≡ y = value-le 2 y [] (f .4) in
     simp (eC, eT, et, ex, ey)
 
-sees : (left : ℕ) (x : List ℕ) → 0 < left → (m : Mark) (C T t a b : ℕ) → Fitting (recordWith m C T t a b)
-    → recordOf left (recordBytes (recordWith m C T t a b) ++ x) ≡ Slot (recordWith m C T t a b)
+-- a whole line's record in front, by the bytes a b of its mark
+sees-line : (left : ℕ) (x : List ℕ) → 0 < left → (m : Mark) (a b C T t y z : ℕ) → markBytes m ≡ a ∷ b ∷ [] → isFree m ≡ false → NumbersFit (recordWith m C T t y z)
+    → recordOf left ((a ∷ b ∷ numbersOf (recordWith m C T t y z)) ++ x) ≡ Slot (recordWith m C T t y z)
+sees-line left x p m a b C T t y z e f n =
+    let l = (a ∷ b ∷ numbersOf (recordWith m C T t y z)) ++ x in
+    let h : marked (markBytes m) l ≡ true = rw e (marked-here (a ∷ b ∷ []) (drop markLength l)) in
+    at-slot left l (not-last m l h) p ∙ slot-marked m l f h ∙ line-whole m l (omega arith) ∙ ap Slot (gets-numbers m a b C T t y z x n)
+
+sees : (left : ℕ) (x : List ℕ) → 0 < left → (m : Mark) (C T t y z : ℕ) → Fitting (recordWith m C T t y z)
+    → recordOf left (recordBytes (recordWith m C T t y z) ++ x) ≡ Slot (recordWith m C T t y z)
 unfolding marked
-sees left x p Mark.TA C T t a b f =
-    let l = recordBytes (recordWith Mark.TA C T t a b) ++ x in
-    at-slot left l refl p ∙ slot-old l refl refl (marked-here TA (drop markLength l)) ∙ line-whole Mark.TA l (omega arith)
-    ∙ ap Slot (gets-numbers Mark.TA (getD TA 0 0) (getD TA 1 0) C T t a b x f)
-sees left x p Mark.TB C T t a b f =
-    let l = recordBytes (recordWith Mark.TB C T t a b) ++ x in
-    at-slot left l refl p ∙ slot-line l (marked-here TB (drop markLength l)) ∙ line-whole Mark.TB l (omega arith)
-    ∙ ap Slot (gets-numbers Mark.TB (getD TB 0 0) (getD TB 1 0) C T t a b x f)
-sees left x p Mark.TF C T t a b f = at-slot left (TF ++ x) refl p ∙ slot-free (TF ++ x) refl (marked-here TF x) ∙ ap Slot (sym f)
+sees left x p Mark.TA C T t y z f = sees-line left x p Mark.TA (getD TA 0 0) (getD TA 1 0) C T t y z refl refl f
+sees left x p Mark.TB C T t y z f = sees-line left x p Mark.TB (getD TB 0 0) (getD TB 1 0) C T t y z refl refl f
+sees left x p Mark.TF C T t y z f = at-slot left (TF ++ x) refl p ∙ slot-free (TF ++ x) refl refl (marked-here TF x) ∙ ap Slot (sym f)
+sees left x p Mark.TL C T t y z f = sees-line left x p Mark.TL (getD TL 0 0) (getD TL 1 0) C T t y z refl refl f
 
 -- R53: a slot's record in front is seen
 pub sees-record : (left : ℕ) (r : SlotRecord) (x : List ℕ) → 0 < left → Fitting r → recordOf left (recordBytes r ++ x) ≡ Slot r
@@ -186,3 +225,4 @@ bytes-length r = go (r .mark) r
     go Mark.TA r = refl
     go Mark.TB r = refl
     go Mark.TF r = refl
+    go Mark.TL r = refl

@@ -1,18 +1,20 @@
 -- A slot and its record: what a card carries of a slot, and which slots are used.
-use mathlib.Core.Path.{_≡_, refl, ap₂}
+use mathlib.Core.Path.{_≡_, refl, sym, ap, ap₂, _∙_}
 use mathlib.Core.Bool.{Bool, true, false}
 use mathlib.Core.List.{List, [], _∷_, map}
 use Prim.Native.Nat.{ℕ, zero, suc, _+_, _*_}
 use native.Mathlib.Omega.{arith}
+use Rattle.line.specs.declared.Follows.{Follows}
+use Rattle.line.specs.declared.Follows.the-variants.{Renews, Leaves}
 use Rattle.line.specs.declared.Held.{Held}
 use Rattle.line.specs.declared.Held.the-variants.{Nothing, Running, Waiting}
 use Rattle.line.specs.declared.Slot.{Slot}
-use Rattle.line.specs.Slots.{pick, holding, isNothing, isWaiting}
+use Rattle.line.specs.Slots.{pick, runThen, holding, isNothing, isWaiting}
 use Rattle.card.specs.declared.Mark.{Mark}
 use Rattle.card.specs.declared.SlotRecord.{SlotRecord}
 use Rattle.card.specs.declared.Recorded.the-variants.{As}
 use Rattle.card.specs.Layout.{isFree}
-use Rattle.card.specs.Marked.{free, Fitting, heldUnder, slotFor, entryFor, recordFor}
+use Rattle.card.specs.Marked.{free, Fitting, heldUnder, slotFor, entryFor, lineRecord, recordFor}
 use Rattle.card.specs.Card.{oneMore, entryOf, entries, Carried, AllCarried}
 use Rattle.card.specs.Twin.{isOld, wordOf}
 
@@ -25,10 +27,15 @@ pub record Of (h : Held) (t : ℕ) (r : SlotRecord) : Type 0 where
   pub started : isWaiting h ≡ false
   pub new : isOld r ≡ false
 
+-- R53, R99: so is the record of a running line, whatever follows its period
+line-carried : (f : Follows) (C T a c t : ℕ) → Of (Running (runThen f C T a c)) t (lineRecord (runThen f C T a c) t)
+line-carried Renews C T a c t = record { record-is = refl; holds = refl; entry = refl; nothing = refl; started = refl; new = refl }
+line-carried Leaves C T a c t = record { record-is = refl; holds = refl; entry = refl; nothing = refl; started = refl; new = refl }
+
 -- there is one wherever a card can carry the slot
 pub carried : (h : Held) (t : ℕ) → Carried h t → (r : SlotRecord) × Of h t r × Fitting r
 carried Nothing t f = (free, record { record-is = refl; holds = refl; entry = refl; nothing = refl; started = refl; new = refl }, f)
-carried (Running x) t f = (_, record { record-is = refl; holds = refl; entry = refl; nothing = refl; started = refl; new = refl }, f)
+carried (Running x) t f = (lineRecord x t, line-carried (x .follows) (x .need) (x .period) (x .age) (x .remaining) t, f)
 carried (Waiting w) t f = absurd f
 
 -- the records of slots that a card can carry
@@ -69,6 +76,11 @@ free-holds r = go (r .mark)
     go Mark.TA = refl
     go Mark.TB = refl
     go Mark.TF = refl
+    go Mark.TL = refl
+
+-- R53, R58: the slot that a record stands for, by what its mark says that the slot holds
+pub slot-under : (r : SlotRecord) (m : Mark) → r .mark ≡ m → {s : Slot} → s ≡ holding (heldUnder m r) → s ≡ slotFor r
+slot-under r m e f = f ∙ sym (ap (λ (x : Mark). holding (heldUnder x r)) e)
 
 -- ---- used slots, by the test alone
 

@@ -8,7 +8,6 @@ use native.Mathlib.Decide.{decLt}
 use lib.ListN.{length, take, drop, replicate, length-append, length-take, length-drop, drop-of-length-le}
 use lib.Seq.{take-at, take-all, drop-at}
 use lib.Dec.{leb, eqb}
-use Rattle.line.specs.declared.Run.{Run}
 use Rattle.line.specs.declared.Slot as line-slot
 use Rattle.line.specs.Slots.{pick, both}
 use Rattle.table.specs.Words.{tableWith, requestWith, Said, gives, refuses}
@@ -17,8 +16,8 @@ use Rattle.card.specs.declared.SlotRecord.{SlotRecord}
 use Rattle.card.specs.declared.Record.{Record}
 use Rattle.card.specs.declared.Record.the-variants.{Slot, Last, Refused}
 use Rattle.card.specs.Bytes.{Bytes, value, marked}
-use Rattle.card.specs.Layout.{CK, isFree, isTurned, clockAt, markLength, clockLength, lineLength, lastLength, recordLength}
-use Rattle.card.specs.Marked.{recordWith, free, recordBytes, Fitting, lineOf, slotFor, entryFor, lineUnder, twin, Records, saying}
+use Rattle.card.specs.Layout.{CK, isFree, clockAt, markLength, clockLength, lineLength, lastLength, recordLength}
+use Rattle.card.specs.Marked.{recordWith, free, recordBytes, Fitting, lineOf, slotFor, entryFor, lineRecord, twin, Records, saying}
 use Rattle.card.specs.Card.{carrying}
 use Rattle.card.specs.Reading.{recordOf, putInFront, ending, closing, broken, recordsOf, meaning, readWith}
 use Rattle.card.specs.Twin.{isOld, twinStep, twinFrom, twinWith}
@@ -30,15 +29,9 @@ use Rattle.card.proofs.Prefix.{marked-take, value-take}
 
 -- ---- one record
 
--- R53, R58: under either mark the record of a line stands for that line
-pub line-back : (m : Mark) (x : Run) (t : ℕ) → lineOf (isTurned m) (lineUnder m x t) ≡ x
-line-back Mark.TA x t = refl
-line-back Mark.TB x t = refl
-line-back Mark.TF x t = refl
-
 -- R58: the twin of a record that is not TA is itself
 pub twin-new : (r : SlotRecord) → isOld r ≡ false → twin r ≡ r
-twin-new r e = ap (λ (o : Bool). pick o (lineUnder Mark.TB (lineOf true r) (r .stretched)) r) e
+twin-new r e = ap (λ (o : Bool). pick o (lineRecord (lineOf Mark.TA r) (r .stretched)) r) e
 
 -- R58: the twin's numbers fit too
 pub twin-fits : (r : SlotRecord) → Fitting r → Fitting (twin r)
@@ -48,6 +41,7 @@ twin-fits r f = go (r .mark) (r .need) (r .period) (r .stretched) (r .fourth) (r
     go Mark.TA C T t x y f = (f .0, f .1, f .2, f .4, f .3)
     go Mark.TB C T t x y f = f
     go Mark.TF C T t x y f = f
+    go Mark.TL C T t x y f = f
 
 -- R72: it stands for the same slot, with the same entry, and has numbers or none as the record has
 pub record Alike (r : SlotRecord) : Type 0 where
@@ -63,6 +57,7 @@ alike r = go (r .mark) (r .need) (r .period) (r .stretched) (r .fourth) (r .fift
     go Mark.TA C T t x y = record { slot = refl; entry = refl; free-too = refl }
     go Mark.TB C T t x y = record { slot = refl; entry = refl; free-too = refl }
     go Mark.TF C T t x y = record { slot = refl; entry = refl; free-too = refl }
+    go Mark.TL C T t x y = record { slot = refl; entry = refl; free-too = refl }
 
 -- it is as long
 length-twin : (r : SlotRecord) → recordLength (twin r .mark) ≡ recordLength (r .mark)
@@ -166,7 +161,7 @@ means-twin (refuses r) = refl
 from-nothing : (n : ℕ) → twinFrom n [] ≡ []
 unfolding twinFrom marked
 from-nothing zero = refl
-from-nothing (suc n) = ap (twinStep [] (twinFrom n)) (at-slot (suc n) [] refl (omega arith) ∙ slot-unknown [] refl refl refl)
+from-nothing (suc n) = ap (twinStep [] (twinFrom n)) (at-slot (suc n) [] refl (omega arith) ∙ slot-unknown [] refl refl refl refl)
 
 module _ (n : ℕ) (l : List ℕ) (b : Bytes l) where
   -- what stands behind the clock's record in the twin

@@ -2,7 +2,9 @@
 use Prim.Native.Nat.{ℕ}
 use mathlib.Core.List.{List, [], _∷_}
 use mathlib.Core.Bool.{Bool, true, false}
-use Rattle.line.specs.Slots.{pick}
+use Rattle.line.specs.declared.Follows.{Follows}
+use Rattle.line.specs.declared.Follows.the-variants.{Renews, Leaves}
+use Rattle.line.specs.Slots.{pick, byFollows}
 use Rattle.card.specs.declared.Mark.{Mark}
 
 -- ---- marks
@@ -11,11 +13,15 @@ use Rattle.card.specs.declared.Mark.{Mark}
 abbrev pub CK : List ℕ
 CK = 0x43 ∷ 0x4B ∷ []
 
--- R53: the mark of a slot that runs a line
+-- R53: the mark of a slot that runs a line which renews
 abbrev pub TB : List ℕ
 TB = 0x54 ∷ 0x42 ∷ []
 
--- R58: the same, as the third generation wrote it
+-- R53: the mark of a slot that runs a line which leaves
+abbrev pub TL : List ℕ
+TL = 0x54 ∷ 0x4C ∷ []
+
+-- R58: as TB, in the order of the third generation
 abbrev pub TA : List ℕ
 TA = 0x54 ∷ 0x41 ∷ []
 
@@ -32,18 +38,32 @@ abbrev pub markBytes : Mark → List ℕ
 markBytes Mark.TA = TA
 markBytes Mark.TB = TB
 markBytes Mark.TF = TF
+markBytes Mark.TL = TL
 
 -- R53: the mark stands alone, where the others have a line's five numbers behind them
 abbrev pub isFree : Mark → Bool
 isFree Mark.TA = false
 isFree Mark.TB = false
 isFree Mark.TF = true
+isFree Mark.TL = false
 
 -- R53, R58: the order of a line's two last numbers: turned is remaining before age
 abbrev pub isTurned : Mark → Bool
 isTurned Mark.TA = true
 isTurned Mark.TB = false
 isTurned Mark.TF = false
+isTurned Mark.TL = false
+
+-- R53, R58, R99: what follows the period of a mark's line: under TL alone it leaves
+abbrev pub followsUnder : Mark → Follows
+followsUnder Mark.TA = Renews
+followsUnder Mark.TB = Renews
+followsUnder Mark.TF = Renews
+followsUnder Mark.TL = Leaves
+
+-- R53, R99: the mark that a line is written under, by what follows its period
+abbrev pub lineMark : Follows → Mark
+lineMark f = byFollows Mark.TB Mark.TL f
 
 -- ---- offsets, from the mark on
 

@@ -1,19 +1,18 @@
 -- Marked records, R53: what stands on a card between its bytes and its table. A record keeps its mark and its numbers as they stand.
 use Prim.Native.Nat.{ℕ, _<_}
 use mathlib.Core.Path.{_≡_}
-use mathlib.Core.Bool.{Bool, true}
 use mathlib.Core.List.{List, [], _++_}
 use Rattle.line.specs.declared.Run.{Run}
 use Rattle.line.specs.declared.Held.{Held}
 use Rattle.line.specs.declared.Held.the-variants.{Nothing, Running, Waiting}
 use Rattle.line.specs.declared.Slot.{Slot}
-use Rattle.line.specs.Slots.{pick, runWith, holding}
+use Rattle.line.specs.Slots.{pick, runThen, holding}
 use Rattle.card.specs.declared.Mark.{Mark}
 use Rattle.card.specs.declared.SlotRecord.{SlotRecord}
 use Rattle.card.specs.declared.Recorded.{Recorded}
 use Rattle.card.specs.declared.Recorded.the-variants.{As, No}
 use Rattle.card.specs.Bytes.{le}
-use Rattle.card.specs.Layout.{markBytes, isFree, isTurned}
+use Rattle.card.specs.Layout.{markBytes, isFree, isTurned, followsUnder, lineMark}
 
 -- R53: a slot's record by its mark and its five numbers
 abbrev pub recordWith : Mark → (C T T' fourth fifth : ℕ) → SlotRecord
@@ -43,13 +42,14 @@ Fitting r = pick (isFree (r .mark)) (r ≡ free) (NumbersFit r)
 
 -- ---- records and slots
 
--- R53, R58: the line of a record, by the order of its two last numbers: age and remaining, or turned
-abbrev pub lineOf : (turned : Bool) → SlotRecord → Run
-lineOf turned r = runWith (r .need) (r .period) (pick turned (r .fifth) (r .fourth)) (pick turned (r .fourth) (r .fifth))
+-- R53, R58: the line of a record by its mark, which says the order of the two last numbers, age and remaining or turned, and what follows the period
+abbrev pub lineOf : Mark → SlotRecord → Run
+lineOf m r =
+    runThen (followsUnder m) (r .need) (r .period) (pick (isTurned m) (r .fifth) (r .fourth)) (pick (isTurned m) (r .fourth) (r .fifth))
 
 -- R53, R58: what a slot holds by its record
 abbrev pub heldUnder : Mark → SlotRecord → Held
-heldUnder m r = pick (isFree m) Nothing (Running (lineOf (isTurned m) r))
+heldUnder m r = pick (isFree m) Nothing (Running (lineOf m r))
 
 -- R53: the slot that a record stands for
 abbrev pub slotFor : SlotRecord → Slot
@@ -59,18 +59,18 @@ slotFor r = holding (heldUnder (r .mark) r)
 abbrev pub entryFor : SlotRecord → ℕ
 entryFor r = r .stretched
 
--- R53, R58: the record of a line under a mark, its two last numbers in the mark's order
-abbrev pub lineUnder : Mark → Run → (T' : ℕ) → SlotRecord
-lineUnder m x t = recordWith m (x .need) (x .period) t (pick (isTurned m) (x .remaining) (x .age)) (pick (isTurned m) (x .age) (x .remaining))
+-- R53: the record of a line and its T': TB where it renews, TL where it leaves
+abbrev pub lineRecord : Run → (T' : ℕ) → SlotRecord
+lineRecord x t = recordWith (lineMark (x .follows)) (x .need) (x .period) t (x .age) (x .remaining)
 
--- R72: the record's twin: a TA record's line under TB, and any other record itself
+-- R72: the record's twin: of a TA record its line's, which is TB, and of any other the record itself
 abbrev pub twin : SlotRecord → SlotRecord
-twin r = pick (isTurned (r .mark)) (lineUnder Mark.TB (lineOf true r) (r .stretched)) r
+twin r = pick (isTurned (r .mark)) (lineRecord (lineOf Mark.TA r) (r .stretched)) r
 
--- R53: the record of what a slot holds, with its entry: TB or TF. A waiting line has none, no card carries one.
+-- R53: the record of what a slot holds, with its entry: TB, TL or TF. A waiting line has none, no card carries one.
 abbrev pub recordFor : Held → (T' : ℕ) → Recorded
 recordFor Nothing t = As free
-recordFor (Running x) t = As (lineUnder Mark.TB x t)
+recordFor (Running x) t = As (lineRecord x t)
 recordFor (Waiting w) t = No
 
 -- R53: the bytes of a slot's record

@@ -11,7 +11,7 @@ use Rattle.card.specs.declared.SlotRecord.{SlotRecord}
 use Rattle.card.specs.declared.Record.{Record}
 use Rattle.card.specs.declared.Record.the-variants.{Slot, Last, Refused}
 use Rattle.card.specs.Bytes.{value, marked}
-use Rattle.card.specs.Layout.{CK, TB, TF, TA, RQ, isFree, clockAt, needAt, periodAt, stretchedAt, fourthAt, fifthAt, clockLength, lineLength, lastLength, recordLength}
+use Rattle.card.specs.Layout.{CK, TB, TL, TF, TA, RQ, isFree, clockAt, needAt, periodAt, stretchedAt, fourthAt, fifthAt, clockLength, lineLength, lastLength, recordLength}
 use Rattle.card.specs.Marked.{recordWith, free, slotFor, entryFor, Records, saying}
 use Rattle.card.specs.Card.{Card, carrying}
 
@@ -29,10 +29,11 @@ lineRecordOf m l = pick (leb lineLength (length l)) (Slot (recordAt m l)) (Refus
 abbrev pub lastOf : List ℕ → Record
 lastOf l = pick (leb lastLength (length l)) (Last (value 2 l needAt) (value 2 l periodAt)) (Refused 11)
 
--- R57, R58: a slot's record: a line under TB or TA, or TF
+-- R57, R58: a slot's record: a line under TB, TL or TA, or TF
 abbrev pub slotRecordOf : List ℕ → Record
 slotRecordOf l =
-    pick (marked TB l) (lineRecordOf Mark.TB l) (pick (marked TF l) (Slot free) (pick (marked TA l) (lineRecordOf Mark.TA l) (Refused 11)))
+    pick (marked TB l) (lineRecordOf Mark.TB l)
+    (pick (marked TL l) (lineRecordOf Mark.TL l) (pick (marked TF l) (Slot free) (pick (marked TA l) (lineRecordOf Mark.TA l) (Refused 11))))
 
 -- R57: what stands at the front where so many slots are left; with none left RQ alone may
 unfoldable pub recordOf : (left : ℕ) → List ℕ → Record

@@ -49,7 +49,7 @@ unfoldable pub twinFrom : (left : ℕ) → List ℕ → List ℕ
 twinFrom zero l = l
 twinFrom (suc n) l = twinStep l (twinFrom n) (recordOf (suc n) l)
 
--- R72: the twin of a card of a unit with n slots: TB in the place of each TA, and its two last numbers exchanged
+-- R72: the twin of a card of a unit with n slots: TB in the place of each TA, and its two last numbers exchanged; TB, TL and TF stand as they are
 unfoldable pub twinWith : (slots : ℕ) → List ℕ → List ℕ
 twinWith n l = take clockLength l ++ twinFrom n (drop clockLength l)
 

@@ -3,10 +3,13 @@
 // The clock.
 pub const CK: [u8; 2] = *b"CK";
 
-// A slot that runs a line.
+// A slot that runs a line which renews.
 pub const TB: [u8; 2] = *b"TB";
 
-// R58: the same, as the third generation wrote it.
+// A slot that runs a line which leaves.
+pub const TL: [u8; 2] = *b"TL";
+
+// R58: as TB, in the order of the third generation.
 pub const TA: [u8; 2] = *b"TA";
 
 // A slot that holds nothing.

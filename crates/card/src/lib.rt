@@ -1,8 +1,11 @@
 // The words of the card: its layout, what stands in it, what a slot's record means, and what its reader and its writer answer.
 ghost use mathlib.Core.Path.{_≡_};
 ghost use Prim.Native.Nat.{_≤_};
-ghost use Rattle.card.specs.Layout.{isFree, isTurned, lineLength, recordLength};
-ghost use Rattle.card.specs.Marked.{recordWith, free, slotFor, recordFor};
+ghost use Rattle.line.specs.declared.Held.the-variants.{Running};
+ghost use Rattle.line.specs.Slots.{runThen, holding};
+ghost use Rattle.card.specs.Layout.{isFree, isTurned, lineMark, lineLength, recordLength};
+ghost use Rattle.card.specs.Marked.{recordWith, free, slotFor, lineRecord, recordFor};
+use line::Follows;
 use line::Held;
 use line::Run;
 use line::Slot;
@@ -17,9 +20,10 @@ pub enum Mark {
     TA,
     TB,
     TF,
+    TL,
 }
 
-// R53: a slot's record: its mark and its five numbers as they stand. The mark says what the two last of them are; under TF all are 0.
+// R53: a slot's record: its mark and its five numbers as they stand. The mark says what the two last of them are and what follows the period; under TF all are 0.
 pub struct SlotRecord {
     pub mark: Mark,
     pub need: u16,
@@ -63,6 +67,18 @@ pub enum WriteAnswer {
     Refused(Refusal),
 }
 
+impl Mark {
+    // R53, R99: the mark that a line is written under.
+    fn of_line(follows: Follows) -> Mark
+        ensures { λ r. ⌜ r ≡ lineMark follows ⌝ }
+    {
+        match follows {
+            Follows::Renews => Mark::TB,
+            Follows::Leaves => Mark::TL,
+        }
+    }
+}
+
 impl SlotRecord {
     // R53: a record of this mark and these numbers.
     pub fn new(
@@ -101,6 +117,7 @@ impl SlotRecord {
             Mark::TA => false,
             Mark::TB => false,
             Mark::TF => true,
+            Mark::TL => false,
         }
     }
 
@@ -113,6 +130,7 @@ impl SlotRecord {
             Mark::TA => true,
             Mark::TB => false,
             Mark::TF => false,
+            Mark::TL => false,
         }
     }
 
@@ -126,29 +144,34 @@ impl SlotRecord {
         layout::LINE_LENGTH
     }
 
+    // R53, R99: a slot with its line, of this age and these remaining ticks.
+    fn with_line(self, age: u16, remaining: u16, follows: Follows) -> Slot
+        ensures { λ r. ⌜ r ≡ holding (Running (runThen follows (self .need) (self .period) age remaining)) ⌝ }
+    {
+        let run = Held::running(self.need, self.period, age, remaining, follows);
+        Slot::holding(run)
+    }
+
     // R53, R58: the slot that it stands for.
     pub fn slot(self) -> Slot
         ensures { λ r. ⌜ r ≡ slotFor self ⌝ }
     {
         let m = self.mark;
         match m {
-            Mark::TA => {
-                let run = Held::running(self.need, self.period, self.fifth, self.fourth);
-                Slot::holding(run)
-            }
-            Mark::TB => {
-                let run = Held::running(self.need, self.period, self.fourth, self.fifth);
-                Slot::holding(run)
-            }
+            Mark::TA => self.with_line(self.fifth, self.fourth, Follows::Renews),
+            Mark::TB => self.with_line(self.fourth, self.fifth, Follows::Renews),
             Mark::TF => Slot::empty(),
+            Mark::TL => self.with_line(self.fourth, self.fifth, Follows::Leaves),
         }
     }
 
     // R53: the record of a running line and its T'.
     fn line(x: Run, stretched: u16) -> SlotRecord
-        ensures { λ r. ⌜ r ≡ recordWith Mark.TB (x .need) (x .period) stretched (x .age) (x .remaining) ⌝ }
+        ensures { λ r. ⌜ r ≡ lineRecord x stretched ⌝ }
     {
-        SlotRecord::new(Mark::TB, x.need, x.period, stretched, x.age, x.remaining)
+        let f = x.follows;
+        let m = Mark::of_line(f);
+        SlotRecord::new(m, x.need, x.period, stretched, x.age, x.remaining)
     }
 
     // R53: the record of a slot and its entry of the request.

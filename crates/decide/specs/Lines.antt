@@ -6,9 +6,9 @@ use lib.Dec.{eqb}
 use lib.ListN.{length, getD}
 use Rattle.line.specs.declared.Stream.{Stream}
 use Rattle.line.specs.declared.Slot.{Slot}
-use Rattle.line.specs.Slots.{both}
+use Rattle.line.specs.Slots.{both, byFollows}
 use Rattle.line.specs.Streams.{stream, byStream}
-use Rattle.sums.specs.Lines.{along, alike}
+use Rattle.sums.specs.Lines.{along, alike, longest}
 
 -- R9: its first end counted from the clock, what remains of its need, its need, its T', and the ticks from one of its ends to the next
 pub record Line : Type 0 where
@@ -46,9 +46,13 @@ allAlike e c n p g = both (alike e c n p) (eqb (length g) (length e))
 
 -- ---- of slots
 
--- R9: what a slot asks for, as it is gathered: its ends come a period apart
+-- R9, R99: its ends come a period apart; of a line that leaves a second one would come after every first one
+abbrev pub gapOf : Stream → ℕ
+gapOf s = byFollows (s .period) longest (s .follows)
+
+-- R9: what a slot asks for, as it is gathered
 abbrev pub lineOf : Stream → Line
-lineOf s = lineWith (s .end) (s .remaining) (s .need) (s .period) (s .period)
+lineOf s = lineWith (s .end) (s .remaining) (s .need) (s .period) (gapOf s)
 
 -- R6: the lines, lowest slot first; nothing is taken from a slot that holds none
 unfoldable pub linesIn : List Slot → List Line

@@ -2,6 +2,6 @@
 use mathlib.Core.Path.{_≡_, refl}
 use Rattle.house.specs.Version.{boundaryVersion}
 
--- R93: the third version
-pub version-edges : boundaryVersion ≡ 3
+-- R93: the fourth version
+pub version-edges : boundaryVersion ≡ 4
 version-edges = refl

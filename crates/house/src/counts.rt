@@ -7,7 +7,7 @@ use image::LoadAnswer;
 
 // R98: the counts of the image's table go into the lent numbers; a refusal leaves every one of them.
 #[no_mangle]
-pub extern "C" fn trimthuel_counts(table: &[u8], counts: &mut [u64; 17]) -> Result
+pub extern "C" fn trimthuel_counts(table: &[u8], counts: &mut [u64; 18]) -> Result
     ensures { λ r. ⌜ (r ≡ countsFor (loadOf (now (table .entry)))) × (now (counts .exit) ≡ countsAfter (loadOf (now (table .entry))) (now (counts .entry))) ⌝ }
 {
     let i = image::load(table);

@@ -5,7 +5,7 @@ ghost use Rattle.table.specs.Words.{emptyTable};
 ghost use Rattle.image.specs.Loading.{loadOf};
 ghost use Rattle.image.specs.Answers.{storeOf, storedIn};
 ghost use Rattle.calls.specs.Results.{resultOf};
-ghost use Rattle.calls.specs.Tables.{requestOf, askFor, afterAdmit, stepFor, afterStep, ReadyFor};
+ghost use Rattle.calls.specs.Tables.{requestOf, askFor, afterAdmit, stepFor, afterStep, leaveFor, afterLeave, ReadyFor};
 use calls::Result;
 use image::LoadAnswer;
 use table::Request;
@@ -66,6 +66,19 @@ pub extern "C" fn trimthuel_step(table: &mut [u8]) -> Result
     let said = i.answer;
     match said {
         LoadAnswer::Read => calls::tables::step(i.table, table),
+        LoadAnswer::Refused(x) => Result::refused(x),
+    }
+}
+
+// R102: lets the line of the slot named go; a refusal leaves every byte of the image.
+#[no_mangle]
+pub extern "C" fn trimthuel_leave(table: &mut [u8], number: u64) -> Result
+    ensures { λ r. ⌜ (r ≡ leaveFor (loadOf (now (table .entry))) number) × (now (table .exit) ≡ afterLeave (loadOf (now (table .entry))) number (now (table .entry))) ⌝ }
+{
+    let i = image::load(table);
+    let said = i.answer;
+    match said {
+        LoadAnswer::Read => calls::tables::leave(i.table, number, table),
         LoadAnswer::Refused(x) => Result::refused(x),
     }
 }

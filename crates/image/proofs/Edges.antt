@@ -1,17 +1,18 @@
 -- Images and buffers on both sides of each edge of R81 to R84, by computation. The bytes are numbers here, and no two numbers of a line share one: an exchange of two
 -- numbers in the definitions changes what a row says.
 use Prim.Native.Nat.{ℕ, zero, suc, _+_, _*_}
-use mathlib.Core.Path.{_≡_, refl}
+use mathlib.Core.Path.{_≡_, refl, ap}
 use mathlib.Core.List.{List, [], _∷_, _++_, map}
+use native.Mathlib.Omega.{arith}
 use lib.ListN.{length, take, set, replicate}
 use Rattle.line.specs.declared.Slot.{Slot}
 use Rattle.line.specs.Slots.{empty, lowest}
 use Rattle.table.specs.declared.Table.{Table}
-use Rattle.table.specs.Words.{tableWith, withCounts, refusal, Said, gives, refuses}
-use Rattle.table.specs.Cases.{running, waiting}
+use Rattle.table.specs.Words.{tableWith, withCounts, withDeparted, refusal, Said, gives, refuses}
+use Rattle.table.specs.Cases.{running, parting, waiting}
 use Rattle.image.specs.declared.LoadAnswer.{LoadAnswer}
 use Rattle.image.specs.Image.{size, imageOf}
-use Rattle.image.specs.Loading.{blankFrom, slotsWrong, lengthWrong, wrongIn, heldIn, loadWith, loadOf}
+use Rattle.image.specs.Loading.{byte, blankFrom, slotsWrong, lengthWrong, wrongIn, heldIn, loadWith, loadOf}
 use Rattle.image.specs.Answers.{handedOut, saidLoaded, storeOf, storedIn}
 
 -- the bytes l so many times
@@ -21,7 +22,7 @@ times (suc n) l = l ++ times n l
 
 -- the version and a clock
 abbrev front : List ℕ
-front = 2 ∷ 0xA1 ∷ 0xA2 ∷ 0xA3 ∷ 0xA4 ∷ 0xA5 ∷ 0xA6 ∷ 0xA7 ∷ 0xA8 ∷ []
+front = 3 ∷ 0xA1 ∷ 0xA2 ∷ 0xA3 ∷ 0xA4 ∷ 0xA5 ∷ 0xA6 ∷ 0xA7 ∷ 0xA8 ∷ []
 
 -- a slot that holds nothing
 abbrev free : List ℕ
@@ -31,13 +32,20 @@ free = 0 ∷ 0 ∷ 0 ∷ 0 ∷ 0 ∷ 0 ∷ 0 ∷ 0 ∷ 0 ∷ []
 abbrev runs : List ℕ
 runs = 1 ∷ 0x11 ∷ 0x12 ∷ 0x21 ∷ 0x22 ∷ 0x31 ∷ 0x32 ∷ 0x41 ∷ 0x42 ∷ []
 
+-- a slot that runs a line which leaves
+abbrev runsLast : List ℕ
+runsLast = 3 ∷ 0x13 ∷ 0x14 ∷ 0x23 ∷ 0x24 ∷ 0x33 ∷ 0x34 ∷ 0x43 ∷ 0x44 ∷ []
+
 -- a slot whose line waits
 abbrev waits : List ℕ
 waits = 2 ∷ 0x51 ∷ 0x52 ∷ 0x61 ∷ 0x62 ∷ 0x71 ∷ 0x72 ∷ 0 ∷ 0 ∷ []
 
--- what the last two hold
+-- what the last three hold
 abbrev runSlot : Slot
 runSlot = running 0x1211 0x2221 0x3231 0x4241
+
+abbrev leaveSlot : Slot
+leaveSlot = parting 0x1413 0x2423 0x3433 0x4443
 
 abbrev waitSlot : Slot
 waitSlot = waiting 0x5251 0x6261 0x7271
@@ -52,9 +60,9 @@ abbrev risen : (many first : ℕ) → List ℕ
 risen zero b = []
 risen (suc n) b = (0x0706050403020100 + 0x0101010101010101 * b) ∷ risen n (8 + b)
 
--- the counts behind n slots, no byte of which stands there twice, and the idle count behind them
+-- the counts behind n slots, no byte of which stands there twice, and behind them the idle count and the departed one
 abbrev tally : (slots : ℕ) → List ℕ
-tally n = rising (8 * n + 8) 0x64
+tally n = rising (8 * n + 16) 0x64
 
 -- n slots' bytes between `front` and the counts
 abbrev whole : (slots : ℕ) → List ℕ → List ℕ
@@ -64,7 +72,8 @@ whole n l = front ++ l ++ tally n
 abbrev under : List Slot → Table
 under ss =
     let n = length ss in
-    withCounts (tableWith 0xA8A7A6A5A4A3A2A1 ss) (risen n 0x64) (0x0706050403020100 + 0x0101010101010101 * (0x64 + 8 * n))
+    withDeparted (withCounts (tableWith 0xA8A7A6A5A4A3A2A1 ss) (risen n 0x64) (0x0706050403020100 + 0x0101010101010101 * (0x64 + 8 * n)))
+    (0x0706050403020100 + 0x0101010101010101 * (0x6C + 8 * n))
 
 abbrev reads : List Slot → Said Table
 reads ss = gives (under ss)
@@ -85,29 +94,37 @@ edge n l s = record { slots = n; bytes = l; says = s }
 abbrev wrongAt : (slots : ℕ) → List ℕ → (byte at : ℕ) → ImageEdge
 wrongAt n l b at = edge n (set l at b) (breaks at)
 
--- R83: the version, alone wrong and with all else wrong; an image of the version before this one, as long as it was then and as long as it is now
+-- R83: the version, alone wrong and with all else wrong; images of the versions before this one, as long as they were then and as long as it is now
 abbrev versionEdges : List ImageEdge
 versionEdges =
     edge 1 (whole 1 runs) (reads (runSlot ∷ []))
     ∷ wrongAt 1 (whole 1 runs) 0 0
     ∷ wrongAt 1 (whole 1 runs) 1 0
-    ∷ wrongAt 1 (whole 1 runs) 3 0
+    ∷ wrongAt 1 (whole 1 runs) 2 0
+    ∷ wrongAt 1 (whole 1 runs) 4 0
     ∷ wrongAt 1 (whole 1 runs) 255 0
-    ∷ edge 1 (1 ∷ []) (breaks 0)
+    ∷ edge 1 (2 ∷ []) (breaks 0)
     ∷ edge 1 (0 ∷ replicate 50 255) (breaks 0)
     ∷ edge 16 (set (front ++ times 16 runs) 0 1) (breaks 0)
     ∷ edge 16 (front ++ times 16 runs) (breaks 153)
     ∷ wrongAt 16 (whole 16 (times 16 runs)) 1 0
+    ∷ edge 16 (take 289 (set (whole 16 (times 16 runs)) 0 2)) (breaks 0)
+    ∷ edge 16 (take 289 (whole 16 (times 16 runs))) (breaks 289)
+    ∷ wrongAt 16 (whole 16 (times 16 runs)) 2 0
     ∷ []
 
--- R81, R83: each kind, and one above; what follows a kind above 2 is not looked at
+-- R81, R83: each kind, and those above; what follows a kind above 3 is not looked at
 abbrev kindEdges : List ImageEdge
 kindEdges =
     edge 1 (set (whole 1 free) 9 0) (reads (empty ∷ []))
     ∷ edge 1 (set (whole 1 free) 9 1) (reads (running 0 0 0 0 ∷ []))
     ∷ edge 1 (set (whole 1 free) 9 2) (reads (waiting 0 0 0 ∷ []))
-    ∷ map (λ (k : ℕ). wrongAt 1 (whole 1 free) k 9) (3 ∷ 4 ∷ 128 ∷ 255 ∷ [])
-    ++ map (λ (k : ℕ). wrongAt 1 (whole 1 runs) k 9) (3 ∷ 4 ∷ 128 ∷ 255 ∷ [])
+    ∷ edge 1 (set (whole 1 free) 9 3) (reads (parting 0 0 0 0 ∷ []))
+    ∷ edge 1 (set (whole 1 runs) 9 3) (reads (parting 0x1211 0x2221 0x3231 0x4241 ∷ []))
+    ∷ edge 1 (set (whole 1 runsLast) 9 1) (reads (running 0x1413 0x2423 0x3433 0x4443 ∷ []))
+    ∷ map (λ (k : ℕ). wrongAt 1 (whole 1 free) k 9) (4 ∷ 5 ∷ 128 ∷ 255 ∷ [])
+    ++ map (λ (k : ℕ). wrongAt 1 (whole 1 runs) k 9) (4 ∷ 5 ∷ 128 ∷ 255 ∷ [])
+    ++ map (λ (k : ℕ). wrongAt 1 (whole 1 runsLast) k 9) (4 ∷ 5 ∷ 128 ∷ 255 ∷ [])
 
 -- R83: where R81 has a 0: one byte alone, the lowest of two, and in other slots
 abbrev zeroEdges : List ImageEdge
@@ -119,16 +136,17 @@ zeroEdges =
     ∷ edge 1 (set (set (whole 1 free) 17 255) 10 255) (breaks 10)
     ∷ edge 1 (whole 1 (0 ∷ replicate 8 255)) (breaks 10)
     ∷ edge 1 (whole 1 (2 ∷ replicate 8 255)) (breaks 16)
-    ∷ edge 1 (2 ∷ replicate 8 255 ++ (1 ∷ replicate 24 255))
-    (gives (withCounts (tableWith 18446744073709551615 (running 65535 65535 65535 65535 ∷ [])) (18446744073709551615 ∷ []) 18446744073709551615))
+    ∷ edge 2 (3 ∷ replicate 8 255 ++ (1 ∷ replicate 8 255) ++ (3 ∷ replicate 40 255))
+    (gives (withDeparted (withCounts (tableWith 18446744073709551615 (running 65535 65535 65535 65535 ∷ parting 65535 65535 65535 65535 ∷ [])) (replicate 2 18446744073709551615) 18446744073709551615)
+    18446744073709551615))
     ∷ map (wrongAt 2 (whole 2 (runs ++ free)) 1) (19 ∷ 20 ∷ 25 ∷ 26 ∷ [])
     ++ map (wrongAt 2 (whole 2 (runs ++ waits)) 1) (25 ∷ 26 ∷ [])
-    ++ edge 2 (set (whole 2 (free ++ runs)) 18 3) (breaks 18)
+    ++ edge 2 (set (whole 2 (free ++ runs)) 18 4) (breaks 18)
     ∷ edge 2 (set (set (whole 2 (free ++ free)) 19 1) 17 1) (breaks 17)
-    ∷ edge 2 (set (set (whole 2 (free ++ free)) 18 3) 9 3) (breaks 9)
+    ∷ edge 2 (set (set (whole 2 (free ++ free)) 18 4) 9 4) (breaks 9)
     ∷ map (wrongAt 16 (whole 16 (times 16 free)) 1) (10 ∷ 136 ∷ 143 ∷ 145 ∷ 152 ∷ [])
-    ++ wrongAt 16 (whole 16 (times 16 free)) 3 144
-    ∷ wrongAt 16 (whole 16 (times 16 runs)) 3 144
+    ++ wrongAt 16 (whole 16 (times 16 free)) 4 144
+    ∷ wrongAt 16 (whole 16 (times 16 runs)) 4 144
     ∷ []
 
 -- R81: the slots' order, and what stands next to a slot is not its own
@@ -140,31 +158,42 @@ slotEdges =
     ∷ edge 3 (whole 3 (free ++ waits ++ runs)) (reads (empty ∷ waitSlot ∷ runSlot ∷ []))
     ∷ edge 3 (whole 3 (free ++ free ++ waits)) (reads (empty ∷ empty ∷ waitSlot ∷ []))
     ∷ edge 16 (whole 16 (times 15 free ++ waits)) (reads (replicate 15 empty ++ (waitSlot ∷ [])))
+    ∷ edge 2 (whole 2 (runsLast ++ runs)) (reads (leaveSlot ∷ runSlot ∷ []))
+    ∷ edge 3 (whole 3 (waits ++ runsLast ++ free)) (reads (waitSlot ∷ leaveSlot ∷ empty ∷ []))
     ∷ edge 16 (whole 16 (times 16 runs)) (reads (replicate 16 runSlot))
+    ∷ edge 16 (whole 16 (times 15 runs ++ runsLast)) (reads (replicate 15 runSlot ++ (leaveSlot ∷ [])))
+    ∷ edge 16 (whole 16 (times 16 runsLast)) (reads (replicate 16 leaveSlot))
     ∷ []
 
--- sixteen slots that hold nothing before these bytes, their counts and the idle one
+-- sixteen slots that hold nothing before these bytes, their counts, the idle one and the departed one
 abbrev freeBefore : List ℕ → List ℕ
 freeBefore l = front ++ times 16 free ++ l
 
 -- what they read as
-abbrev freeReads : (had : List ℕ) (idle : ℕ) → Said Table
-freeReads ns n = gives (withCounts (tableWith 0xA8A7A6A5A4A3A2A1 (replicate 16 empty)) ns n)
+abbrev freeReads : (had : List ℕ) (idle departed : ℕ) → Said Table
+freeReads ns n d = gives (withDeparted (withCounts (tableWith 0xA8A7A6A5A4A3A2A1 (replicate 16 empty)) ns n) d)
 
--- R81, R95: each count in its place and in no other, the first, the last two, and all of them; any counts may stand there, beside slots that hold nothing too
+-- no count but 1 in one byte, where every slot holds nothing
+abbrev oneAt : (at : ℕ) → List ℕ
+oneAt at = set (freeBefore (replicate 144 0)) at 1
+
+-- R81, R95: each count in its place and in no other, the first, the last three, and all of them; any counts may stand there, beside slots that hold nothing too
 abbrev countEdges : List ImageEdge
 countEdges =
-    edge 16 (freeBefore (replicate 136 0)) (freeReads (replicate 16 0) 0)
-    ∷ edge 16 (freeBefore (replicate 8 255 ++ replicate 128 0)) (freeReads (18446744073709551615 ∷ replicate 15 0) 0)
-    ∷ edge 16 (freeBefore (replicate 120 0 ++ replicate 8 255 ++ replicate 8 0)) (freeReads (replicate 15 0 ++ (18446744073709551615 ∷ [])) 0)
-    ∷ edge 16 (freeBefore (replicate 128 0 ++ replicate 8 255)) (freeReads (replicate 16 0) 18446744073709551615)
-    ∷ edge 16 (freeBefore (replicate 136 255)) (freeReads (replicate 16 18446744073709551615) 18446744073709551615)
-    ∷ edge 16 (set (freeBefore (replicate 136 0)) 153 1) (freeReads (1 ∷ replicate 15 0) 0)
-    ∷ edge 16 (set (freeBefore (replicate 136 0)) 160 1) (freeReads (72057594037927936 ∷ replicate 15 0) 0)
-    ∷ edge 16 (set (freeBefore (replicate 136 0)) 161 1) (freeReads (0 ∷ 1 ∷ replicate 14 0) 0)
-    ∷ edge 16 (set (freeBefore (replicate 136 0)) 280 1) (freeReads (replicate 15 0 ++ (72057594037927936 ∷ [])) 0)
-    ∷ edge 16 (set (freeBefore (replicate 136 0)) 281 1) (freeReads (replicate 16 0) 1)
-    ∷ edge 16 (set (freeBefore (replicate 136 0)) 288 1) (freeReads (replicate 16 0) 72057594037927936)
+    edge 16 (freeBefore (replicate 144 0)) (freeReads (replicate 16 0) 0 0)
+    ∷ edge 16 (freeBefore (replicate 8 255 ++ replicate 136 0)) (freeReads (18446744073709551615 ∷ replicate 15 0) 0 0)
+    ∷ edge 16 (freeBefore (replicate 120 0 ++ replicate 8 255 ++ replicate 16 0)) (freeReads (replicate 15 0 ++ (18446744073709551615 ∷ [])) 0 0)
+    ∷ edge 16 (freeBefore (replicate 128 0 ++ replicate 8 255 ++ replicate 8 0)) (freeReads (replicate 16 0) 18446744073709551615 0)
+    ∷ edge 16 (freeBefore (replicate 136 0 ++ replicate 8 255)) (freeReads (replicate 16 0) 0 18446744073709551615)
+    ∷ edge 16 (freeBefore (replicate 144 255)) (freeReads (replicate 16 18446744073709551615) 18446744073709551615 18446744073709551615)
+    ∷ edge 16 (oneAt 153) (freeReads (1 ∷ replicate 15 0) 0 0)
+    ∷ edge 16 (oneAt 160) (freeReads (72057594037927936 ∷ replicate 15 0) 0 0)
+    ∷ edge 16 (oneAt 161) (freeReads (0 ∷ 1 ∷ replicate 14 0) 0 0)
+    ∷ edge 16 (oneAt 280) (freeReads (replicate 15 0 ++ (72057594037927936 ∷ [])) 0 0)
+    ∷ edge 16 (oneAt 281) (freeReads (replicate 16 0) 1 0)
+    ∷ edge 16 (oneAt 288) (freeReads (replicate 16 0) 72057594037927936 0)
+    ∷ edge 16 (oneAt 289) (freeReads (replicate 16 0) 0 1)
+    ∷ edge 16 (oneAt 296) (freeReads (replicate 16 0) 0 72057594037927936)
     ∷ []
 
 -- right bytes cut after so many
@@ -174,14 +203,14 @@ cutAt n l m = edge n (take m l) (breaks m)
 -- R83: each length is refused at its end, or at the image's
 abbrev lengthEdges : List ImageEdge
 lengthEdges =
-    map (cutAt 1 (whole 1 runs)) (0 ∷ 1 ∷ 8 ∷ 9 ∷ 10 ∷ 17 ∷ 18 ∷ 19 ∷ 25 ∷ 26 ∷ 33 ∷ [])
-    ++ edge 1 (whole 1 runs ++ (0 ∷ [])) (breaks 34)
-    ∷ edge 1 (whole 1 (runs ++ runs)) (breaks 34)
-    ∷ edge 0 (whole 0 [] ++ (0 ∷ [])) (breaks 17)
-    ∷ map (cutAt 0 (whole 0 [])) (8 ∷ 9 ∷ 16 ∷ [])
-    ++ map (cutAt 16 (whole 16 (times 16 runs))) (144 ∷ 152 ∷ 153 ∷ 154 ∷ 280 ∷ 281 ∷ 288 ∷ [])
-    ++ edge 16 (whole 16 (times 16 runs) ++ (0 ∷ [])) (breaks 289)
-    ∷ edge 16 (whole 16 (times 16 runs) ++ (0 ∷ 0 ∷ [])) (breaks 289)
+    map (cutAt 1 (whole 1 runs)) (0 ∷ 1 ∷ 8 ∷ 9 ∷ 10 ∷ 17 ∷ 18 ∷ 19 ∷ 25 ∷ 26 ∷ 33 ∷ 34 ∷ 41 ∷ [])
+    ++ edge 1 (whole 1 runs ++ (0 ∷ [])) (breaks 42)
+    ∷ edge 1 (whole 1 (runs ++ runs)) (breaks 42)
+    ∷ edge 0 (whole 0 [] ++ (0 ∷ [])) (breaks 25)
+    ∷ map (cutAt 0 (whole 0 [])) (8 ∷ 9 ∷ 16 ∷ 17 ∷ 24 ∷ [])
+    ++ map (cutAt 16 (whole 16 (times 16 runs))) (144 ∷ 152 ∷ 153 ∷ 154 ∷ 280 ∷ 281 ∷ 288 ∷ 289 ∷ 290 ∷ 296 ∷ [])
+    ++ edge 16 (whole 16 (times 16 runs) ++ (0 ∷ [])) (breaks 297)
+    ∷ edge 16 (whole 16 (times 16 runs) ++ (0 ∷ 0 ∷ [])) (breaks 297)
     ∷ []
 
 -- R83: a wrong byte and a wrong length, the lower of the two; a byte that is missing is not wrong, and neither is one behind the slots
@@ -192,14 +221,15 @@ orderEdges =
     ∷ edge 1 (take 10 (set (whole 1 free) 11 1)) (breaks 10)
     ∷ edge 1 (take 10 (whole 1 waits)) (breaks 10)
     ∷ edge 2 (take 11 (whole 2 (runs ++ free))) (breaks 11)
-    ∷ edge 2 (front ++ (3 ∷ [])) (breaks 9)
+    ∷ edge 2 (front ++ (3 ∷ [])) (breaks 10)
+    ∷ edge 2 (front ++ (4 ∷ [])) (breaks 9)
     ∷ edge 1 (set (whole 1 free) 17 1 ++ (0 ∷ [])) (breaks 17)
-    ∷ edge 1 (take 33 (set (whole 1 free) 17 1)) (breaks 17)
-    ∷ edge 1 (whole 1 free ++ (3 ∷ [])) (breaks 34)
-    ∷ edge 1 (whole 1 free ++ (0 ∷ 1 ∷ [])) (breaks 34)
+    ∷ edge 1 (take 41 (set (whole 1 free) 17 1)) (breaks 17)
+    ∷ edge 1 (whole 1 free ++ (4 ∷ [])) (breaks 42)
+    ∷ edge 1 (whole 1 free ++ (0 ∷ 1 ∷ [])) (breaks 42)
     ∷ edge 16 (set (whole 16 (times 16 free)) 152 1 ++ (1 ∷ [])) (breaks 152)
-    ∷ edge 16 (take 288 (set (whole 16 (times 16 free)) 152 1)) (breaks 152)
-    ∷ edge 16 (whole 16 (times 16 free) ++ (0 ∷ 1 ∷ [])) (breaks 289)
+    ∷ edge 16 (take 296 (set (whole 16 (times 16 free)) 152 1)) (breaks 152)
+    ∷ edge 16 (whole 16 (times 16 free) ++ (0 ∷ 1 ∷ [])) (breaks 297)
     ∷ []
 
 -- R81, R83: all of them
@@ -213,50 +243,58 @@ image-edges = refl
 
 -- R81: each byte of an image stands where its offset says, for tables of none, one, two and sixteen slots
 pub written-edges : map imageOf (
-    under [] ∷ under (runSlot ∷ []) ∷ under (waitSlot ∷ runSlot ∷ []) ∷ under (empty ∷ waitSlot ∷ []) ∷ under (replicate 15 empty ++ (runSlot ∷ [])) ∷ [])
-    ≡ whole 0 [] ∷ whole 1 runs ∷ whole 2 (waits ++ runs) ∷ whole 2 (free ++ waits) ∷ whole 16 (times 15 free ++ runs) ∷ []
+    under [] ∷ under (runSlot ∷ []) ∷ under (waitSlot ∷ runSlot ∷ []) ∷ under (empty ∷ waitSlot ∷ []) ∷ under (replicate 15 empty ++ (runSlot ∷ []))
+    ∷ under (leaveSlot ∷ []) ∷ under (runSlot ∷ leaveSlot ∷ []) ∷ under (replicate 15 runSlot ++ (leaveSlot ∷ [])) ∷ [])
+    ≡ whole 0 [] ∷ whole 1 runs ∷ whole 2 (waits ++ runs) ∷ whole 2 (free ++ waits) ∷ whole 16 (times 15 free ++ runs)
+    ∷ whole 1 runsLast ∷ whole 2 (runs ++ runsLast) ∷ whole 16 (times 15 runs ++ runsLast) ∷ []
 unfolding imageOf
 written-edges = refl
 
 -- R3, R82: the greatest numbers have an image too
 pub greatest-written : imageOf (
-    withCounts (tableWith 18446744073709551615 (running 65535 65535 65535 65535 ∷ waiting 65535 65535 65535 ∷ [])) (18446744073709551615 ∷ 0 ∷ []) 18446744073709551615)
-    ≡ 2 ∷ replicate 8 255 ++ (1 ∷ replicate 8 255) ++ (2 ∷ replicate 6 255) ++ (0 ∷ 0 ∷ []) ++ replicate 8 255 ++ replicate 8 0 ++ replicate 8 255
+    withDeparted (withCounts (tableWith 18446744073709551615 (running 65535 65535 65535 65535 ∷ waiting 65535 65535 65535 ∷ parting 65535 65535 65535 65535 ∷ [])) (18446744073709551615 ∷ 0 ∷ 0 ∷ []) 0)
+    18446744073709551615)
+    ≡ 3 ∷ replicate 8 255 ++ (1 ∷ replicate 8 255) ++ (2 ∷ replicate 6 255) ++ (0 ∷ 0 ∷ []) ++ (3 ∷ replicate 8 255) ++ replicate 8 255 ++ replicate 24 0 ++ replicate 8 255
 unfolding imageOf
 greatest-written = refl
 
--- R81: for sixteen slots an image has 289 bytes, for one 34
-pub size-edges : map size (0 ∷ 1 ∷ 16 ∷ []) ≡ 17 ∷ 34 ∷ 289 ∷ []
+-- R82, R99: a line that renews and one that leaves, with the same numbers, have different images
+pub lines-tell : (k C T a c : ℕ) → imageOf (tableWith k (running C T a c ∷ [])) ≡ imageOf (tableWith k (parting C T a c ∷ [])) → ⊥
+unfolding imageOf
+lines-tell k C T a c e = let z : _≡_ {A = ℕ} 1 3 = ap (λ (l : List ℕ). byte l 9) e in omega arith
+
+-- R81: for sixteen slots an image has 297 bytes, for one 42
+pub size-edges : map size (0 ∷ 1 ∷ 16 ∷ []) ≡ 25 ∷ 42 ∷ 297 ∷ []
 size-edges = refl
 
 -- a table of sixteen slots, and its image
 abbrev sixteen : Table
-sixteen = under (runSlot ∷ waitSlot ∷ replicate 14 empty)
+sixteen = under (runSlot ∷ waitSlot ∷ leaveSlot ∷ replicate 13 empty)
 
 abbrev sixteenBytes : List ℕ
-sixteenBytes = whole 16 (runs ++ waits ++ times 14 free)
+sixteenBytes = whole 16 (runs ++ waits ++ runsLast ++ times 13 free)
 
 -- a buffer of n bytes that are no image's
 abbrev lent : ℕ → List ℕ
 lent n = replicate n 0xEE
 
 -- R33, R84: the room for an image, on both sides
-pub room-edges : map storeOf (0 ∷ 9 ∷ 153 ∷ 288 ∷ 289 ∷ 290 ∷ 1000 ∷ [])
-    ≡ refuses (refusal 13 0) ∷ refuses (refusal 13 0) ∷ refuses (refusal 13 0) ∷ refuses (refusal 13 0) ∷ gives 289 ∷ gives 289 ∷ gives 289 ∷ []
+pub room-edges : map storeOf (0 ∷ 9 ∷ 153 ∷ 289 ∷ 296 ∷ 297 ∷ 298 ∷ 1000 ∷ [])
+    ≡ replicate 5 (refuses (refusal 13 0)) ++ replicate 3 (gives 297)
 unfolding storeOf
 room-edges = refl
 
 -- R84: the image at the start of the buffer, and behind it the bytes as they were; all as they were where it does not fit
-pub stored-edges : map (storedIn sixteen) ([] ∷ lent 153 ∷ lent 288 ∷ lent 289 ∷ (lent 289 ++ (0xDD ∷ [])) ∷ (lent 289 ++ (0xDD ∷ 0xCC ∷ 0xBB ∷ [])) ∷ [])
-    ≡ [] ∷ lent 153 ∷ lent 288 ∷ sixteenBytes ∷ (sixteenBytes ++ (0xDD ∷ [])) ∷ (sixteenBytes ++ (0xDD ∷ 0xCC ∷ 0xBB ∷ [])) ∷ []
+pub stored-edges : map (storedIn sixteen) ([] ∷ lent 153 ∷ lent 289 ∷ lent 296 ∷ lent 297 ∷ (lent 297 ++ (0xDD ∷ [])) ∷ (lent 297 ++ (0xDD ∷ 0xCC ∷ 0xBB ∷ [])) ∷ [])
+    ≡ [] ∷ lent 153 ∷ lent 289 ∷ lent 296 ∷ sixteenBytes ∷ (sixteenBytes ++ (0xDD ∷ [])) ∷ (sixteenBytes ++ (0xDD ∷ 0xCC ∷ 0xBB ∷ [])) ∷ []
 unfolding storeOf imageOf
 stored-edges = refl
 
 -- R84: what is handed out: a table with its answer, and with a refusal the empty table of sixteen slots
-pub handed-edges : map (λ (l : List ℕ). handedOut (loadOf l)) (sixteenBytes ∷ take 288 sixteenBytes ∷ (sixteenBytes ++ (0 ∷ [])) ∷ set sixteenBytes 144 3 ∷ set sixteenBytes 0 1 ∷ [])
+pub handed-edges : map (λ (l : List ℕ). handedOut (loadOf l)) (sixteenBytes ∷ take 296 sixteenBytes ∷ (sixteenBytes ++ (0 ∷ [])) ∷ set sixteenBytes 144 4 ∷ set sixteenBytes 0 2 ∷ [])
     ≡ record { table = sixteen; answer = LoadAnswer.Read }
-    ∷ record { table = tableWith 0 (replicate 16 empty); answer = LoadAnswer.Refused (refusal 11 288) }
-    ∷ record { table = tableWith 0 (replicate 16 empty); answer = LoadAnswer.Refused (refusal 11 289) }
+    ∷ record { table = tableWith 0 (replicate 16 empty); answer = LoadAnswer.Refused (refusal 11 296) }
+    ∷ record { table = tableWith 0 (replicate 16 empty); answer = LoadAnswer.Refused (refusal 11 297) }
     ∷ record { table = tableWith 0 (replicate 16 empty); answer = LoadAnswer.Refused (refusal 11 144) }
     ∷ record { table = tableWith 0 (replicate 16 empty); answer = LoadAnswer.Refused (refusal 11 0) }
     ∷ []

@@ -7,15 +7,17 @@ use native.Mathlib.Nat.{add-zero}
 use lib.ListN.{drop}
 use lib.Seq.{getD-drop}
 use borrow.Author.Tests.{ne-eqb}
+use Rattle.line.specs.declared.Follows.{Follows}
 use Rattle.line.specs.declared.Run.{Run}
 use Rattle.line.specs.declared.Wait.{Wait}
 use Rattle.line.specs.declared.Held.{Held}
 use Rattle.line.specs.declared.Held.the-variants.{Nothing, Running, Waiting}
-use Rattle.line.specs.Slots.{runWith, waitWith, holding, empty}
+use Rattle.line.specs.Slots.{runThen, waitWith, holding, empty}
 use Rattle.card.specs.Bytes.{Bytes, le, value}
 use Rattle.card.proofs.Numbers.{value-lt, two-of}
-use Rattle.image.specs.Image.{slotBytes}
+use Rattle.image.specs.Image.{runKind, slotBytes}
 use Rattle.image.specs.Loading.{byte, heldIn}
+use Rattle.image.proofs.RunKinds.{run-in}
 
 value-drop : (n a : ℕ) (l : List ℕ) (at : ℕ) → value n (drop a l) at ≡ value n l (a + at)
 value-drop zero a l at = refl
@@ -65,11 +67,10 @@ module _ (l : List ℕ) (b : Bytes l) {v : ℕ} (e : v ≡ value 8 l 1) where
   pub fourth : v / 281474976710656 % 65536 ≡ value 2 l 7
   fourth = omega (arith, half, value-more 2 l 5, value-lt 2 l 5 b, value-lt 2 l 7 b)
 
-  -- R81: a slot of kind 1 holds the running line of the four numbers
-  pub running-in : byte l 0 ≡ 1 → {n p a r : ℕ} → n ≡ v % 65536 → p ≡ v / 65536 % 65536 → a ≡ v / 4294967296 % 65536 → r ≡ v / 281474976710656 % 65536
-      → holding (Running (runWith n p a r)) ≡ holding (heldIn l)
-  unfolding heldIn
-  running-in k en ep ea er = rw (k, en ∙ first, ep ∙ second, ea ∙ third, er ∙ fourth)
+  -- R81: a slot of kind 1 or 3 holds the running line of the four numbers
+  pub running-in : (f : Follows) → byte l 0 ≡ runKind f → {n p a r : ℕ} → n ≡ v % 65536 → p ≡ v / 65536 % 65536 → a ≡ v / 4294967296 % 65536 → r ≡ v / 281474976710656 % 65536
+      → holding (Running (runThen f n p a r)) ≡ holding (heldIn l)
+  running-in f k en ep ea er = rw (run-in f l k, en ∙ first, ep ∙ second, ea ∙ third, er ∙ fourth)
 
   -- R81: a slot of kind 2 holds the waiting line of the first three
   pub waiting-in : byte l 0 ≡ 2 → {n p w : ℕ} → n ≡ v % 65536 → p ≡ v / 65536 % 65536 → w ≡ v / 4294967296 % 65536
@@ -78,9 +79,9 @@ module _ (l : List ℕ) (b : Bytes l) {v : ℕ} (e : v ≡ value 8 l 1) where
   waiting-in k en ep ew = rw (k, en ∙ first, ep ∙ second, ew ∙ third)
 
 -- R81: a slot of any other kind holds nothing
-pub nothing-in : (l : List ℕ) → (byte l 0 ≡ 1 → ⊥) → (byte l 0 ≡ 2 → ⊥) → empty ≡ holding (heldIn l)
+pub nothing-in : (l : List ℕ) → (byte l 0 ≡ 1 → ⊥) → (byte l 0 ≡ 2 → ⊥) → (byte l 0 ≡ 3 → ⊥) → empty ≡ holding (heldIn l)
 unfolding heldIn
-nothing-in l p q = rw (ne-eqb (byte l 0) 1 p, ne-eqb (byte l 0) 2 q)
+nothing-in l p q r = rw (ne-eqb (byte l 0) 1 p, ne-eqb (byte l 0) 2 q, ne-eqb (byte l 0) 3 r)
 
 -- nine bytes were put into a buffer that held l before
 module _ (h : Held) (l y : List ℕ) where
@@ -89,9 +90,10 @@ module _ (h : Held) (l y : List ℕ) where
   put-nothing e q = q ∙ ap (λ (g : Held). slotBytes g ++ drop 9 l) (sym e)
 
   -- R81: for a running line
-  pub put-running : (r : Run) (v : ℕ) → h ≡ Running r → le 8 v ≡ le 2 (r .need) ++ (le 2 (r .period) ++ (le 2 (r .age) ++ le 2 (r .remaining)))
-      → y ≡ (1 ∷ le 8 v) ++ drop 9 l → y ≡ slotBytes h ++ drop 9 l
-  put-running r v e f q = q ∙ ap (λ (x : List ℕ). (1 ∷ x) ++ drop 9 l) f ∙ ap (λ (g : Held). slotBytes g ++ drop 9 l) (sym e)
+  pub put-running : (r : Run) (k v : ℕ) → h ≡ Running r → k ≡ runKind (r .follows)
+      → le 8 v ≡ le 2 (r .need) ++ (le 2 (r .period) ++ (le 2 (r .age) ++ le 2 (r .remaining)))
+      → y ≡ (k ∷ le 8 v) ++ drop 9 l → y ≡ slotBytes h ++ drop 9 l
+  put-running r k v e d f q = q ∙ ap₂ (λ (j : ℕ) (x : List ℕ). (j ∷ x) ++ drop 9 l) d f ∙ ap (λ (g : Held). slotBytes g ++ drop 9 l) (sym e)
 
   -- R81: for a waiting line
   pub put-waiting : (w : Wait) (v : ℕ) → h ≡ Waiting w → le 8 v ≡ le 2 (w .need) ++ (le 2 (w .period) ++ (le 2 (w .wait) ++ le 2 0))

@@ -85,9 +85,9 @@ module _ {A : Type 0} {w : ℕ} {g : A → List ℕ} {n : ℕ} where
 
 module _ (t : Table) (l : List ℕ) where
   -- R33, R84: a buffer that is too short stays as it is
-  pub store-short : (x : Refusal) → x ≡ refusal 13 0 → length l < 289 → (refuses x ≡ storeOf (length l)) × (l ≡ storedIn t l)
+  pub store-short : (x : Refusal) → x ≡ refusal 13 0 → length l < 297 → (refuses x ≡ storeOf (length l)) × (l ≡ storedIn t l)
   store-short x e h = (ap refuses e ∙ sym (no-room (length l) h), sym (stored-not t l h))
 
   -- R84: the image stands in front, and the bytes after it stay
-  pub store-whole : (m : List ℕ) → 289 ≤ length l → m ≡ imageOf t ++ drop 289 l → (gives 289 ≡ storeOf (length l)) × (m ≡ storedIn t l)
+  pub store-whole : (m : List ℕ) → 297 ≤ length l → m ≡ imageOf t ++ drop 297 l → (gives 297 ≡ storeOf (length l)) × (m ≡ storedIn t l)
   store-whole m h e = (sym (has-room (length l) h), e ∙ sym (stored-is t l h))

@@ -11,6 +11,7 @@ use lib.ListN.{length, drop, getD, drop-of-length-le}
 use lib.Seq.{drop-drop}
 use lib.Dec.{eqb, leb, ltb}
 use borrow.Author.Tests.{ltb-true, eqb-true, not-true, not-false, eq-eqb, ne-eqb, le-leb, lt-leb, lt-ltb, le-ltb}
+use Rattle.line.specs.declared.Follows.{Follows}
 use Rattle.line.specs.Slots.{orElse}
 use Rattle.line.proofs.Sound.{both-false}
 use Rattle.line.proofs.Search.{Looking, look-on, look-stop, look-end, lowest-below, none-found}
@@ -21,9 +22,10 @@ use Rattle.table.specs.Words.{slotOf, refusal, gives, refuses}
 use Rattle.image.specs.declared.LoadAnswer.the-variants.{Read}
 use Rattle.image.specs.declared.Loaded.{Loaded}
 use Rattle.image.specs.Answers.{handedOut}
+use Rattle.image.proofs.RunKinds.{run-blank}
 use Rattle.image.proofs.Eight.{fourth}
 use Rattle.image.proofs.WritesBack.{nothing-wrong}
-use Rattle.image.specs.Image.{version, size}
+use Rattle.image.specs.Image.{version, size, runKind}
 use Rattle.card.specs.Bytes.{Bytes, value}
 use Rattle.image.specs.Loading.{byte, blankFrom, isWrong, slotWrong, onBy, slotsWrong, lengthWrong, wrongIn, tableIn, unlessWrong, loadWith}
 
@@ -33,10 +35,9 @@ module _ (k : ℕ) where
   unfolding blankFrom
   blank-nothing e = (rw e, omega arith)
 
-  -- R83: after kind 1 every byte is a line's
-  pub blank-running : k ≡ 1 → (9 ≡ blankFrom k) × (9 ≤ 9)
-  unfolding blankFrom
-  blank-running e = (rw e, omega arith)
+  -- R83: after kind 1 or 3 every byte is a line's
+  pub blank-running : (f : Follows) → k ≡ runKind f → (9 ≡ blankFrom k) × (9 ≤ 9)
+  blank-running f e = (sym (ap blankFrom e ∙ run-blank f), omega arith)
 
   -- R83: after kind 2 six are
   pub blank-waiting : k ≡ 2 → (7 ≡ blankFrom k) × (7 ≤ 9)
@@ -44,9 +45,10 @@ module _ (k : ℕ) where
   blank-waiting e = (rw e, omega arith)
 
   -- R83: there is no other kind
-  pub blank-other : 3 ≤ k → (0 ≡ blankFrom k) × (0 ≤ 9)
+  pub blank-other : 4 ≤ k → (0 ≡ blankFrom k) × (0 ≤ 9)
   unfolding blankFrom
-  blank-other h = (rw (ne-eqb k 0 (λ e. omega arith), ne-eqb k 1 (λ e. omega arith), ne-eqb k 2 (λ e. omega arith)), omega arith)
+  blank-other h =
+      (rw (ne-eqb k 0 (λ e. omega arith), ne-eqb k 1 (λ e. omega arith), ne-eqb k 2 (λ e. omega arith), ne-eqb k 3 (λ e. omega arith)), omega arith)
 
 past : (l : List ℕ) (i : ℕ) → length l ≤ i → getD l i 0 ≡ 0
 past [] i h = refl
@@ -128,10 +130,6 @@ module _ (l : List ℕ) where
       let z : getD l (7 + (i - 7)) 0 ≡ 0 = value-zero 2 l 7 w (i - 7) (omega (arith, f0 .0)) in
       let j : i ≡ 7 + (i - 7) = omega (arith, f0 .0) in
       rw j z)
-
-  -- R83: after kind 1 every byte is a line's
-  pub right-running : byte l 0 ≡ 1 → slotWrong l ≡ none
-  right-running k = zeros-right l (λ i h p. let f0 = blank-running (byte l 0) k in absurd (omega (arith, f0 .0)))
 
 -- no slot of an image that has ended is wrong
 ended : (n at : ℕ) → slotsWrong n at [] ≡ none

@@ -1,4 +1,5 @@
--- The laws of images: numbers of eight bytes, series, the search for a wrong byte, the loops over slots and counts; the round trips, the refusals, the edges.
+-- The laws of images: running lines, numbers of eight bytes, series, the search for a wrong byte, the loops over slots and counts; the round trips, the refusals, the edges.
+pub mod RunKinds
 pub mod Eight
 pub mod Series
 pub mod ReadsBack

@@ -13,18 +13,19 @@ use Rattle.line.specs.declared.Held.the-variants.{Nothing, Running, Waiting}
 use Rattle.line.specs.declared.Slot.{Slot}
 use Rattle.line.specs.Slots.{holding, lowest}
 use Rattle.table.specs.declared.Table.{Table}
-use Rattle.table.specs.Words.{tableWith, withCounts, Said, gives}
+use Rattle.table.specs.Words.{tableWith, withCounts, withDeparted, Said, gives}
 use Rattle.card.specs.Bytes.{le, value}
 use Rattle.card.proofs.Numbers.{value-le}
-use Rattle.image.specs.Image.{version, countsAt, idleAt, size, nine, byFields, slotBytes, slotsBytes, countsBytes, imageOf, Narrow, AllNarrow, InEight, TableWidths}
+use Rattle.image.specs.Image.{version, countsAt, idleAt, departedAt, size, runKind, nine, byFields, slotBytes, slotsBytes, countsBytes, imageOf, Narrow, AllNarrow, InEight, TableWidths}
 use Rattle.image.specs.Loading.{byte, blankFrom, slotWrong, slotsWrong, lengthWrong, wrongIn, heldIn, slotsIn, countsIn, tableIn, unlessWrong, loadWith}
+use Rattle.image.proofs.RunKinds.{run-kind-small, run-in, run-right}
 use Rattle.image.proofs.Eight.{value-front}
 use Rattle.image.proofs.Series.{length-series, series-back}
 
--- what holds of any kind up to 2 and any four numbers holds of what a slot holds
-pub of-fields : {A : Type 0} (P : A → Type 0) (f : ℕ → ℕ → ℕ → ℕ → ℕ → A) → ((k a b c d : ℕ) → k < 3 → P (f k a b c d)) → (h : Held) → P (byFields f h)
+-- what holds of any kind up to 3 and any four numbers holds of what a slot holds
+pub of-fields : {A : Type 0} (P : A → Type 0) (f : ℕ → ℕ → ℕ → ℕ → ℕ → A) → ((k a b c d : ℕ) → k < 4 → P (f k a b c d)) → (h : Held) → P (byFields f h)
 of-fields P f w Nothing = w 0 0 0 0 0 (omega arith)
-of-fields P f w (Running r) = w 1 (r .need) (r .period) (r .age) (r .remaining) (omega arith)
+of-fields P f w (Running r) = w (runKind (r .follows)) (r .need) (r .period) (r .age) (r .remaining) (run-kind-small (r .follows))
 of-fields P f w (Waiting x) = w 2 (x .need) (x .period) (x .wait) 0 (omega arith)
 
 -- R81: a slot has nine bytes
@@ -45,7 +46,8 @@ unfolding imageOf
 length-image n t e f =
     let s = slotsBytes (t .slots) in
     let c = countsBytes (t .had) in
-    omega (arith, length-append (s ++ c) (le 8 (t .idle)), length-append s c, length-slots (t .slots), length-counts (t .had))
+    let i = le 8 (t .idle) in
+    omega (arith, length-append (s ++ c ++ i) (le 8 (t .departed)), length-append (s ++ c) i, length-append s c, length-slots (t .slots), length-counts (t .had))
 
 -- R82: nothing is wrong with a slot's nine bytes, what it holds stands in them, and what follows stands behind them
 pub loads-slot : (h : Held) (x : List ℕ) → Narrow h
@@ -58,7 +60,7 @@ loads-slot (Running r) x f =
     let b : value 2 l 3 ≡ r .period = value-le 2 (r .period) [] (f .1) in
     let c : value 2 l 5 ≡ r .age = value-le 2 (r .age) [] (f .2) in
     let d : value 2 l 7 ≡ r .remaining = value-le 2 (r .remaining) [] (f .3) in
-    (refl, simp (a, b, c, d), refl)
+    (run-right (r .follows) l refl, run-in (r .follows) l refl ∙ simp (a, b, c, d), refl)
 loads-slot (Waiting w) x f =
     let l = slotBytes (Waiting w) ++ x in
     let a : value 2 l 1 ≡ w .need = value-le 2 (w .need) [] (f .0) in
@@ -84,28 +86,36 @@ slots-back =
 counts-back : (ns : List ℕ) (y : List ℕ) → All InEight ns → countsIn (length ns) (countsBytes ns ++ y) ≡ ns
 counts-back = series-back 8 (λ (x : List ℕ). value 8 x 0) (le 8) InEight (λ v y h. (value-le 8 v y h, refl))
 
--- a table with the code's widths, and what stands in its image behind its front, behind the slots and behind their counts
+-- a table with the code's widths, and what stands in its image behind its front, behind the slots, behind their counts and behind the idle one
 module _ (n : ℕ) (t : Table) (w : TableWidths n t) where
   first-byte : byte (imageOf t) 0 ≡ version
   unfolding imageOf
   first-byte = refl
 
+  abbrev twoCounts : List ℕ
+  twoCounts = le 8 (t .idle) ++ le 8 (t .departed)
+
   abbrev tail : List ℕ
-  tail = countsBytes (t .had) ++ le 8 (t .idle)
+  tail = countsBytes (t .had) ++ twoCounts
 
   behind-front : drop 9 (imageOf t) ≡ slotsBytes (t .slots) ++ tail
   unfolding imageOf
-  behind-front = append-assoc (slotsBytes (t .slots)) (countsBytes (t .had)) (le 8 (t .idle))
+  behind-front =
+      append-assoc (slotsBytes (t .slots) ++ countsBytes (t .had)) (le 8 (t .idle)) (le 8 (t .departed))
+      ∙ append-assoc (slotsBytes (t .slots)) (countsBytes (t .had)) twoCounts
 
   behind-slots : drop (countsAt n) (imageOf t) ≡ tail
   behind-slots =
       sym (drop-drop (9 * n) 9 (imageOf t)) ∙ ap (drop (9 * n)) behind-front
       ∙ drop-at (slotsBytes (t .slots)) tail (9 * n) (length-slots (t .slots) ∙ ap (λ (k : ℕ). 9 * k) (w .slots))
 
-  behind-counts : drop (idleAt n) (imageOf t) ≡ le 8 (t .idle)
+  behind-counts : drop (idleAt n) (imageOf t) ≡ twoCounts
   behind-counts =
       sym (drop-drop (8 * n) (countsAt n) (imageOf t)) ∙ ap (drop (8 * n)) behind-slots
-      ∙ drop-at (countsBytes (t .had)) (le 8 (t .idle)) (8 * n) (length-counts (t .had) ∙ ap (λ (k : ℕ). 8 * k) (w .counts))
+      ∙ drop-at (countsBytes (t .had)) twoCounts (8 * n) (length-counts (t .had) ∙ ap (λ (k : ℕ). 8 * k) (w .counts))
+
+  behind-idle : drop (departedAt n) (imageOf t) ≡ le 8 (t .departed)
+  behind-idle = sym (drop-drop 8 (idleAt n) (imageOf t)) ∙ ap (drop 8) behind-counts
 
   slots-stored : slotsWrong n 9 (drop 9 (imageOf t)) ≡ none
   slots-stored =
@@ -124,8 +134,10 @@ module _ (n : ℕ) (t : Table) (w : TableWidths n t) where
   -- R82: the table in an image is the one that it is of
   table-back : tableIn n (imageOf t) ≡ t
   table-back =
-      ap₂ (λ (k : ℕ) (ss : List Slot). withCounts (tableWith k ss) (countsIn n (drop (countsAt n) (imageOf t))) (value 8 (imageOf t) (idleAt n))) clock-back slots
-      ∙ ap₂ (λ (ns : List ℕ) (v : ℕ). withCounts (tableWith (t .clock) (t .slots)) ns v) had idle
+      ap₂ (λ (k : ℕ) (ss : List Slot). withDeparted (withCounts (tableWith k ss) (countsIn n (drop (countsAt n) (imageOf t))) (value 8 (imageOf t) (idleAt n))) (value 8 (imageOf t) (departedAt n)))
+      clock-back slots
+      ∙ ap₂ (λ (ns : List ℕ) (v : ℕ). withDeparted (withCounts (tableWith (t .clock) (t .slots)) ns v) (value 8 (imageOf t) (departedAt n))) had idle
+      ∙ ap (withDeparted (withCounts (tableWith (t .clock) (t .slots)) (t .had) (t .idle))) departed
     where
       slots : slotsIn n (drop 9 (imageOf t)) ≡ t .slots
       slots =
@@ -135,10 +147,16 @@ module _ (n : ℕ) (t : Table) (w : TableWidths n t) where
       had : countsIn n (drop (countsAt n) (imageOf t)) ≡ t .had
       had =
           ap (countsIn n) behind-slots ∙ ap (λ (k : ℕ). countsIn k tail) (sym (w .counts))
-          ∙ counts-back (t .had) (le 8 (t .idle)) (w .had)
+          ∙ counts-back (t .had) twoCounts (w .had)
+
+      number : (o v : ℕ) (y : List ℕ) → drop o (imageOf t) ≡ le 8 v ++ y → InEight v → value 8 (imageOf t) o ≡ v
+      number o v y e h = sym (value-front 8 o (imageOf t)) ∙ ap (λ (x : List ℕ). value 8 x 0) e ∙ value-le 8 v y h
 
       idle : value 8 (imageOf t) (idleAt n) ≡ t .idle
-      idle = sym (value-front 8 (idleAt n) (imageOf t)) ∙ ap (λ (x : List ℕ). value 8 x 0) behind-counts ∙ value-le 8 (t .idle) [] (w .idle)
+      idle = number (idleAt n) (t .idle) (le 8 (t .departed)) behind-counts (w .idle)
+
+      departed : value 8 (imageOf t) (departedAt n) ≡ t .departed
+      departed = number (departedAt n) (t .departed) [] behind-idle (w .departed)
 
   -- R82: an image loads as its table
   pub loads-back : loadWith n (imageOf t) ≡ gives t

@@ -10,7 +10,7 @@ use native.Mathlib.Decide.{decLt, ℕ-discrete}
 use lib.ListN.{length, take, drop, length-take, List·getD-eq-default}
 use lib.Seq.{drop-drop, getD-drop, getD-take}
 use lib.Dec.{eqb, ltb}
-use borrow.Author.Tests.{ltb-true, ltb-false, leb-true, eqb-true, eqb-false, lt-ltb, le-leb, ne-eqb}
+use borrow.Author.Tests.{ltb-true, ltb-false, leb-true, eqb-true, eqb-false, lt-ltb, le-leb}
 use Rattle.line.specs.Slots.{pick, orElse}
 use Rattle.line.proofs.Search.{Found, true-false, lowest-says}
 use Rattle.line.proofs.Sound.{both-says}
@@ -21,16 +21,17 @@ use Rattle.image.specs.Image.{size}
 use Rattle.image.specs.Loading.{byte, blankFrom, isWrong, slotWrong, onBy, slotsWrong, versionWrong, lengthWrong, wrongIn, tableIn, unlessWrong, loadWith}
 use Rattle.image.proofs.Series.{next-drop}
 use Rattle.image.proofs.WritesBack.{loads-says}
+use Rattle.image.proofs.Judging.{blank-other}
 
--- R83: byte i of the slot in front is wrong: a kind above 2, one of the last eight of a slot that holds nothing, one of the last two of a waiting line
+-- R83: byte i of the slot in front is wrong: a kind above 3, one of the last eight of a slot that holds nothing, one of the last two of a waiting line
 pub data WrongByte (l : List ℕ) (i : ℕ) : Type 0 where
-  kind : i ≡ 0 → 2 < byte l 0 → WrongByte l i
+  kind : i ≡ 0 → 3 < byte l 0 → WrongByte l i
   free : byte l 0 ≡ 0 → 1 ≤ i → i < 9 → 0 < byte l i → WrongByte l i
   waits : byte l 0 ≡ 2 → 7 ≤ i → i < 9 → 0 < byte l i → WrongByte l i
 
 -- R83: something is wrong at offset p: the first byte, a byte of a slot, the length
 pub data Wrong (n : ℕ) (l : List ℕ) (p : ℕ) : Type 0 where
-  version : p ≡ 0 → (byte l 0 ≡ 2 → ⊥) → Wrong n l p
+  version : p ≡ 0 → (byte l 0 ≡ 3 → ⊥) → Wrong n l p
   slot : (k i : ℕ) → k < n → p ≡ 9 + 9 * k + i → WrongByte (drop (9 + 9 * k) l) i → Wrong n l p
   ending : (length l ≡ size n → ⊥) → p ≡ min (length l) (size n) → Wrong n l p
 
@@ -55,10 +56,9 @@ least-on : (P : ℕ → Type 0) (k : ℕ) (o : Option ℕ) → Least P o → Lea
 least-on P k none v = λ q x. v (x .0) (x .2)
 least-on P k (some i) v = ((i, refl, v .0), λ q x. omega (arith, v .1 (x .0) (x .2), x .1))
 
--- R83: of a kind above 2 every byte should be 0, the kind itself too
-blank-above : (k : ℕ) → 2 < k → blankFrom k ≡ 0
-unfolding blankFrom
-blank-above k h = rw (ne-eqb k 0 (λ e. omega arith), ne-eqb k 1 (λ e. omega arith), ne-eqb k 2 (λ e. omega arith))
+-- R83: of a kind above 3 every byte should be 0, the kind itself too
+blank-above : (k : ℕ) → 3 < k → blankFrom k ≡ 0
+blank-above k h = sym (blank-other k h .0)
 
 module _ (l : List ℕ) where
   is-wrong : (i : ℕ) → blankFrom (byte l 0) ≤ i → 0 < byte l i → isWrong l i ≡ true
@@ -71,7 +71,7 @@ module _ (l : List ℕ) where
   tested i (free e a h b) = (h, is-wrong i (rw e a) b)
   tested i (waits e a h b) = (h, is-wrong i (rw e a) b)
 
-  -- the lowest byte that the test finds is a wrong one; of a kind above 2 it is the first, as that one is found
+  -- the lowest byte that the test finds is a wrong one; of a kind above 3 it is the first, as that one is found
   lowest-wrong : (i : ℕ) → i < 9 → isWrong l i ≡ true → ((j : ℕ) → j < i → isWrong l j ≡ false) → WrongByte l i
   unfolding blankFrom
   lowest-wrong i h t below =
@@ -84,9 +84,12 @@ module _ (l : List ℕ) where
           | yes e ↦ waits e (rw e at a) h b
           | no y ↦ elim (ℕ-discrete (byte l 0) 1) [
             | yes e ↦ let z : 9 ≤ i = rw e at a in absurd (omega arith)
-            | no z ↦ elim (decLt 0 i) [
-              | yes p ↦ absurd (true-false (is-wrong 0 (omega (arith, blank-above (byte l 0) (omega arith))) (omega arith)) (below 0 p))
-              | no q ↦ kind (omega arith) (omega arith)
+            | no z ↦ elim (ℕ-discrete (byte l 0) 3) [
+              | yes e ↦ let u : 9 ≤ i = rw e at a in absurd (omega arith)
+              | no u ↦ elim (decLt 0 i) [
+                | yes p ↦ absurd (true-false (is-wrong 0 (omega (arith, blank-above (byte l 0) (omega arith))) (omega arith)) (below 0 p))
+                | no q ↦ kind (omega arith) (omega arith)
+              ]
             ]
           ]
         ]
@@ -156,17 +159,17 @@ module _ (n : ℕ) (l : List ℕ) where
 
   -- the three grounds, each by itself
   abbrev OfVersion : ℕ → Type 0
-  OfVersion q = (q ≡ 0) × (byte l 0 ≡ 2 → ⊥)
+  OfVersion q = (q ≡ 0) × (byte l 0 ≡ 3 → ⊥)
 
   abbrev OfLength : ℕ → Type 0
   OfLength q = (length l ≡ size n → ⊥) × (q ≡ min (length l) (size n))
 
   version-least : Least OfVersion (versionWrong l)
-  version-least = go (eqb (byte l 0) 2) refl
+  version-least = go (eqb (byte l 0) 3) refl
     where
-      go : (o : Bool) → eqb (byte l 0) 2 ≡ o → Least OfVersion (pick o none (some 0))
-      go true e = λ q x. x .1 (eqb-true (byte l 0) 2 e)
-      go false e = ((refl, eqb-false (byte l 0) 2 e), λ q x. omega arith)
+      go : (o : Bool) → eqb (byte l 0) 3 ≡ o → Least OfVersion (pick o none (some 0))
+      go true e = λ q x. x .1 (eqb-true (byte l 0) 3 e)
+      go false e = ((refl, eqb-false (byte l 0) 3 e), λ q x. omega arith)
 
   length-least : Least OfLength (lengthWrong (size n) (length l))
   unfolding lengthWrong

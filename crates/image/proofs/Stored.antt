@@ -47,52 +47,55 @@ bytes-slot s l e = of-fields (λ (x : List ℕ). Bytes (x ++ l)) nine (λ k a b 
 pub bytes-image : (t : Table) → Bytes (imageOf t)
 unfolding imageOf
 bytes-image t =
-    let i = le 8 (t .idle) in
+    let d = le 8 (t .departed) in
+    let i = le 8 (t .idle) ++ d in
     let c = countsBytes (t .had) ++ i in
     let s = slotsBytes (t .slots) ++ c in
-    subst (λ (x : List ℕ). Bytes ((version ∷ le 8 (t .clock)) ++ x)) (sym (append-assoc (slotsBytes (t .slots)) (countsBytes (t .had)) i))
+    subst (λ (x : List ℕ). Bytes ((version ∷ le 8 (t .clock)) ++ x))
+    (sym (append-assoc (slotsBytes (t .slots) ++ countsBytes (t .had)) (le 8 (t .idle)) d ∙ append-assoc (slotsBytes (t .slots)) (countsBytes (t .had)) i))
     (bytes-cons version (le 8 (t .clock) ++ s) (omega arith) (bytes-le 8 (t .clock) s
-    (bytes-series (λ (x : Slot). slotBytes (x .held)) bytes-slot (t .slots) c (bytes-series (le 8) (bytes-le 8) (t .had) i (bytes-number (t .idle))))))
+    (bytes-series (λ (x : Slot). slotBytes (x .held)) bytes-slot (t .slots) c
+    (bytes-series (le 8) (bytes-le 8) (t .had) i (bytes-le 8 (t .idle) d (bytes-number (t .departed)))))))
 
--- R84: 289 bytes are room
-pub has-room : (room : ℕ) → 289 ≤ room → storeOf room ≡ gives 289
+-- R84: 297 bytes are room
+pub has-room : (room : ℕ) → 297 ≤ room → storeOf room ≡ gives 297
 unfolding storeOf
-has-room room h = rw (le-leb 289 room h)
+has-room room h = rw (le-leb 297 room h)
 
 -- R33, R84: fewer are none
-pub no-room : (room : ℕ) → room < 289 → storeOf room ≡ refuses (refusal 13 0)
+pub no-room : (room : ℕ) → room < 297 → storeOf room ≡ refuses (refusal 13 0)
 unfolding storeOf
-no-room room h = rw (lt-leb 289 room h)
+no-room room h = rw (lt-leb 297 room h)
 
--- R84: a length that is given is 289, and there was room for it
-pub room-is : (room n : ℕ) → storeOf room ≡ gives n → (289 ≤ room) × (n ≡ 289)
+-- R84: a length that is given is 297, and there was room for it
+pub room-is : (room n : ℕ) → storeOf room ≡ gives n → (297 ≤ room) × (n ≡ 297)
 unfolding storeOf
-room-is room n e = go (leb 289 room) refl e
+room-is room n e = go (leb 297 room) refl e
   where
-    go : (b : Bool) → leb 289 room ≡ b → pick b (gives 289) (refuses (refusal 13 0)) ≡ gives n → (289 ≤ room) × (n ≡ 289)
-    go true h q = (leb-true 289 room h, cc)
+    go : (b : Bool) → leb 297 room ≡ b → pick b (gives 297) (refuses (refusal 13 0)) ≡ gives n → (297 ≤ room) × (n ≡ 297)
+    go true h q = (leb-true 297 room h, cc)
     go false h q = let z : _≡_ {A = ℕ} 0 1 = cc in absurd (omega arith)
 
 module _ (t : Table) (l : List ℕ) where
   -- R84: the image at the start
-  pub stored-is : 289 ≤ length l → storedIn t l ≡ imageOf t ++ drop 289 l
+  pub stored-is : 297 ≤ length l → storedIn t l ≡ imageOf t ++ drop 297 l
   stored-is h = ap (filled (imageOf t) l) (has-room (length l) h)
 
   -- R33, R84: a refusal leaves every byte as it was
-  pub stored-not : length l < 289 → storedIn t l ≡ l
+  pub stored-not : length l < 297 → storedIn t l ≡ l
   stored-not h = ap (filled (imageOf t) l) (no-room (length l) h)
 
   -- R84: the bytes behind the image are as they were
-  pub stored-behind : length (t .slots) ≡ 16 → length (t .had) ≡ 16 → 289 ≤ length l → drop 289 (storedIn t l) ≡ drop 289 l
-  stored-behind e f h = ap (drop 289) (stored-is h) ∙ drop-at (imageOf t) (drop 289 l) 289 (length-image 16 t e f)
+  pub stored-behind : length (t .slots) ≡ 16 → length (t .had) ≡ 16 → 297 ≤ length l → drop 297 (storedIn t l) ≡ drop 297 l
+  stored-behind e f h = ap (drop 297) (stored-is h) ∙ drop-at (imageOf t) (drop 297 l) 297 (length-image 16 t e f)
 
   -- R84: no byte more or less
-  pub stored-length : length (t .slots) ≡ 16 → length (t .had) ≡ 16 → 289 ≤ length l → length (storedIn t l) ≡ length l
-  stored-length e f h = ap length (stored-is h) ∙ omega (arith, length-append (imageOf t) (drop 289 l), length-image 16 t e f, length-drop 289 l)
+  pub stored-length : length (t .slots) ≡ 16 → length (t .had) ≡ 16 → 297 ≤ length l → length (storedIn t l) ≡ length l
+  stored-length e f h = ap length (stored-is h) ∙ omega (arith, length-append (imageOf t) (drop 297 l), length-image 16 t e f, length-drop 297 l)
 
   -- R82, R84: what was stored loads
-  pub stored-loads : TableWidths 16 t → 289 ≤ length l → loadOf (take 289 (storedIn t l)) ≡ gives t
+  pub stored-loads : TableWidths 16 t → 297 ≤ length l → loadOf (take 297 (storedIn t l)) ≡ gives t
   stored-loads w h =
-      ap (λ (x : List ℕ). loadOf (take 289 x)) (stored-is h)
-      ∙ ap loadOf (take-at (imageOf t) (drop 289 l) 289 (length-image 16 t (w .slots) (w .counts)))
+      ap (λ (x : List ℕ). loadOf (take 297 x)) (stored-is h)
+      ∙ ap loadOf (take-at (imageOf t) (drop 297 l) 297 (length-image 16 t (w .slots) (w .counts)))
       ∙ loads-back 16 t w

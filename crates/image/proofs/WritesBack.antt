@@ -10,6 +10,8 @@ use lib.Seq.{drop-cons, drop-drop}
 use lib.Dec.{eqb, ltb}
 use borrow.Author.Tests.{ltb-false, le-leb, eqb-true}
 use Rattle.periods.specs.Multiples.{All}
+use Rattle.line.specs.declared.Follows.{Follows}
+use Rattle.line.specs.declared.Follows.the-variants.{Renews, Leaves}
 use Rattle.line.specs.declared.Held.the-variants.{Nothing, Running, Waiting}
 use Rattle.line.specs.declared.Slot.{Slot}
 use Rattle.line.specs.Slots.{pick, holding, orElse}
@@ -18,7 +20,7 @@ use Rattle.table.specs.declared.Table.{Table}
 use Rattle.table.specs.Words.{gives}
 use Rattle.card.specs.Bytes.{Bytes, le, value}
 use Rattle.card.proofs.Numbers.{bytes-drop, le-value, value-lt}
-use Rattle.image.specs.Image.{version, countsAt, idleAt, size, nine, slotBytes, slotsBytes, countsBytes, imageOf, Narrow, AllNarrow, InEight, TableWidths}
+use Rattle.image.specs.Image.{version, countsAt, idleAt, departedAt, size, runKind, nine, slotBytes, slotsBytes, countsBytes, imageOf, Narrow, AllNarrow, InEight, TableWidths}
 use Rattle.image.specs.Loading.{byte, blankFrom, isWrong, slotWrong, onBy, slotsWrong, versionWrong, lengthWrong, wrongIn, runIn, waitIn, heldIn, slotsIn, countsIn, tableIn, unlessWrong, loadWith}
 use Rattle.image.proofs.Series.{next-drop, length-found, series-stand}
 
@@ -53,14 +55,14 @@ module _ (l : List ℕ) (w : slotWrong l ≡ none) where
       let u : ltb 0 (byte l i) ≡ false = rw (le-leb (blankFrom (byte l 0)) i k) at (lowest-none (isWrong l) 9 w i h) in
       omega (arith, ltb-false 0 (byte l i) u)
 
-  -- R83: no kind above 2
-  kind-zero : eqb (byte l 0) 1 ≡ false → eqb (byte l 0) 2 ≡ false → byte l 0 ≡ 0
+  -- R83: no kind above 3
+  kind-zero : eqb (byte l 0) 1 ≡ false → eqb (byte l 0) 2 ≡ false → eqb (byte l 0) 3 ≡ false → byte l 0 ≡ 0
   unfolding blankFrom
-  kind-zero p q = go (eqb (byte l 0) 0) refl
+  kind-zero p q r = go (eqb (byte l 0) 0) refl
     where
       go : (o : Bool) → eqb (byte l 0) 0 ≡ o → byte l 0 ≡ 0
       go true e = eqb-true (byte l 0) 0 e
-      go false e = let z : blankFrom (byte l 0) ≡ 0 = rw (e, p, q) in blank 0 (omega arith) (omega arith)
+      go false e = let z : blankFrom (byte l 0) ≡ 0 = rw (e, p, q, r) in blank 0 (omega arith) (omega arith)
 
   -- R81: two bytes that should be 0 are the number 0
   blank-two : (i : ℕ) → i < 8 → blankFrom (byte l 0) ≤ i → value 2 l i ≡ 0
@@ -69,23 +71,27 @@ module _ (l : List ℕ) (w : slotWrong l ≡ none) where
   -- R82: the nine bytes are what the slot holds
   pub stands : Bytes l → 9 ≤ length l → (l ≡ slotBytes (heldIn l) ++ drop 9 l) × Narrow (heldIn l)
   unfolding heldIn blankFrom
-  stands b h = go (eqb (byte l 0) 1) (eqb (byte l 0) 2) refl refl
+  stands b h = go (eqb (byte l 0) 1) (eqb (byte l 0) 2) (eqb (byte l 0) 3) refl refl refl
     where
-      go : (o p : Bool) → eqb (byte l 0) 1 ≡ o → eqb (byte l 0) 2 ≡ p
-          → (l ≡ slotBytes (pick o (Running (runIn l)) (pick p (Waiting (waitIn l)) Nothing)) ++ drop 9 l)
-          × Narrow (pick o (Running (runIn l)) (pick p (Waiting (waitIn l)) Nothing))
-      go true p d e = (
-        nine-is l b h ∙ ap (λ (k : ℕ). nine k (value 2 l 1) (value 2 l 3) (value 2 l 5) (value 2 l 7) ++ drop 9 l) (eqb-true (byte l 0) 1 d),
+      runs : (f : Follows) → byte l 0 ≡ runKind f → (l ≡ slotBytes (Running (runIn f l)) ++ drop 9 l) × Narrow (Running (runIn f l))
+      runs f k = (
+        nine-is l b h ∙ ap (λ (k : ℕ). nine k (value 2 l 1) (value 2 l 3) (value 2 l 5) (value 2 l 7) ++ drop 9 l) k,
         (value-lt 2 l 1 b, value-lt 2 l 3 b, value-lt 2 l 5 b, value-lt 2 l 7 b),
       )
-      go false true d e =
+
+      go : (o p q : Bool) → eqb (byte l 0) 1 ≡ o → eqb (byte l 0) 2 ≡ p → eqb (byte l 0) 3 ≡ q
+          → (l ≡ slotBytes (pick o (Running (runIn Renews l)) (pick p (Waiting (waitIn l)) (pick q (Running (runIn Leaves l)) Nothing))) ++ drop 9 l)
+          × Narrow (pick o (Running (runIn Renews l)) (pick p (Waiting (waitIn l)) (pick q (Running (runIn Leaves l)) Nothing)))
+      go true p q d e g = runs Renews (eqb-true (byte l 0) 1 d)
+      go false true q d e g =
           let k : byte l 0 ≡ 2 = eqb-true (byte l 0) 2 e in
           let z : blankFrom (byte l 0) ≡ 7 = ap blankFrom k in (
             nine-is l b h ∙ ap₂ (λ (k v : ℕ). nine k (value 2 l 1) (value 2 l 3) (value 2 l 5) v ++ drop 9 l) k (blank-two 7 (omega arith) (omega arith)),
             (value-lt 2 l 1 b, value-lt 2 l 3 b, value-lt 2 l 5 b, omega arith),
           )
-      go false false d e =
-          let k : byte l 0 ≡ 0 = kind-zero d e in
+      go false false true d e g = runs Leaves (eqb-true (byte l 0) 3 g)
+      go false false false d e g =
+          let k : byte l 0 ≡ 0 = kind-zero d e g in
           let z : blankFrom (byte l 0) ≡ 1 = ap blankFrom k in (
             nine-is l b h
                 ∙ rw (k, blank-two 1 (omega arith) (omega arith), blank-two 3 (omega arith) (omega arith), blank-two 5 (omega arith) (omega arith), blank-two 7 (omega arith) (omega arith)),
@@ -142,11 +148,12 @@ front-is : (l : List ℕ) → Bytes l → 9 ≤ length l → byte l 0 ≡ versio
 front-is l b h v =
     drop-cons l 0 0 (omega arith) ∙ ap₂ (λ (k : ℕ) (x : List ℕ). k ∷ x) v (le-value 8 l 1 b (omega arith))
 
--- the idle count, where nothing follows
-idle-is : (n : ℕ) (l : List ℕ) → Bytes l → length l ≡ size n → le 8 (value 8 l (idleAt n)) ≡ drop (idleAt n) l
-idle-is n l b h =
+-- the idle count and the departed one, where nothing follows
+two-counts : (n : ℕ) (l : List ℕ) → Bytes l → length l ≡ size n → le 8 (value 8 l (idleAt n)) ++ le 8 (value 8 l (departedAt n)) ≡ drop (idleAt n) l
+two-counts n l b h =
     sym (le-value 8 l (idleAt n) b (omega arith)
-    ∙ ap (λ (x : List ℕ). le 8 (value 8 l (idleAt n)) ++ x) (drop-of-length-le l {i = idleAt n + 8} (omega arith)))
+    ∙ ap (λ (x : List ℕ). le 8 (value 8 l (idleAt n)) ++ x) (le-value 8 l (departedAt n) b (omega arith)
+    ∙ ap (λ (x : List ℕ). le 8 (value 8 l (departedAt n)) ++ x) (drop-of-length-le l {i = departedAt n + 8} (omega arith))))
 
 -- bytes f, s, c and d one after the other, each up to where the next begins
 joined : (l : List ℕ) (a b : ℕ) (f s c d : List ℕ) → d ≡ drop b (drop a (drop 9 l)) → c ++ drop b (drop a (drop 9 l)) ≡ drop a (drop 9 l)
@@ -162,10 +169,14 @@ table-stands n l b w =
     let v = nothing-wrong n l w in
     let s = slots-stand n 9 (drop 9 l) (bytes-drop 9 l b) (omega (arith, length-drop 9 l, v .2)) (v .1) in
     let c = counts-stand n (drop (countsAt n) l) (bytes-drop (countsAt n) l b) (omega (arith, length-drop (countsAt n) l, v .2)) in
+    let front = version ∷ le 8 (value 8 l 1) in
+    let slots = slotsBytes (slotsIn n (drop 9 l)) in
+    let counts = countsBytes (countsIn n (drop (countsAt n) l)) in
     let d : drop (9 * n) (drop 9 l) ≡ drop (countsAt n) l = drop-drop (9 * n) 9 l in
     let e : drop (8 * n) (drop (countsAt n) l) ≡ drop (idleAt n) l = drop-drop (8 * n) (countsAt n) l in (
-      joined l (9 * n) (8 * n) (version ∷ le 8 (value 8 l 1)) (slotsBytes (slotsIn n (drop 9 l))) (countsBytes (countsIn n (drop (countsAt n) l))) (le 8 (value 8 l (idleAt n)))
-          (rw (d, e) (idle-is n l b (v .2))) (rw d (c .0)) (s .0) (front-is l b (omega (arith, v .2)) (v .0)),
+      append-assoc (front ++ slots ++ counts) (le 8 (value 8 l (idleAt n))) (le 8 (value 8 l (departedAt n)))
+          ∙ joined l (9 * n) (8 * n) front slots counts (le 8 (value 8 l (idleAt n)) ++ le 8 (value 8 l (departedAt n)))
+          (rw (d, e) (two-counts n l b (v .2))) (rw d (c .0)) (s .0) (front-is l b (omega (arith, v .2)) (v .0)),
       record {
         slots = length-found 9 (λ (x : List ℕ). holding (heldIn x)) n (drop 9 l);
         clock = value-lt 8 l 1 b;
@@ -173,6 +184,7 @@ table-stands n l b w =
         counts = length-found 8 (λ (x : List ℕ). value 8 x 0) n (drop (countsAt n) l);
         had = c .1;
         idle = value-lt 8 l (idleAt n) b;
+        departed = value-lt 8 l (departedAt n) b;
       },
     )
 

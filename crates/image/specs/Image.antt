@@ -4,15 +4,17 @@ use mathlib.Core.Path.{_≡_}
 use mathlib.Core.List.{List, [], _∷_, _++_}
 use lib.ListN.{length}
 use Rattle.periods.specs.Multiples.{All}
+use Rattle.line.specs.declared.Follows.{Follows}
 use Rattle.line.specs.declared.Held.{Held}
 use Rattle.line.specs.declared.Held.the-variants.{Nothing, Running, Waiting}
 use Rattle.line.specs.declared.Slot.{Slot}
+use Rattle.line.specs.Slots.{byFollows}
 use Rattle.table.specs.declared.Table.{Table}
 use Rattle.card.specs.Bytes.{le}
 
 -- R81: the version of the layout
 abbrev pub version : ℕ
-version = 2
+version = 3
 
 -- R81: where the counts begin in the image of a table with n slots
 abbrev pub countsAt : (n : ℕ) → ℕ
@@ -22,9 +24,13 @@ countsAt n = 9 + 9 * n
 abbrev pub idleAt : (n : ℕ) → ℕ
 idleAt n = countsAt n + 8 * n
 
+-- R81: and where its departed count does
+abbrev pub departedAt : (n : ℕ) → ℕ
+departedAt n = idleAt n + 8
+
 -- R81: how long it is
 abbrev pub size : (n : ℕ) → ℕ
-size n = idleAt n + 8
+size n = departedAt n + 8
 
 -- f's bytes of each, the first one's first
 abbrev pub series : {A : Type 0} → (A → List ℕ) → List A → List ℕ
@@ -35,10 +41,14 @@ series f (x ∷ xs) = f x ++ series f xs
 abbrev pub nine : (kind a b c d : ℕ) → List ℕ
 nine k a b c d = k ∷ (le 2 a ++ (le 2 b ++ (le 2 c ++ le 2 d)))
 
+-- R81: the kind of a running line, by what follows its period
+abbrev pub runKind : Follows → ℕ
+runKind f = byFollows 1 3 f
+
 -- f of the kind and the four numbers of what a slot holds, 0 where nothing stands
 abbrev pub byFields {ℓ} : {A : Type ℓ} → (ℕ → ℕ → ℕ → ℕ → ℕ → A) → Held → A
 byFields f Nothing = f 0 0 0 0 0
-byFields f (Running r) = f 1 (r .need) (r .period) (r .age) (r .remaining)
+byFields f (Running r) = f (runKind (r .follows)) (r .need) (r .period) (r .age) (r .remaining)
 byFields f (Waiting w) = f 2 (w .need) (w .period) (w .wait) 0
 
 -- R81: a slot's nine bytes
@@ -55,7 +65,7 @@ countsBytes ns = series (le 8) ns
 
 -- R81, R82: the version, the clock, the slots, the counts; every table has this one image
 unfoldable pub imageOf : Table → List ℕ
-imageOf t = (version ∷ le 8 (t .clock)) ++ slotsBytes (t .slots) ++ countsBytes (t .had) ++ le 8 (t .idle)
+imageOf t = (version ∷ le 8 (t .clock)) ++ slotsBytes (t .slots) ++ countsBytes (t .had) ++ le 8 (t .idle) ++ le 8 (t .departed)
 
 -- R3: the numbers of what a slot holds have sixteen bits
 abbrev pub Narrow : Held → Type 0
@@ -77,3 +87,4 @@ pub record TableWidths (n : ℕ) (t : Table) : Type 0 where
   pub counts : length (t .had) ≡ n
   pub had : All InEight (t .had)
   pub idle : InEight (t .idle)
+  pub departed : InEight (t .departed)

@@ -5,24 +5,26 @@ use mathlib.Core.List.{List, [], _∷_}
 use mathlib.Core.Option.{Option, none, some}
 use lib.ListN.{length, drop, getD}
 use lib.Dec.{eqb, leb, ltb}
+use Rattle.line.specs.declared.Follows.{Follows}
+use Rattle.line.specs.declared.Follows.the-variants.{Renews, Leaves}
 use Rattle.line.specs.declared.Run.{Run}
 use Rattle.line.specs.declared.Wait.{Wait}
 use Rattle.line.specs.declared.Held.{Held}
 use Rattle.line.specs.declared.Held.the-variants.{Nothing, Running, Waiting}
 use Rattle.line.specs.declared.Slot.{Slot}
-use Rattle.line.specs.Slots.{pick, both, runWith, waitWith, holding, orElse, lowest}
+use Rattle.line.specs.Slots.{pick, both, runThen, waitWith, holding, orElse, lowest}
 use Rattle.table.specs.declared.Table.{Table}
-use Rattle.table.specs.Words.{tableWith, withCounts, refusal, Said, gives, refuses}
+use Rattle.table.specs.Words.{tableWith, withCounts, withDeparted, refusal, Said, gives, refuses}
 use Rattle.card.specs.Bytes.{value}
-use Rattle.image.specs.Image.{version, countsAt, idleAt, size}
+use Rattle.image.specs.Image.{version, countsAt, idleAt, departedAt, size}
 
 -- R81: the byte at an offset; one that is not there counts as 0
 abbrev pub byte : List ℕ → (at : ℕ) → ℕ
 byte l at = getD l at 0
 
--- R81, R83: from which of its nine bytes on a slot of this kind has zeros only. Of a kind above 2 there is none: its first byte is wrong.
+-- R81, R83: from which of its nine bytes on a slot of this kind has zeros only. Of a kind above 3 there is none: its first byte is wrong.
 unfoldable pub blankFrom : (kind : ℕ) → ℕ
-blankFrom k = pick (eqb k 0) 1 (pick (eqb k 1) 9 (pick (eqb k 2) 7 0))
+blankFrom k = pick (eqb k 0) 1 (pick (eqb k 1) 9 (pick (eqb k 2) 7 (pick (eqb k 3) 9 0)))
 
 -- R83: byte i of the slot in front is not 0 where it should be
 abbrev pub isWrong : List ℕ → ℕ → Bool
@@ -54,9 +56,9 @@ lengthWrong m n = pick (eqb n m) none (some (pick (ltb n m) n m))
 unfoldable pub wrongIn : (n : ℕ) → List ℕ → Option ℕ
 wrongIn n l = orElse (versionWrong l) (orElse (slotsWrong n 9 (drop 9 l)) (lengthWrong (size n) (length l)))
 
--- R81: the running line in front
-abbrev pub runIn : List ℕ → Run
-runIn l = runWith (value 2 l 1) (value 2 l 3) (value 2 l 5) (value 2 l 7)
+-- R81: the running line in front, with what follows its period
+abbrev pub runIn : Follows → List ℕ → Run
+runIn f l = runThen f (value 2 l 1) (value 2 l 3) (value 2 l 5) (value 2 l 7)
 
 -- R81: the waiting line in front
 abbrev pub waitIn : List ℕ → Wait
@@ -64,7 +66,9 @@ waitIn l = waitWith (value 2 l 1) (value 2 l 3) (value 2 l 5)
 
 -- R81: what the slot in front holds
 unfoldable pub heldIn : List ℕ → Held
-heldIn l = pick (eqb (byte l 0) 1) (Running (runIn l)) (pick (eqb (byte l 0) 2) (Waiting (waitIn l)) Nothing)
+heldIn l =
+    pick (eqb (byte l 0) 1) (Running (runIn Renews l))
+    (pick (eqb (byte l 0) 2) (Waiting (waitIn l)) (pick (eqb (byte l 0) 3) (Running (runIn Leaves l)) Nothing))
 
 -- what f finds in front, and so n times, each so many bytes further on
 abbrev pub seriesIn : {A : Type 0} → (width : ℕ) → (List ℕ → A) → (n : ℕ) → List ℕ → List A
@@ -81,7 +85,9 @@ countsIn n l = seriesIn 8 (λ (x : List ℕ). value 8 x 0) n l
 
 -- R81: the clock, n slots and the counts
 abbrev pub tableIn : (n : ℕ) → List ℕ → Table
-tableIn n l = withCounts (tableWith (value 8 l 1) (slotsIn n (drop 9 l))) (countsIn n (drop (countsAt n) l)) (value 8 l (idleAt n))
+tableIn n l =
+    withDeparted (withCounts (tableWith (value 8 l 1) (slotsIn n (drop 9 l))) (countsIn n (drop (countsAt n) l)) (value 8 l (idleAt n)))
+    (value 8 l (departedAt n))
 
 -- R31, R83: refused as broken where a byte is wrong
 abbrev pub unlessWrong : Option ℕ → Table → Said Table

@@ -5,10 +5,11 @@ ghost use Prim.Native.Nat.{_%_, _≤_};
 ghost use lib.ListN.{length, drop};
 ghost use Rattle.line.specs.Slots.{holding};
 ghost use Rattle.card.specs.Bytes.{le};
-ghost use Rattle.image.specs.Image.{slotBytes};
+ghost use Rattle.image.specs.Image.{runKind, slotBytes};
 ghost use Rattle.image.specs.Loading.{heldIn};
 use crate::numbers::eight_at;
 use crate::numbers::put_eight;
+use line::Follows;
 use line::Held;
 use line::Slot;
 
@@ -32,12 +33,16 @@ pub(crate) fn slot_in(s: &[u8]) -> Slot
     let kind = s[0];
     match kind {
         1 => {
-            let run = Held::running(first, second, third, fourth);
+            let run = Held::running(first, second, third, fourth, Follows::Renews);
             Slot::holding(run)
         }
         2 => {
             let wait = Held::waiting(first, second, third);
             Slot::holding(wait)
+        }
+        3 => {
+            let run = Held::running(first, second, third, fourth, Follows::Leaves);
+            Slot::holding(run)
         }
         _ => Slot::empty(),
     }
@@ -50,6 +55,16 @@ fn four(a: u16, b: u16, c: u16, d: u16) -> u64
     let low = a as u64 + b as u64 * 65536;
     let high = c as u64 + d as u64 * 65536;
     low + high * 4294967296
+}
+
+// R81: the kind of a running line.
+fn run_kind(follows: Follows) -> u8
+    ensures { λ r. ⌜ r ≡ runKind follows ⌝ }
+{
+    match follows {
+        Follows::Renews => 1,
+        Follows::Leaves => 3,
+    }
 }
 
 // R81: a byte and a number in eight bytes.
@@ -69,7 +84,10 @@ pub(crate) fn put_slot(out: &mut [u8], s: Slot)
     let h = s.held;
     match h {
         Held::Nothing => put_nine(out, 0, 0),
-        Held::Running(r) => put_nine(out, 1, four(r.need, r.period, r.age, r.remaining)),
+        Held::Running(r) => {
+            let f = r.follows;
+            put_nine(out, run_kind(f), four(r.need, r.period, r.age, r.remaining))
+        }
         Held::Waiting(w) => put_nine(out, 2, four(w.need, w.period, w.wait, 0)),
     }
 }

@@ -18,6 +18,7 @@ fn blank_from(kind: u8) -> usize
         0 => 1,
         1 => 9,
         2 => 7,
+        3 => 9,
         _ => 0,
     }
 }
@@ -73,25 +74,25 @@ fn slots_wrong(image: &[u8]) -> Which
 
 // R83: a wrong length, at the lesser of the two.
 fn length_wrong(len: usize) -> Which
-    ensures { λ r. ⌜ slotOf r ≡ lengthWrong 289 len ⌝ }
+    ensures { λ r. ⌜ slotOf r ≡ lengthWrong 297 len ⌝ }
 {
-    if len == 289 {
+    if len == 297 {
         return Which::None;
     }
-    if len < 289 {
+    if len < 297 {
         return Which::At(len);
     }
-    Which::At(289)
+    Which::At(297)
 }
 
-// R81, R83: the first byte is the version, 2.
+// R81, R83: the first byte is the version, 3.
 fn version_wrong(image: &[u8]) -> bool
     ensures { λ r. ⌜ r ≡ not (eqb (byte (now (image .entry)) 0) version) ⌝ }
 {
     if image.len() < 1 {
         return true;
     }
-    image[0] != 2
+    image[0] != 3
 }
 
 // The nine bytes in front, at one look: whether it finds nothing wrong with them.
@@ -105,6 +106,7 @@ fn slot_right(s: &[u8]) -> bool
         0 => v == 0,
         1 => true,
         2 => v < 281474976710656,
+        3 => true,
         _ => false,
     }
 }

@@ -43,13 +43,14 @@ fn broken(at: usize) -> Loaded
 
 // R81: the table in an image that is long enough.
 fn table_in(image: &[u8]) -> Table
-    requires { ⌜ 289 ≤ length (now image) ⌝ }
+    requires { ⌜ 297 ≤ length (now image) ⌝ }
     ensures { λ r. ⌜ r ≡ tableIn 16 (now (image .entry)) ⌝ }
 {
     let mut t = Table::new(numbers::eight_at(image, 1), slots::slots_in(image));
     let had = counts::counts_in(image);
     t.had = had;
     t.idle = numbers::eight_at(image, 281);
+    t.departed = numbers::eight_at(image, 289);
     t
 }
 
@@ -68,24 +69,25 @@ pub fn load(image: &[u8]) -> Loaded
 
 // R81: the version and the clock, then the slots, then the counts.
 fn put_image(t: Table, out: &mut [u8])
-    requires { ⌜ 289 ≤ length (now out) ⌝ }
-    ensures { λ _. ⌜ now (out .exit) ≡ imageOf t ++ drop 289 (now (out .entry)) ⌝ }
+    requires { ⌜ 297 ≤ length (now out) ⌝ }
+    ensures { λ _. ⌜ now (out .exit) ≡ imageOf t ++ drop 297 (now (out .entry)) ⌝ }
 {
     let slots = t.slots;
     let had = t.had;
-    fields::put_nine(out, 2, t.clock);
+    fields::put_nine(out, 3, t.clock);
     slots::put_slots(&mut out[9..], slots);
     counts::put_counts(&mut out[153..], had);
     numbers::put_eight(&mut out[281..], t.idle);
+    numbers::put_eight(&mut out[289..], t.departed);
 }
 
 // R33, R84: a buffer that is too short is left alone. The contract settles the answer and the whole buffer: both parts are equations.
 pub fn store(t: Table, out: &mut [u8]) -> WriteAnswer
     ensures { λ r. ⌜ (saidWritten r ≡ storeOf (length (now (out .entry)))) × (now (out .exit) ≡ storedIn t (now (out .entry))) ⌝ }
 {
-    if out.len() < 289 {
+    if out.len() < 297 {
         return WriteAnswer::Refused(Refusal::new(13, 0));
     }
     put_image(t, out);
-    WriteAnswer::Length(289)
+    WriteAnswer::Length(297)
 }

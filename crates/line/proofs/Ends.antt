@@ -5,9 +5,11 @@ use mathlib.Core.Bool.{Bool, true, false}
 use mathlib.Core.List.{List, [], _∷_}
 use native.Mathlib.Nat.{not-suc-le-zero, suc-mul, le-div-iff-mul-le, le-refl}
 use native.Mathlib.Omega.{arith}
+use native.Mathlib.Decide.{decLt}
+use borrow.Author.Tests.{lt-ltb, le-ltb}
 use Rattle.periods.specs.Multiples.{All}
 use Rattle.line.specs.Slots.{pick}
-use Rattle.line.specs.Streams.{countBefore, every, endsBefore}
+use Rattle.line.specs.Streams.{countBefore, every, endsBefore, onlyEnd}
 use Rattle.line.specs.Ends.{greatest, anyOf}
 use Rattle.line.proofs.Search.{true-false}
 
@@ -51,6 +53,17 @@ module _ (Q : ℕ → Type 0) (e P last : ℕ) (p : 1 ≤ P) where
   pub all-before : All Q (endsBefore e P last) → (k : ℕ) → e + k * P < last → Q (e + k * P)
   unfolding endsBefore
   all-before a k b = all-every Q (countBefore e P last) e P k (lt-count k e P last p b) a
+
+module _ (Q : ℕ → Type 0) (e last : ℕ) where
+  -- R9: what holds of the one end holds of the list of it
+  pub only-all : (e < last → Q e) → All Q (onlyEnd e last)
+  unfolding onlyEnd
+  only-all f = elim (decLt e last) [ yes l ↦ rw (lt-ltb e last l) (f l, tt) | no l ↦ rw (le-ltb e last (omega arith)) tt ]
+
+  -- R9: and the other way round
+  pub all-only : All Q (onlyEnd e last) → e < last → Q e
+  unfolding onlyEnd
+  all-only a l = let b : All Q (e ∷ []) = rw (lt-ltb e last l) at a in b .0
 
 -- ---- the test over a list
 

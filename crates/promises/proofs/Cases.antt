@@ -14,9 +14,11 @@ use Rattle.table.specs.declared.Table.{Table}
 use Rattle.table.specs.declared.Request.{Request}
 use Rattle.table.specs.Words.{requestWith, emptyTable, refusal}
 use Rattle.table.specs.Ask.{askIn, askOf}
+use Rattle.table.specs.Counts.{settling}
 use Rattle.table.specs.Step.{chosen, advance, stepOf}
-use Rattle.table.specs.Runs.{Act, asking, admitting, stepping, run}
-use Rattle.table.specs.Cases.{running, waiting, tableOf, tallied}
+use Rattle.table.specs.Leave.{leaveOf}
+use Rattle.table.specs.Runs.{Act, asking, admitting, stepping, leaving, run}
+use Rattle.table.specs.Cases.{running, parting, waiting, tableOf, tallied, talliedWith}
 use Rattle.image.specs.Image.{imageOf}
 use Rattle.image.specs.Loading.{blankFrom, slotsWrong, lengthWrong, wrongIn, heldIn, loadWith, loadOf}
 use Rattle.image.specs.Answers.{storeOf, storedIn}
@@ -29,7 +31,7 @@ use Rattle.promises.specs.Images.{NarrowRequest, Narrowed, AllNarrowed, 
 
 -- the version and a clock below 256
 abbrev front : (clock : ℕ) → List ℕ
-front k = 2 ∷ k ∷ 0 ∷ 0 ∷ 0 ∷ 0 ∷ 0 ∷ 0 ∷ 0 ∷ []
+front k = 3 ∷ k ∷ 0 ∷ 0 ∷ 0 ∷ 0 ∷ 0 ∷ 0 ∷ 0 ∷ []
 
 -- a running line whose numbers are below 256
 abbrev runs : (need period age remaining : ℕ) → List ℕ
@@ -38,6 +40,10 @@ runs c p a r = 1 ∷ c ∷ 0 ∷ p ∷ 0 ∷ a ∷ 0 ∷ r ∷ 0 ∷ []
 -- a waiting one
 abbrev waits : (need period wait : ℕ) → List ℕ
 waits c p w = 2 ∷ c ∷ 0 ∷ p ∷ 0 ∷ w ∷ 0 ∷ 0 ∷ 0 ∷ []
+
+-- a running one that leaves
+abbrev parts : (need period age remaining : ℕ) → List ℕ
+parts c p a r = 3 ∷ c ∷ 0 ∷ p ∷ 0 ∷ a ∷ 0 ∷ r ∷ 0 ∷ []
 
 -- so many slots that hold nothing
 abbrev free : ℕ → List ℕ
@@ -52,9 +58,13 @@ abbrev counts : List ℕ → List ℕ
 counts [] = []
 counts (n ∷ ns) = count n ++ counts ns
 
--- the counts from slot 0 up, 0 for the others, and the idle one
+-- the counts from slot 0 up, 0 for the others, the idle one and the departed one
+abbrev ticksWith : (had : List ℕ) → (idle departed : ℕ) → List ℕ
+ticksWith ns n d = counts ns ++ (replicate (8 * (16 - length ns)) 0 ++ (count n ++ count d))
+
+-- the same where nobody has departed
 abbrev ticks : (had : List ℕ) → (idle : ℕ) → List ℕ
-ticks ns n = counts ns ++ (replicate (8 * (16 - length ns)) 0 ++ count n)
+ticks ns n = ticksWith ns n 0
 
 -- ---- acts
 
@@ -105,17 +115,22 @@ imageCases =
     ∷ comes emptyTable two atFour (front 4 ++ (runs 4 8 4 0 ++ (runs 4 8 4 4 ++ (free 14 ++ ticks (4 ∷ []) 0))))
     ∷ comes atFour (third ∷ []) (tallied (4 ∷ []) 0 (tableOf 4 (running 4 16 4 0 ∷ running 4 8 4 4 ∷ waiting 1 4 1 ∷ []))) (front 4 ++ (runs 4 16 4 0 ++ (runs 4 8 4 4 ++ (waits 1 4 1 ++ (free 13 ++ ticks (4 ∷ []) 0)))))
     ∷ comes atFour (third ∷ stepping ∷ []) (tallied (4 ∷ 1 ∷ []) 0 (tableOf 5 (running 4 16 5 0 ∷ running 4 8 5 3 ∷ running 1 4 0 1 ∷ []))) (front 5 ++ (runs 4 16 5 0 ++ (runs 4 8 5 3 ++ (runs 1 4 0 1 ++ (free 13 ++ ticks (4 ∷ 1 ∷ []) 0)))))
+    -- R102: slot 1 leaves, and four ticks later is gone; slot 2, which waits, is gone at once; what is refused leaves the bytes
+    ∷ comes atFour (leaving 1 ∷ []) (tallied (4 ∷ []) 0 (tableOf 4 (running 4 8 4 0 ∷ parting 4 8 4 4 ∷ []))) (front 4 ++ (runs 4 8 4 0 ++ (parts 4 8 4 4 ++ (free 14 ++ ticks (4 ∷ []) 0))))
+    ∷ comes atFour (leaving 1 ∷ replicate 4 stepping) (talliedWith (4 ∷ []) 0 4 (tableOf 8 (running 4 8 0 4 ∷ []))) (front 8 ++ (runs 4 8 0 4 ++ (free 15 ++ ticksWith (4 ∷ []) 0 4)))
+    ∷ comes atFour (third ∷ leaving 2 ∷ []) (tallied (4 ∷ []) 0 (tableOf 4 (running 4 16 4 0 ∷ running 4 8 4 4 ∷ []))) (front 4 ++ (runs 4 16 4 0 ++ (runs 4 8 4 4 ++ (free 14 ++ ticks (4 ∷ []) 0))))
+    ∷ comes atFour (leaving 2 ∷ leaving 99 ∷ []) atFour (front 4 ++ (runs 4 8 4 0 ++ (runs 4 8 4 4 ++ (free 14 ++ ticks (4 ∷ []) 0))))
     ∷ []
 
 -- R78: the bytes after the acts over the boundary
 pub image-cases : map (λ (c : ImageCase). imageRun (c .acts) (imageOf (c .before))) imageCases ≡ map (λ (c : ImageCase). c .image) imageCases
-unfolding euclid gcdOf lcmOf frameFrom total lowest due lastEnd mapAt periodsIn every endsBefore endsOf slack bound greatest anyOf start askIn askOf chosen advance stepOf imageOf blankFrom slotsWrong lengthWrong wrongIn heldIn loadWith storeOf
+unfolding euclid gcdOf lcmOf frameFrom total lowest due lastEnd mapAt periodsIn every endsBefore endsOf slack bound greatest anyOf start askIn askOf chosen settling advance stepOf leaveOf imageOf blankFrom slotsWrong lengthWrong wrongIn heldIn loadWith storeOf
 image-cases = refl
 
 -- R78: they are the image of the table after the same acts
 pub table-cases : (map (λ (c : ImageCase). run (c .acts) (c .before)) imageCases ≡ map (λ (c : ImageCase). c .after) imageCases)
     × (map (λ (c : ImageCase). imageOf (c .after)) imageCases ≡ map (λ (c : ImageCase). c .image) imageCases)
-unfolding euclid gcdOf lcmOf frameFrom total lowest due lastEnd mapAt periodsIn every endsBefore endsOf slack bound greatest anyOf start askIn askOf chosen advance stepOf imageOf
+unfolding euclid gcdOf lcmOf frameFrom total lowest due lastEnd mapAt periodsIn every endsBefore endsOf slack bound greatest anyOf start askIn askOf chosen settling advance stepOf leaveOf imageOf
 table-cases = (refl, refl)
 
 -- ---- answers
@@ -134,13 +149,13 @@ pub answer-cases :
     ∷ stepAfter [] ∷ stepAfter one ∷ stepAfter (two ++ (third ∷ [])) ∷ stepAfter (one ++ (stepping ∷ stepping ∷ [])) ∷ [])
     ≡ (grantedAs 0 0 ∷ grantedAs 1 0 ∷ refusedAs (refusal 8 0) ∷ refusedAs (refusal 5 0)
     ∷ grantedAs 0 255 ∷ grantedAs 0 0 ∷ grantedAs 0 1 ∷ grantedAs 0 255 ∷ [])
-unfolding euclid gcdOf lcmOf frameFrom total lowest due lastEnd mapAt periodsIn every endsBefore endsOf slack bound greatest anyOf start askIn askOf chosen advance stepOf imageOf blankFrom slotsWrong lengthWrong wrongIn heldIn loadWith storeOf
+unfolding euclid gcdOf lcmOf frameFrom total lowest due lastEnd mapAt periodsIn every endsBefore endsOf slack bound greatest anyOf start askIn askOf chosen settling advance stepOf leaveOf imageOf blankFrom slotsWrong lengthWrong wrongIn heldIn loadWith storeOf
 answer-cases = refl
 
 -- R74, R35: the last tick that a step goes on from, and the one after it
 pub last-steps :
     map (λ (k : ℕ). stepFor (loadOf (imageOf (tableOf k [])))) ((2 ^ 48 - 1) ∷ (2 ^ 48) ∷ []) ≡ grantedAs 0 255 ∷ refusedAs (refusal 15 0) ∷ []
-unfolding lowest chosen advance stepOf imageOf blankFrom slotsWrong lengthWrong wrongIn heldIn loadWith
+unfolding lowest chosen settling advance stepOf leaveOf imageOf blankFrom slotsWrong lengthWrong wrongIn heldIn loadWith
 last-steps = refl
 
 -- R74: a step that reports 14 or 4 is none that is promised, at any clock
@@ -163,9 +178,9 @@ before-the-last r u = ap (λ (x : Result). x .number) (u .goes-on (omega arith) 
 
 -- ---- limits
 
--- R85: of other bytes, 289 become the image of the empty table, 288 are left, and of 290 one is left behind it
-pub empty-edges : map (λ (n : ℕ). storedIn emptyTable (replicate n 7)) (289 ∷ 288 ∷ 290 ∷ [])
-    ≡ imageOf emptyTable ∷ replicate 288 7 ∷ (imageOf emptyTable ++ (7 ∷ [])) ∷ []
+-- R85: of other bytes, 297 become the image of the empty table, 296 are left, and of 298 one is left behind it
+pub empty-edges : map (λ (n : ℕ). storedIn emptyTable (replicate n 7)) (297 ∷ 296 ∷ 298 ∷ [])
+    ≡ imageOf emptyTable ∷ replicate 296 7 ∷ (imageOf emptyTable ++ (7 ∷ [])) ∷ []
 unfolding imageOf storeOf
 empty-edges = refl
 
@@ -189,5 +204,5 @@ tooWide = admitting (new [] 1 65536) ∷ stepping ∷ []
 
 -- R78: where a number is wider the bytes are not the image of the run's table: its period is lost and the step is refused
 pub wider-is-lost : imageRun tooWide (imageOf emptyTable) ≡ imageOf (run tooWide emptyTable) → ⊥
-unfolding euclid gcdOf lcmOf frameFrom total lowest due lastEnd mapAt periodsIn every endsBefore endsOf slack bound greatest anyOf start askIn askOf chosen advance stepOf imageOf blankFrom slotsWrong lengthWrong wrongIn heldIn loadWith storeOf
+unfolding euclid gcdOf lcmOf frameFrom total lowest due lastEnd mapAt periodsIn every endsBefore endsOf slack bound greatest anyOf start askIn askOf chosen settling advance stepOf leaveOf imageOf blankFrom slotsWrong lengthWrong wrongIn heldIn loadWith storeOf
 wider-is-lost e = let z : _≡_ {A = ℕ} 0 1 = ap (λ (l : List ℕ). getD l 1 0) e in omega arith

@@ -1,46 +1,41 @@
--- Every tick is accounted for, R79: what an act does to the counts, and so what a run has counted.
+-- Every tick is accounted for, R79: what the list of the slots that ran says of the counts.
 use Prim.Native.Nat.{ℕ, _+_, _-_, _^_, _<_}
 use mathlib.Core.Path.{_≡_, refl, sym, ap, _∙_, subst}
 use mathlib.Core.Bool.{Bool, true, false}
 use mathlib.Core.List.{List, [], _∷_, _++_}
 use mathlib.Core.Option.{Option, none, some}
-use native.Mathlib.Decide.{ℕ-discrete}
 use native.Mathlib.Omega.{arith}
 use borrow.Author.Tests.{eqb-true, eqb-false, eq-eqb, ne-eqb}
 use lib.Dec.{eqb, ltb}
-use lib.ListN.{length, getD, set, getD-replicate}
-use lib.Seq.{getD-set-same, getD-set-other, set-getD}
-use Rattle.line.specs.declared.Held.{Held}
-use Rattle.line.specs.declared.Held.the-variants.{Nothing, Running, Waiting}
+use lib.ListN.{length, getD, getD-replicate}
+use lib.Seq.{getD-set-same, getD-set-other}
+use Rattle.line.specs.declared.Held.the-variants.{Waiting}
 use Rattle.line.specs.declared.Slot.{Slot}
-use Rattle.line.specs.Slots.{pick, withAge, withWait, holding, empty, begun, at, isNothing, lowestOf}
-use Rattle.line.specs.Stretch.{stretch}
-use Rattle.line.specs.Tick.{Owed, passed, served}
+use Rattle.line.specs.Slots.{pick, waitWith, empty, begun, at, isNothing, lowestOf}
+use Rattle.line.specs.Leave.{letGo}
+use Rattle.line.proofs.Streams.{nothing-passed}
 use Rattle.line.proofs.Search.{true-false, lowest-is}
-use Rattle.line.proofs.Stretched.{at-stretched}
 use Rattle.table.specs.declared.Table.{Table}
-use Rattle.table.specs.declared.Request.{Request}
 use Rattle.table.specs.declared.Answer.{Answer}
 use Rattle.table.specs.declared.Answer.the-variants.{Start, Refused}
 use Rattle.table.specs.declared.Stepped.{Stepped}
 use Rattle.table.specs.Words.{emptyTable}
-use Rattle.table.specs.Counts.{hadBy, sum, accounted}
-use Rattle.table.specs.Grounds.{entry, asked}
+use Rattle.table.specs.Counts.{hadBy, counting, settle}
 use Rattle.table.specs.Ask.{askOf}
-use Rattle.table.specs.Admit.{newLine, putAt, admittedAt, admitWith}
-use Rattle.table.specs.Step.{choose, serve, ticked}
-use Rattle.table.specs.Runs.{Act, asking, admitting, stepping, after, run, ranIn, ranBy, trace, names, isSlot, times, isIdle, idles, placedBy, places, sinceFrom}
-use Rattle.table.proofs.Counts.{had-after, idle-after, length-had, tick-counts}
+use Rattle.table.specs.Admit.{newLine, putAt, admitWith}
+use Rattle.table.specs.Step.{choose, serve, departsIn, ticked}
+use Rattle.table.specs.Runs.{Act, asking, admitting, stepping, leaving, after, run, ranIn, ranBy, trace, names, isSlot, times, isIdle, idles, placedBy, places, anew, sinceFrom}
+use Rattle.table.proofs.Counts.{idle-after, settling-idle}
+use Rattle.table.proofs.LettingGo.{left-is}
 use Rattle.table.proofs.Step.{slot-of-which}
-use Rattle.theory.specs.Fine.{May}
-use Rattle.theory.specs.Given.{Granted}
 use Rattle.theory.proofs.Numbers.{split}
 use Rattle.theory.proofs.Granted.{says-start, granted}
-use Rattle.theory.proofs.Trace.{at-pass, length-tick, at-served, at-others}
+use Rattle.theory.proofs.Trace.{at-pass}
 use Rattle.promises.specs.Demand3.{admitted-table}
-use Rattle.promises.specs.Counted.{EveryTickAccountedFor, Unplaced, HadSinceAdmitted, NothingHadBefore}
-use Rattle.promises.proofs.Good.{Good, at-last, good-empty, good-after, good-reached, slot-empty, admitted-slots}
-use Rattle.promises.proofs.Kept.{length-admitted, admit-counts, step-table, choice-may}
+use Rattle.promises.specs.Counted.{EveryTickAccountedFor, Unplaced, Occupied, HadSinceAdmitted, NothingHadBefore}
+use Rattle.promises.proofs.Good.{Good, at-last, good-empty, good-after, good-reached, slot-empty}
+use Rattle.promises.proofs.Kept.{admit-counts, admitted-new, leave-counts, leave-at, step-table, choice-may, serve-keeps}
+use Rattle.promises.proofs.Booking.{tick-length, stayed, tick-had, let-go-had, nothing-served, nothing-let-go, nothing-admitted, Booked, booked-empty, booked-after, booked-reached}
 
 -- ---- the count of one slot
 
@@ -62,20 +57,24 @@ put-had (some j) l k h = go (eqb j k) refl
     go true e = let z : j ≡ k = eqb-true j k e in rw z (getD-set-same l k 0 0 h)
     go false e = getD-set-other l j k 0 0 (λ z. eqb-false j k e (sym z))
 
--- R97, R42: what an act does to the count of slot k
-act-had : (a : Act) (t : Table) (k : ℕ) → Good t → k < length (t .had) → hadBy (after a t) k ≡ pick (names k (places a t)) 0 (hadBy t k + times k (ranBy a t))
-act-had (asking q) t k g h = omega arith
-act-had (admitting q) t k g h = go (askOf t q)
+-- R97, R42, R101: what an act does to the count of slot k, where a line is there after it
+act-had : (a : Act) (t : Table) (k : ℕ) → Good t → k < length (t .had) → isNothing (at (after a t .slots) k) ≡ false
+    → hadBy (after a t) k ≡ pick (names k (places a t)) 0 (hadBy t k + times k (ranBy a t))
+act-had (asking q) t k g h = λ f. omega arith
+act-had (admitting q) t k g h = λ f. go (askOf t q)
   where
     go : (a : Answer) → hadBy (admitWith t q a .table) k ≡ pick (names k (placedBy a t)) 0 (hadBy t k + 0)
     go (Start r) = put-had (lowestOf isNothing (t .slots)) (t .had) k h ∙ ap (pick (names k (lowestOf isNothing (t .slots))) 0) (omega arith)
     go (Refused x) = omega arith
 act-had stepping t k g h =
     split (2 ^ 48) (t .clock)
-    (λ l. subst (λ (s : Stepped). hadBy (s .table) k ≡ hadBy t k + times k (ranIn (s .outcome))) (sym (at-last t l)) (omega arith))
+    (λ l. subst (λ (s : Stepped). isNothing (at (s .table .slots) k) ≡ false → hadBy (s .table) k ≡ hadBy t k + times k (ranIn (s .outcome))) (sym (at-last t l)) (λ f. omega arith))
     (λ l. let o = choose (t .slots) in
     let e : times k (ranIn (ticked o t .outcome)) ≡ isSlot k o + 0 = ap (λ (p : Option ℕ). isSlot k p + 0) (slot-of-which o) in
-    subst (λ (s : Stepped). hadBy (s .table) k ≡ hadBy t k + times k (ranIn (s .outcome))) (sym (step-table t g l)) (omega (arith, had-after o (t .had) k h, e)))
+    subst (λ (s : Stepped). isNothing (at (s .table .slots) k) ≡ false → hadBy (s .table) k ≡ hadBy t k + times k (ranIn (s .outcome))) (sym (step-table t g l))
+    (λ f. omega (arith, tick-had o t k h (stayed o (t .slots) k f), e)))
+act-had (leaving n) t k g h =
+    left-is (λ u. isNothing (at (u .slots) k) ≡ false → hadBy u k ≡ hadBy t k + 0) t n (λ f. omega arith) (λ g m f. omega (arith, let-go-had n t k m f))
 
 -- an act leaves as many counts
 act-length : (a : Act) (t : Table) → Good t → length (after a t .had) ≡ length (t .had)
@@ -84,23 +83,59 @@ act-length (admitting q) t g = admit-counts t q
 act-length stepping t g =
     split (2 ^ 48) (t .clock)
     (λ l. ap (λ (s : Stepped). length (s .table .had)) (at-last t l))
-    (λ l. ap (λ (s : Stepped). length (s .table .had)) (step-table t g l) ∙ length-had (choose (t .slots)) (t .had))
+    (λ l. ap (λ (s : Stepped). length (s .table .had)) (step-table t g l) ∙ tick-length (choose (t .slots)) t)
+act-length (leaving n) t g = leave-counts t n
+
+-- ---- since the present line was admitted
+
+-- R79: the count is 0 where the list begins anew, and else has the ticks more
+since-had : (a : Act) (t : Table) (k : ℕ) → Good t → Booked t → k < length (t .had) → hadBy (after a t) k ≡ pick (anew k a t) 0 (hadBy t k + times k (ranBy a t))
+since-had a t k g b h =
+    go (names k (places a t)) (isNothing (at (after a t .slots) k)) (λ e. booked-after a t g b .spare k inside e) (λ e. act-had a t k g h e) refl
+  where
+    inside : k < length (after a t .slots)
+    inside = omega (arith, h, act-length a t g, booked-after a t g b .long)
+
+    go : (p c : Bool) → (isNothing (at (after a t .slots) k) ≡ true → hadBy (after a t) k ≡ 0)
+        → (isNothing (at (after a t .slots) k) ≡ false → hadBy (after a t) k ≡ pick p 0 (hadBy t k + times k (ranBy a t)))
+        → isNothing (at (after a t .slots) k) ≡ c → hadBy (after a t) k ≡ pick (pick p true c) 0 (hadBy t k + times k (ranBy a t))
+    go true false empty there e = there e
+    go false false empty there e = there e
+    go true true empty there e = empty e
+    go false true empty there e = empty e
 
 -- R79: where `ran` told the count before a run, what ran since tells it after
-each-from : (acts : List Act) (t : Table) (k : ℕ) (ran : List (Option ℕ)) → Good t → k < length (t .had) → hadBy t k ≡ times k ran
+each-from : (acts : List Act) (t : Table) (k : ℕ) (ran : List (Option ℕ)) → Good t → Booked t → k < length (t .had) → hadBy t k ≡ times k ran
     → hadBy (run acts t) k ≡ times k (sinceFrom k ran acts t)
-each-from [] t k ran g h e = e
-each-from (a ∷ rest) t k ran g h e =
-    let b = names k (places a t) in
-    each-from rest (after a t) k (pick b [] (ran ++ ranBy a t)) (good-after a t g) (rw (act-length a t g) h)
-    (act-had a t k g h ∙ ap (λ (n : ℕ). pick b 0 (n + times k (ranBy a t))) e ∙ sym (times-since k b ran (ranBy a t)))
+each-from [] t k ran g b h e = e
+each-from (a ∷ rest) t k ran g b h e =
+    let c = anew k a t in
+    each-from rest (after a t) k (pick c [] (ran ++ ranBy a t)) (good-after a t g) (booked-after a t g b) (rw (act-length a t g) h)
+    (since-had a t k g b h ∙ ap (λ (n : ℕ). pick c 0 (n + times k (ranBy a t))) e ∙ sym (times-since k c ran (ranBy a t)))
 
--- R79: where no act puts a line there, the count grows by every time that the list names the slot
-had-unplaced : (acts : List Act) (t : Table) (k : ℕ) → Good t → k < length (t .had) → Unplaced k acts t → hadBy (run acts t) k ≡ hadBy t k + times k (trace acts t)
-had-unplaced [] t k g h u = omega arith
-had-unplaced (a ∷ rest) t k g h u =
-    let e = act-had a t k g h ∙ ap (λ (b : Bool). pick b 0 (hadBy t k + times k (ranBy a t))) (u .0) in
-    omega (arith, had-unplaced rest (after a t) k (good-after a t g) (rw (act-length a t g) h) (u .1), e, times-append k (ranBy a t) (trace rest (after a t)))
+-- R43: no line is put where one is
+not-placed : (a : Act) (t : Table) (k : ℕ) → isNothing (at (t .slots) k) ≡ false → names k (places a t) ≡ false
+not-placed (asking q) t k e = refl
+not-placed (admitting q) t k e = go (askOf t q)
+  where
+    at-lowest : (o : Option ℕ) → lowestOf isNothing (t .slots) ≡ o → names k o ≡ false
+    at-lowest none f = refl
+    at-lowest (some j) f =
+        ne-eqb j k (λ z. true-false (lowest-is (λ i. isNothing (at (t .slots) i)) (length (t .slots)) f .here) (ap (λ (i : ℕ). isNothing (at (t .slots) i)) z ∙ e))
+
+    go : (a : Answer) → names k (placedBy a t) ≡ false
+    go (Start r) = at-lowest (lowestOf isNothing (t .slots)) refl
+    go (Refused x) = refl
+not-placed stepping t k e = refl
+not-placed (leaving n) t k e = refl
+
+-- R79: where the line is there all the time, its count grows by every time that the list names the slot
+had-occupied : (acts : List Act) (t : Table) (k : ℕ) → Good t → k < length (t .had) → isNothing (at (t .slots) k) ≡ false → Occupied k acts t
+    → hadBy (run acts t) k ≡ hadBy t k + times k (trace acts t)
+had-occupied [] t k g h f u = omega arith
+had-occupied (a ∷ rest) t k g h f u =
+    let e = act-had a t k g h (u .0) ∙ ap (λ (b : Bool). pick b 0 (hadBy t k + times k (ranBy a t))) (not-placed a t k f) in
+    omega (arith, had-occupied rest (after a t) k (good-after a t g) (rw (act-length a t g) h) (u .0) (u .1), e, times-append k (ranBy a t) (trace rest (after a t)))
 
 -- ---- the idle count
 
@@ -120,153 +155,35 @@ act-idle stepping t g =
     (λ l. subst (λ (s : Stepped). s .table .idle ≡ t .idle + idles (ranIn (s .outcome))) (sym (at-last t l)) (omega arith))
     (λ l. let o = choose (t .slots) in
     let e : idles (ranIn (ticked o t .outcome)) ≡ isIdle o + 0 = ap (λ (p : Option ℕ). isIdle p + 0) (slot-of-which o) in
-    subst (λ (s : Stepped). s .table .idle ≡ t .idle + idles (ranIn (s .outcome))) (sym (step-table t g l)) (omega (arith, idle-after o (t .idle), e)))
+    subst (λ (s : Stepped). s .table .idle ≡ t .idle + idles (ranIn (s .outcome))) (sym (step-table t g l)) (omega (arith, settling-idle (departsIn o (t .slots)) (length (t .slots)) (counting o t), idle-after o (t .idle), e)))
+act-idle (leaving n) t g = left-is (λ u. u .idle ≡ t .idle + 0) t n (omega arith) (λ f m. go (isNothing (letGo (at (t .slots) n))))
+  where
+    go : (b : Bool) → pick b (settle n t) t .idle ≡ t .idle + 0
+    go true = omega arith
+    go false = omega arith
 
 -- R79: the idle count grows by every time that the list names none
 idle-from : (acts : List Act) (t : Table) → Good t → run acts t .idle ≡ t .idle + idles (trace acts t)
 idle-from [] t g = omega arith
 idle-from (a ∷ rest) t g = omega (arith, act-idle a t g, idle-from rest (after a t) (good-after a t g), idles-append (ranBy a t) (trace rest (after a t)))
 
--- ---- all of them
-
--- R45 to R47, R42: a slot that holds nothing goes on so, and no other becomes one
-nothing-served : (h : Held) → isNothing (served h) ≡ isNothing h
-nothing-served Nothing = refl
-nothing-served (Running r) = refl
-nothing-served (Waiting w) = refl
-
-nothing-passed : (h : Held) → isNothing (passed h) ≡ isNothing h
-nothing-passed Nothing = refl
-nothing-passed (Running r) = go (ltb (r .age + 1) (r .period))
-  where
-    go : (b : Bool) → isNothing (pick b (Running (withAge r (r .age + 1))) (begun (r .need) (r .period))) ≡ false
-    go true = refl
-    go false = refl
-nothing-passed (Waiting w) = go (ltb 1 (w .wait))
-  where
-    go : (b : Bool) → isNothing (pick b (Waiting (withWait w (w .wait - 1))) (begun (w .need) (w .period))) ≡ false
-    go true = refl
-    go false = refl
-
-nothing-stretched : (p : ℕ) (h : Held) → isNothing (stretch p h) ≡ isNothing h
-nothing-stretched p Nothing = refl
-nothing-stretched p (Running r) = refl
-nothing-stretched p (Waiting w) = refl
-
-nothing-serve : (o : Option ℕ) (l : List Slot) (k : ℕ) → May o l → isNothing (at (serve o l) k) ≡ isNothing (at l k)
-nothing-serve none l k m = refl
-nothing-serve (some j) l k m =
-    elim (ℕ-discrete j k) [
-      | yes z ↦ rw (← z) (ap isNothing (at-served l j (m .0)) ∙ nothing-served (at l j))
-      | no n ↦ ap isNothing (at-others l j k n)
-    ]
-
-nothing-tick : (t : Table) (k : ℕ) → isNothing (at (ticked (choose (t .slots)) t .table .slots) k) ≡ isNothing (at (t .slots) k)
-nothing-tick t k =
-    let o = choose (t .slots) in
-    ap isNothing (at-pass (serve o (t .slots)) k) ∙ nothing-passed (at (serve o (t .slots)) k) ∙ nothing-serve o (t .slots) k (choice-may t)
-
--- R44: who gets the tick holds a line
-owed-something : (h : Held) → Owed h → isNothing h ≡ false
-owed-something Nothing w = absurd w
-owed-something (Running r) w = refl
-owed-something (Waiting v) w = refl
-
-unserved : (o : Option ℕ) (l : List Slot) (k : ℕ) → May o l → isNothing (at l k) ≡ true → isSlot k o ≡ 0
-unserved none l k m e = refl
-unserved (some j) l k m e =
-    rw (ne-eqb j k (λ z. true-false e (subst (λ (i : ℕ). isNothing (at l i) ≡ false) z (owed-something (at l j) (m .1)))))
-
--- R43: but for the slot of the new line
-nothing-admitted : (t : Table) (q : Request) (r j k : ℕ) → lowestOf isNothing (t .slots) ≡ some j → (k ≡ j → ⊥)
-    → isNothing (at (admittedAt t q r .slots) k) ≡ isNothing (at (t .slots) k)
-nothing-admitted t q r j k e n =
-    ap (λ (l : List Slot). isNothing (at l k)) (admitted-slots t q r j e)
-    ∙ ap (λ (s : Slot). isNothing (s .held)) (getD-set-other (asked t q) j k (holding (newLine (q .need) (q .period) (r - t .clock))) empty n)
-    ∙ ap isNothing (at-stretched (t .slots) (entry q) k) ∙ nothing-stretched (entry q k) (at (t .slots) k)
-
--- what the sum needs: a count for each slot, 0 beside one that holds nothing
-pub record Booked (t : Table) : Type 0 where
-  pub long : length (t .had) ≡ length (t .slots)
-  pub spare : (k : ℕ) → k < length (t .slots) → isNothing (at (t .slots) k) ≡ true → hadBy t k ≡ 0
-  pub all : accounted t ≡ t .clock
-
--- R4: the empty table's
-booked-empty : Booked emptyTable
-booked-empty = record { long = refl; spare = λ k h e. getD-replicate 16 k 0 0 h; all = refl }
-
--- R42: an admission sets a count to 0 that was 0
-booked-admitted : (t : Table) (q : Request) (r : ℕ) → Granted t q r → Booked t → Booked (admittedAt t q r)
-booked-admitted t q r g b = record {
-  long = ap length same ∙ b .long ∙ sym (length-admitted t q r);
-  spare = λ k h e.
-      ap (λ (l : List ℕ). getD l k 0) same
-      ∙ elim (ℕ-discrete k j) [
-        | yes z ↦ ap (hadBy t) z ∙ zero-there
-        | no n ↦ b .spare k (rw (length-admitted t q r) at h) (sym (nothing-admitted t q r j k (g .lowest-empty) n) ∙ e)
-      ];
-  all = ap (λ (l : List ℕ). sum l + t .idle) same ∙ b .all;
-}
-  where
-    j : ℕ
-    j = g .slot
-
-    zero-there : hadBy t j ≡ 0
-    zero-there =
-        let w = lowest-is (λ i. isNothing (at (t .slots) i)) (length (t .slots)) (g .lowest-empty) in
-        b .spare j (w .inside) (w .here)
-
-    same : admittedAt t q r .had ≡ t .had
-    same =
-        ap (λ (o : Option ℕ). putAt o 0 (t .had)) (g .lowest-empty) ∙ ap (set (t .had) j) (sym zero-there) ∙ set-getD (t .had) j 0
-
--- R97: a tick is counted once, for a slot that holds a line or as idle
-booked-ticked : (t : Table) → Booked t → Booked (ticked (choose (t .slots)) t .table)
-booked-ticked t b = record {
-  long = length-had o (t .had) ∙ b .long ∙ sym (length-tick o (t .slots));
-  spare = λ k h e.
-      let l : k < length (t .slots) = rw (length-tick o (t .slots)) at h in
-      let n = sym (nothing-tick t k) ∙ e in
-      omega (arith, had-after o (t .had) k (rw (b .long) l), b .spare k l n, unserved o (t .slots) k (choice-may t) n);
-  all = omega (arith, b .all, tick-counts o (t .had) (t .idle) (inside o (choice-may t)));
-}
-  where
-    o : Option ℕ
-    o = choose (t .slots)
-
-    inside : (p : Option ℕ) → May p (t .slots) → (k : ℕ) → p ≡ some k → k < length (t .had)
-    inside none m k e = let z : _≡_ {A = ℕ} 0 1 = cc in absurd (omega arith)
-    inside (some j) m k e = let z : j ≡ k = cc in omega (arith, m .0, b .long)
-
-booked-after : (a : Act) (t : Table) → Good t → Booked t → Booked (after a t)
-booked-after (asking q) t g b = b
-booked-after (admitting q) t g b = go (askOf t q) refl
-  where
-    go : (a : Answer) → askOf t q ≡ a → Booked (admitWith t q a .table)
-    go (Start r) e = booked-admitted t q r (granted t q r e) b
-    go (Refused x) e = b
-booked-after stepping t g b =
-    split (2 ^ 48) (t .clock)
-    (λ l. subst (λ (s : Stepped). Booked (s .table)) (sym (at-last t l)) b)
-    (λ l. subst (λ (s : Stepped). Booked (s .table)) (sym (step-table t g l)) (booked-ticked t b))
-
-booked-run : (acts : List Act) (t : Table) → Good t → Booked t → Booked (run acts t)
-booked-run [] t g b = b
-booked-run (a ∷ rest) t g b = booked-run rest (after a t) (good-after a t g) (booked-after a t g b)
-
--- R79: of every run from the empty table
-booked-reached : (acts : List Act) → Booked (run acts emptyTable)
-booked-reached acts = booked-run acts emptyTable good-empty booked-empty
-
 -- ---- what is promised
 
 -- R79: the list of slots that ran accounts for every count, and the counts for every tick
 pub every-tick-accounted-for : EveryTickAccountedFor
 every-tick-accounted-for acts = record {
-  each = λ k h. each-from acts emptyTable k [] good-empty h (getD-replicate 16 k 0 0 h);
+  each = λ k h. each-from acts emptyTable k [] good-empty booked-empty h (getD-replicate 16 k 0 0 h);
   idle = omega (arith, idle-from acts emptyTable good-empty);
   all = booked-reached acts .all;
 }
+
+-- R43: the new line is there
+new-there : (C T w : ℕ) → isNothing (newLine C T w) ≡ false
+new-there C T w = go (ltb 0 w)
+  where
+    go : (b : Bool) → isNothing (pick b (Waiting (waitWith C T w)) (begun C T)) ≡ false
+    go true = refl
+    go false = refl
 
 -- R79: from its admission on
 pub had-since-admitted : HadSinceAdmitted
@@ -275,9 +192,18 @@ had-since-admitted acts q r k a more u =
     let g = good-reached acts in
     let b = slot-empty t q k (a .slot) in
     let h : k < length (t .had) = omega (arith, b .0, booked-reached acts .long) in
-    let n : names k (placedBy (askOf t q) t) ≡ true = rw (says-start (askOf t q) r (a .granted), a .slot) (eq-eqb k k refl) in
-    let z : hadBy (admitted-table acts q) k ≡ 0 = act-had (admitting q) t k g h ∙ ap (λ (x : Bool). pick x 0 (hadBy t k + 0)) n in
-    omega (arith, had-unplaced more (admitted-table acts q) k (good-after (admitting q) t g) (rw (act-length (admitting q) t g) h) u, z)
+    let s = says-start (askOf t q) r (a .granted) in
+    let n : names k (placedBy (askOf t q) t) ≡ true = rw (s, a .slot) (eq-eqb k k refl) in
+    let f : isNothing (at (admitted-table acts q .slots) k) ≡ false =
+    ap (λ (x : Answer). isNothing (at (admitWith t q x .table .slots) k)) s ∙ ap isNothing (admitted-new t q r k (a .slot)) ∙ new-there (q .need) (q .period) (r - t .clock) in
+    let z : hadBy (admitted-table acts q) k ≡ 0 = act-had (admitting q) t k g h f ∙ ap (λ (x : Bool). pick x 0 (hadBy t k + 0)) n in
+    omega (arith, had-occupied more (admitted-table acts q) k (good-after (admitting q) t g) (rw (act-length (admitting q) t g) h) f u, z)
+
+still-empty : (t : Table) (k : ℕ) → isNothing (at (t .slots) k) ≡ true → isNothing (at (ticked (choose (t .slots)) t .table .slots) k) ≡ true
+still-empty t k e =
+    let o = choose (t .slots) in
+    let s = serve-keeps isNothing nothing-served o (t .slots) k (choice-may t) ∙ e in
+    ap isNothing (at-pass (serve o (t .slots)) k) ∙ nothing-passed (at (serve o (t .slots)) k) ∙ ap (λ (b : Bool). pick b true (departsIn o (t .slots) k)) s
 
 -- R79: and before any, nothing
 nothing-unplaced : (a : Act) (t : Table) (k : ℕ) → Good t → names k (places a t) ≡ false → isNothing (at (t .slots) k) ≡ true → isNothing (at (after a t .slots) k) ≡ true
@@ -293,7 +219,8 @@ nothing-unplaced (admitting q) t k g n e = go (askOf t q) refl n
 nothing-unplaced stepping t k g n e =
     split (2 ^ 48) (t .clock)
     (λ l. subst (λ (s : Stepped). isNothing (at (s .table .slots) k) ≡ true) (sym (at-last t l)) e)
-    (λ l. subst (λ (s : Stepped). isNothing (at (s .table .slots) k) ≡ true) (sym (step-table t g l)) (nothing-tick t k ∙ e))
+    (λ l. subst (λ (s : Stepped). isNothing (at (s .table .slots) k) ≡ true) (sym (step-table t g l)) (still-empty t k e))
+nothing-unplaced (leaving n) t k g m e = leave-at (λ h. isNothing h ≡ true) t n k e (λ z. nothing-let-go (at (t .slots) k) e)
 
 still-nothing : (acts : List Act) (t : Table) (k : ℕ) → Good t → Unplaced k acts t → isNothing (at (t .slots) k) ≡ true → isNothing (at (run acts t .slots) k) ≡ true
 still-nothing [] t k g u e = e

@@ -13,6 +13,8 @@ use Rattle.table.specs.declared.Answer.{Answer}
 use Rattle.table.specs.declared.Answer.the-variants.{Start, Refused}
 use Rattle.table.specs.declared.Admitted.{Admitted}
 use Rattle.table.specs.declared.Stepped.{Stepped}
+use Rattle.table.specs.declared.Left.{Left}
+use Rattle.table.specs.declared.Leaving.{Leaving}
 use Rattle.table.specs.declared.Outcome as outcome
 use Rattle.table.specs.declared.Outcome.{Outcome}
 use Rattle.line.specs.Slots.{pick}
@@ -21,7 +23,9 @@ use Rattle.table.specs.Grounds.{grounds, FirstOf, Answers}
 use Rattle.table.specs.Ask.{says, askOf}
 use Rattle.table.specs.Admit.{admitWith, admitOf}
 use Rattle.table.specs.Step.{saysRan, stepOf}
+use Rattle.table.specs.Leave.{saysLeaving, leaveOf}
 use Rattle.table.proofs.Step.{refused-keeps}
+use Rattle.table.proofs.LettingGo.{leave-keeps}
 use Rattle.board.proofs.Word.{word-unique}
 use Rattle.theory.proofs.Answers.{ask-answers}
 use Rattle.theory.proofs.Unique.{answers-unique}
@@ -42,7 +46,7 @@ use Rattle.image.specs.Answers.{handedOut, saidLoaded, storeOf, storedIn}
 use Rattle.calls.specs.declared.Result.{Result}
 use Rattle.calls.specs.Results.{grantedAs, resultAt, resultOf}
 use Rattle.calls.specs.Cards.{lineFor, saidPut, rewriteFor, rewrittenFor}
-use Rattle.calls.specs.Tables.{changed, askedAs, askFor, afterAdmit, ranAs, stepFor, afterStep, ReadyFor, countsFor, countsAfter}
+use Rattle.calls.specs.Tables.{changed, askedAs, askFor, afterAdmit, ranAs, stepFor, afterStep, leaveFor, afterLeave, ReadyFor, countsFor, countsAfter}
 use Rattle.calls.specs.Moves.{eighteen, writeCardFor, cardAfter, readCardFor, imageAfter, numbersAfter}
 use Rattle.image.proofs.Exactly.{said-loaded}
 use Rattle.promises.specs.Contracts.{Drives}
@@ -71,6 +75,7 @@ fixed-answer = record {
   ask = asked-unique;
   admit = admits-unique;
   step = λ t. by-equation (stepOf t);
+  leave = λ t n. by-equation (leaveOf t n);
   drive = λ t x y m n p q. drive-determined t x y m n p q;
   ready-word = λ t. word-unique (t .slots);
   lamp = λ n. by-equation _;
@@ -87,6 +92,7 @@ fixed-answer = record {
   ask-image = λ l q. by-equation _;
   admit-image = λ l q. by-equations _ _;
   step-image = λ l. by-equations _ _;
+  leave-image = λ l n. by-equations _ _;
   ready-image = λ l. ready-one (loadOf l);
   counts-image = λ l ns. by-equations _ _;
   write-image = λ l q out. by-equations _ _;
@@ -114,6 +120,15 @@ step-refused (Outcome.Refused y) x e = let z : y ≡ x = cc in ap Outcome.Refuse
 step-keeps : (t : Table) (s : Stepped) (x : Refusal) → s ≡ stepOf t → saysRan (s .outcome) ≡ refuses x → s .table ≡ t
 step-keeps t s x e f =
     ap (λ (r : Stepped). r .table) e ∙ refused-keeps t x (step-refused (stepOf t .outcome) x (ap (λ (r : Stepped). saysRan (r .outcome)) (sym e) ∙ f))
+
+-- a leave's answer that says a refusal is that refusal
+leave-refused : (a : Leaving) (x : Refusal) → saysLeaving a ≡ refuses x → a ≡ Leaving.Refused x
+leave-refused (Leaving.In k) x e = let z : _≡_ {A = ℕ} 0 1 = cc in absurd (omega arith)
+leave-refused (Leaving.Refused y) x e = let z : y ≡ x = cc in ap Leaving.Refused z
+
+left-keeps : (t : Table) (n : ℕ) (r : Left) (x : Refusal) → r ≡ leaveOf t n → saysLeaving (r .leaving) ≡ refuses x → r .table ≡ t
+left-keeps t n r x e f =
+    ap (λ (s : Left). s .table) e ∙ leave-keeps t x n (leave-refused (leaveOf t n .leaving) x (ap (λ (s : Left). saysLeaving (s .leaving)) (sym e) ∙ f))
 
 drive-keeps : (t : Table) (o : Outcome) (u : Table) (x : Refusal) → Drives t o u → saysRan o ≡ refuses x → u ≡ t
 drive-keeps t o u x h e = h .1 ∙ refused-drive-keeps t x (step-refused (stepOf t .outcome) x (ap saysRan (sym (h .0)) ∙ e))
@@ -166,6 +181,10 @@ step-kept (gives t) l h = go (saysRan (stepOf t .outcome)) h
     go (gives o) h = absurd (h refl)
     go (refuses x) h = refl
 
+leave-kept : (s : Said Table) (n : ℕ) (l : List ℕ) → (leaveFor s n .number ≡ 0 → ⊥) → afterLeave s n l ≡ l
+leave-kept (refuses x) n l h = refl
+leave-kept (gives t) n l h = changed-kept (saysLeaving (leaveOf t n .leaving)) (storedIn (leaveOf t n .table) l) l h
+
 counts-kept : (s : Said Table) (ns : List ℕ) → (countsFor s .number ≡ 0 → ⊥) → countsAfter s ns ≡ ns
 counts-kept (refuses x) ns h = refl
 counts-kept (gives t) ns h = absurd (h refl)
@@ -180,6 +199,7 @@ refusal-keeps = record {
   );
   admit = λ t q m x h e. (first-refused t q (m .answer) x (h .answers) e, admit-keeps t q m x (h .computed) e);
   step = step-keeps;
+  leave = left-keeps;
   drive = drive-keeps;
   read = λ card c x h e.
       let f : readOf card ≡ refuses x = sym (said-handed (turnedOf card) (readOf card)) ∙ ap saidRead (sym h) ∙ e in
@@ -196,6 +216,7 @@ refusal-keeps = record {
   empty-image = λ l r m h e. h .1 ∙ filled-kept 0 (storeOf (length l)) (imageOf emptyTable) l (λ z. e (ap (λ (x : Result). x .number) (h .0) ∙ z));
   admit-image = λ l q r m h e. h .1 ∙ admit-kept (loadOf l) q l (λ z. e (ap (λ (x : Result). x .number) (h .0) ∙ z));
   step-image = λ l r m h e. h .1 ∙ step-kept (loadOf l) l (λ z. e (ap (λ (x : Result). x .number) (h .0) ∙ z));
+  leave-image = λ l n r m h e. h .1 ∙ leave-kept (loadOf l) n l (λ z. e (ap (λ (x : Result). x .number) (h .0) ∙ z));
   counts-image = λ l ns r m h e. h .1 ∙ counts-kept (loadOf l) ns (λ z. e (ap (λ (x : Result). x .number) (h .0) ∙ z));
   write-image = λ l q out r m h e. h .1 ∙ card-kept (loadOf l) q out (λ z. e (ap (λ (x : Result). x .number) (h .0) ∙ z));
   read-image = λ card l ns r m n h e.

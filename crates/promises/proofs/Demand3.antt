@@ -18,7 +18,7 @@ use Rattle.theory.proofs.Start.{least-by-last}
 use Rattle.theory.proofs.Granted.{says-start, granted}
 use Rattle.theory.proofs.Answers.{ask-answers}
 use Rattle.theory.proofs.Unique.{answers-unique}
-use Rattle.theory.proofs.Step.{fine-step}
+use Rattle.theory.proofs.Step.{sound-faultless, fine-step}
 use Rattle.promises.specs.Demand3.{Unfailing, NeverMissed, Admission, admitted-table, StartsByLastEnd, RunsFromStart, HasAllItsNeed, NoEarlierStart, NoEarlierThanAnswered}
 use Rattle.promises.proofs.Good.{Good, at-last, good-reached, good-after, slot-empty}
 use Rattle.promises.proofs.Kept.{admit-clock, admit-length, admitted-new}
@@ -28,6 +28,7 @@ use Rattle.promises.proofs.Early.{no-earlier}
 unfailing : (t : Table) → Good t → Unfailing t
 unfailing t g = record {
   sound = g .fine .sound;
+  no-fault = sound-faultless t (g .fine .sound) (g .within);
   clock-in = g .clock-in;
   goes-on = λ h. (slotOf (whichOf (choose (t .slots))), goes h);
   only-fifteen = λ x e.
@@ -73,18 +74,18 @@ module _ (acts : List Act) (q : Request) (r k : ℕ) (a : Admission acts q r k) 
 
 -- R75: with all its need and its period before it
 pub runs-from-start : RunsFromStart
-runs-from-start acts q r k a more h =
+runs-from-start acts q r k a more v h =
     rw (starts acts q r k a) at
     (at-start more (admitted-table acts q) k (q .need) (q .period) (r - run acts emptyTable .clock) (good acts q r k a) (inside acts q r k a) (stands acts q r k a)
-    (h ∙ sym (starts acts q r k a)))
+    (rw (starts acts q r k a) v) (h ∙ sym (starts acts q r k a)))
 
 -- R76: exactly its need in its first period
 pub has-all-its-need : HasAllItsNeed
-has-all-its-need acts q r k a more u h =
+has-all-its-need acts q r k a more v u h =
     let g = granted (run acts emptyTable) q r (says-start (askOf (run acts emptyTable) q) r (a .granted)) in
     let z : r + q .period ≡ admitted-table acts q .clock + (r - run acts emptyTable .clock) + q .period = omega (arith, starts acts q r k a) in
     gets-need more (admitted-table acts q) k (q .need) (q .period) (r - run acts emptyTable .clock) (good acts q r k a) (inside acts q r k a)
-    (omega (arith, g .given .new-some, g .given .new-fits)) (stands acts q r k a) (rw z at u) (rw z at h)
+    (omega (arith, g .given .new-some, g .given .new-fits)) (stands acts q r k a) (rw (starts acts q r k a) v) (rw z at u) (rw z at h)
 
 -- R77: at any earlier start some period ends short before the last end
 pub no-earlier-start : NoEarlierStart

@@ -24,7 +24,7 @@ use Rattle.table.specs.Counts.{accounted}
 use Rattle.table.specs.Ask.{says, askOf}
 use Rattle.table.specs.Admit.{admittedAt}
 use Rattle.table.specs.Step.{saysRan, choose, serve, refusedStep, ticked, advance, stepOf}
-use Rattle.table.proofs.Counts.{tick-within, put-within}
+use Rattle.table.proofs.Counts.{booked-within, put-within}
 use Rattle.table.proofs.Step.{slot-of-which}
 use Rattle.line.specs.Tick.{short}
 use Rattle.theory.specs.Fine.{May, Kept}
@@ -96,7 +96,7 @@ runs-short (suc n) last t s within b l x = go (lowestOf short (serve o (t .slots
         let a : t .clock + suc n ≡ t .clock + 1 + n = omega arith in
         let c : demands (t .clock + 1) (next .slots) (t .clock + 1 + n) ≡ demands (suc (t .clock)) (next .slots) (t .clock + suc n) =
         rw (add-one (t .clock), ← add-one (t .clock), a) refl in
-        later (rest (sound-pass (serve o (t .slots)) (sound-serve o (t .slots) m s)) (omega (arith, within, tick-within o (t .had) (t .idle))) (omega arith) l (omega (arith, y .0, c)))
+        later (rest (sound-pass (serve o (t .slots)) (sound-serve o (t .slots) m s)) (omega (arith, within, booked-within o t)) (omega arith) l (omega (arith, y .0, c)))
         (sound-step t s within (omega arith) ∙ advanced o t v)
 
 -- ---- a start that is not smooth

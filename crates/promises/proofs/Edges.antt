@@ -1,7 +1,7 @@
 -- The edges of the promises: each strictness with an example on each side of it.
 use Prim.Native.Nat.{ℕ, zero, suc, _+_, _≤_}
 use mathlib.Core.Path.{_≡_, refl}
-use mathlib.Core.List.{List, [], _∷_, _++_}
+use mathlib.Core.List.{List, [], _∷_, _++_, map}
 use mathlib.Core.Option.{none, some}
 use native.Mathlib.Omega.{arith}
 use native.Mathlib.Nat.{not-suc-le-zero}
@@ -17,11 +17,13 @@ use Rattle.line.specs.Ends.{endsOf, slack, bound, greatest, anyOf, start}
 use Rattle.line.proofs.Search.{true-false}
 use Rattle.table.specs.Words.{requestWith, emptyTable}
 use Rattle.table.specs.Ask.{askIn, askOf}
+use Rattle.table.specs.Counts.{settling}
 use Rattle.table.specs.Step.{chosen, advance, stepOf}
-use Rattle.table.specs.Runs.{Act, asking, admitting, stepping, run, trace, times, idles, since}
+use Rattle.table.specs.Leave.{leaveOf}
+use Rattle.table.specs.Runs.{Act, asking, admitting, stepping, leaving, run, trace, times, idles, since}
 use Rattle.table.specs.Cases.{running, tableOf, caseA}
-use Rattle.promises.specs.Demand3.{admitted-table, Unstretched, Misses, Sixteen}
-use Rattle.promises.specs.Counted.{Unplaced}
+use Rattle.promises.specs.Demand3.{admitted-table, Unstretched, Unremoved, Misses, Sixteen}
+use Rattle.promises.specs.Counted.{Unplaced, Occupied}
 use Rattle.promises.specs.Example.{toCaseA, onFromCaseA}
 use Rattle.promises.proofs.Demand3.{has-all-its-need}
 use Rattle.promises.proofs.Example.{case-A-admitted}
@@ -34,7 +36,7 @@ ending = tableOf 5 (running 2 4 3 2 ∷ [])
 
 -- R77: the miss at 6 is before 7
 pub misses-before : Misses ending 7
-unfolding lowest chosen advance stepOf
+unfolding lowest chosen settling advance stepOf
 misses-before = record { steps = 0; slot = 0; goes = λ m h. absurd (not-suc-le-zero h); misses = refl; before = omega arith }
 
 -- R77: one that falls on the last end is none
@@ -71,30 +73,30 @@ twoLines = admitting (requestWith (replicate 16 0) 1 2) ∷ stepping ∷ steppin
 
 -- R76: in case A slot 2 waits five ticks, and of the four ticks from its start on it gets one
 pub trace-A : trace onFromCaseA (admitted-table toCaseA (caseA .request)) ≡ replicate 8 (some 1) ++ (some 2 ∷ [])
-unfolding euclid gcdOf lcmOf frameFrom total lowest due lastEnd mapAt periodsIn every endsBefore endsOf slack bound greatest anyOf start askIn askOf chosen advance stepOf
+unfolding euclid gcdOf lcmOf frameFrom total lowest due lastEnd mapAt periodsIn every endsBefore endsOf slack bound greatest anyOf start askIn askOf chosen settling advance stepOf
 trace-A = refl
 
 -- R73, R76: a tick that goes to nobody names no slot, and a refused step is no tick
 pub times-edges : (times 1 (some 1 ∷ none ∷ some 2 ∷ some 1 ∷ []) ≡ 2) × (trace (stepping ∷ stepping ∷ []) (tableOf 0 (running 1 4 2 0 ∷ [])) ≡ none ∷ none ∷ [])
     × (trace (stepping ∷ []) ending ≡ [])
-unfolding lowest chosen advance stepOf
+unfolding lowest chosen settling advance stepOf
 times-edges = (refl, refl, refl)
 
--- R79: what ran before an admission counts for the slots that were there, and not for the new line's; a slot that none was put into has the whole list
-pub since-edges : (since 1 twoLines ≡ some 0 ∷ some 1 ∷ []) × (since 0 twoLines ≡ some 0 ∷ none ∷ some 0 ∷ some 1 ∷ []) × (since 2 twoLines ≡ some 0 ∷ none ∷ some 0 ∷ some 1 ∷ [])
-unfolding euclid gcdOf lcmOf frameFrom total lowest due lastEnd mapAt periodsIn every endsBefore endsOf slack bound greatest anyOf start askIn askOf chosen advance stepOf
+-- R79: what ran before an admission counts for the slots that were there, and not for the new line's, nor for a slot that holds none
+pub since-edges : (since 1 twoLines ≡ some 0 ∷ some 1 ∷ []) × (since 0 twoLines ≡ some 0 ∷ none ∷ some 0 ∷ some 1 ∷ []) × (since 2 twoLines ≡ [])
+unfolding euclid gcdOf lcmOf frameFrom total lowest due lastEnd mapAt periodsIn every endsBefore endsOf slack bound greatest anyOf start askIn askOf chosen settling advance stepOf
 since-edges = (refl, refl, refl)
 
 -- R79: who has had what then, and how many ticks were idle
 pub had-edges : (run twoLines emptyTable .had ≡ 2 ∷ 1 ∷ replicate 14 0) × (run twoLines emptyTable .idle ≡ 1) × (run twoLines emptyTable .clock ≡ 4)
     × (idles (some 1 ∷ none ∷ some 2 ∷ none ∷ none ∷ []) ≡ 3)
-unfolding euclid gcdOf lcmOf frameFrom total lowest due lastEnd mapAt periodsIn every endsBefore endsOf slack bound greatest anyOf start askIn askOf chosen advance stepOf
+unfolding euclid gcdOf lcmOf frameFrom total lowest due lastEnd mapAt periodsIn every endsBefore endsOf slack bound greatest anyOf start askIn askOf chosen settling advance stepOf
 had-edges = (refl, refl, refl, refl)
 
 -- R79: the admission puts a line into slot 2 and into no other; an ask that is granted and a refused admission put none
 pub placed-edges : (Unplaced 2 (admitting (caseA .request) ∷ []) (caseA .table) → ⊥) × Unplaced 1 (admitting (caseA .request) ∷ []) (caseA .table)
     × Unplaced 2 (asking (caseA .request) ∷ admitting (requestWith (replicate 16 0) 1 4) ∷ []) (caseA .table)
-unfolding euclid gcdOf lcmOf frameFrom total lowest due lastEnd mapAt periodsIn every endsBefore endsOf slack bound greatest anyOf start askIn askOf chosen advance stepOf
+unfolding euclid gcdOf lcmOf frameFrom total lowest due lastEnd mapAt periodsIn every endsBefore endsOf slack bound greatest anyOf start askIn askOf chosen settling advance stepOf
 placed-edges = ((λ u. true-false refl (u .0)), (refl, tt), (refl, (refl, tt)))
 
 -- nine ticks, and then at 17, when slot 2 has had its period, it is stretched
@@ -102,18 +104,50 @@ abbrev stretchedAfter : List Act
 stretchedAfter = onFromCaseA ++ (admitting (requestWith (replicate 16 32) 1 32) ∷ [])
 
 stretched-in-time : Unstretched 2 (13 + 4) stretchedAfter (admitted-table toCaseA (caseA .request))
-unfolding euclid gcdOf lcmOf frameFrom total lowest due lastEnd mapAt periodsIn every endsBefore endsOf slack bound greatest anyOf start askIn askOf chosen advance stepOf
+unfolding euclid gcdOf lcmOf frameFrom total lowest due lastEnd mapAt periodsIn every endsBefore endsOf slack bound greatest anyOf start askIn askOf chosen settling advance stepOf
 stretched-in-time =
     ((λ h s. s), ((λ h s. s), ((λ h s. s), ((λ h s. s), ((λ h s. s), ((λ h s. s), ((λ h s. s), ((λ h s. s), ((λ h s. s), ((λ h s. omega arith), tt))))))))))
 
+stretched-unremoved : Unremoved 2 13 stretchedAfter (admitted-table toCaseA (caseA .request))
+stretched-unremoved =
+    ((λ h s. s), ((λ h s. s), ((λ h s. s), ((λ h s. s), ((λ h s. s), ((λ h s. s), ((λ h s. s), ((λ h s. s), ((λ h s. s), ((λ h s. s), tt))))))))))
+
 stretched-late : 13 + 4 ≤ run stretchedAfter (admitted-table toCaseA (caseA .request)) .clock
-unfolding euclid gcdOf lcmOf frameFrom total lowest due lastEnd mapAt periodsIn every endsBefore endsOf slack bound greatest anyOf start askIn askOf chosen advance stepOf
+unfolding euclid gcdOf lcmOf frameFrom total lowest due lastEnd mapAt periodsIn every endsBefore endsOf slack bound greatest anyOf start askIn askOf chosen settling advance stepOf
 stretched-late = omega arith
 
 -- R76: a stretch at one period after the start comes too late to matter
 pub need-before-the-stretch : times 2 (take 4 (drop 5 (trace stretchedAfter (admitted-table toCaseA (caseA .request))))) ≡ 1
-unfolding euclid gcdOf lcmOf frameFrom total lowest due lastEnd mapAt periodsIn every endsBefore endsOf slack bound greatest anyOf start askIn askOf chosen advance stepOf
-need-before-the-stretch = has-all-its-need toCaseA (caseA .request) 13 2 case-A-admitted stretchedAfter stretched-in-time stretched-late
+unfolding euclid gcdOf lcmOf frameFrom total lowest due lastEnd mapAt periodsIn every endsBefore endsOf slack bound greatest anyOf start askIn askOf chosen settling advance stepOf
+need-before-the-stretch = has-all-its-need toCaseA (caseA .request) 13 2 case-A-admitted stretchedAfter stretched-unremoved stretched-in-time stretched-late
+
+-- ---- lines that leave
+
+-- a line of 1 in 2 is admitted, runs, is asked to leave, and is gone a tick later; then another is admitted to its slot, and runs
+abbrev leavesAndComes : List Act
+leavesAndComes = admitting (requestWith (replicate 16 0) 1 2) ∷ stepping ∷ leaving 0 ∷ stepping ∷ admitting (requestWith (replicate 16 0) 1 4) ∷ stepping ∷ []
+
+-- R79, R101: the slot's list begins anew when its line is gone, and with the next line; what the first had has departed
+pub departed-edges : (map (λ (n : ℕ). times 0 (since 0 (take n leavesAndComes))) (2 ∷ 3 ∷ 4 ∷ 5 ∷ 6 ∷ []) ≡ 1 ∷ 1 ∷ 0 ∷ 0 ∷ 1 ∷ [])
+    × (map (λ (n : ℕ). run (take n leavesAndComes) emptyTable .departed) (3 ∷ 4 ∷ 6 ∷ []) ≡ 0 ∷ 1 ∷ 1 ∷ [])
+    × (run leavesAndComes emptyTable .had ≡ 1 ∷ replicate 15 0) × (run leavesAndComes emptyTable .idle ≡ 1) × (run leavesAndComes emptyTable .clock ≡ 3)
+    × (trace leavesAndComes emptyTable ≡ some 0 ∷ none ∷ some 0 ∷ [])
+unfolding euclid gcdOf lcmOf frameFrom total lowest due lastEnd mapAt periodsIn every endsBefore endsOf slack bound greatest anyOf start askIn askOf chosen settling advance stepOf leaveOf
+departed-edges = (refl, refl, refl, refl, refl, refl)
+
+-- R79: up to its end the line is there, and after it not
+pub occupied-edges : Occupied 0 (take 3 leavesAndComes) emptyTable × (Occupied 0 (take 4 leavesAndComes) emptyTable → ⊥)
+unfolding euclid gcdOf lcmOf frameFrom total lowest due lastEnd mapAt periodsIn every endsBefore endsOf slack bound greatest anyOf start askIn askOf chosen settling advance stepOf leaveOf
+occupied-edges = ((refl, (refl, (refl, tt))), λ u. true-false refl (u .1 .1 .1 .0))
+
+-- R75: at 8 slot 2 waits to 13: to ask it to leave removes it, before 9 and not before 8; to ask slot 1, which runs, or to ask slot 2 for another does not
+pub removed-edges :
+    (Unremoved 2 9 (leaving 2 ∷ []) (admitted-table toCaseA (caseA .request)) → ⊥)
+    × Unremoved 2 8 (leaving 2 ∷ []) (admitted-table toCaseA (caseA .request))
+    × Unremoved 1 9 (leaving 1 ∷ []) (admitted-table toCaseA (caseA .request))
+    × Unremoved 2 9 (leaving 1 ∷ []) (admitted-table toCaseA (caseA .request))
+unfolding euclid gcdOf lcmOf frameFrom total lowest due lastEnd mapAt periodsIn every endsBefore endsOf slack bound greatest anyOf start askIn askOf chosen settling advance stepOf
+removed-edges = ((λ u. u .0 (omega arith) (refl, refl)), ((λ h. omega arith), tt), ((λ h s. true-false (s .1) refl), tt), ((λ h s. omega (arith, s .0)), tt))
 
 -- ---- sixteen bits
 

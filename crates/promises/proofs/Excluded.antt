@@ -1,6 +1,7 @@
 -- What the contracts rule out: no function that meets one is such a wrong program.
 use Prim.Native.Nat.{ℕ, _≤_}
 use mathlib.Core.Path.{_≡_, refl, sym, ap, _∙_}
+use mathlib.Core.Bool.{true}
 use mathlib.Core.List.{List}
 use native.Mathlib.Omega.{arith}
 use lib.ListN.{getD, replicate}
@@ -9,11 +10,16 @@ use Rattle.table.specs.declared.Table.{Table}
 use Rattle.table.specs.declared.Request.{Request}
 use Rattle.table.specs.declared.Answer.{Answer}
 use Rattle.table.specs.declared.Stepped.{Stepped}
+use Rattle.table.specs.declared.Left.{Left}
 use Rattle.table.specs.Words.{emptyTable, Said, gives}
 use Rattle.line.specs.Slots.{runWith, ifRuns, at, lowest}
 use Rattle.table.specs.Grounds.{asked, Answers}
 use Rattle.table.specs.Ask.{says}
+use Rattle.table.specs.Counts.{settling}
 use Rattle.table.specs.Step.{chosen, advance, stepOf}
+use Rattle.table.specs.Leave.{saysLeaving, leaveOf}
+use Rattle.line.specs.Leave.{isParting}
+use Rattle.line.proofs.Search.{true-false}
 use Rattle.table.specs.Cases.{Case, cases, caseA, caseB, caseC, caseD, caseM}
 use Rattle.table.specs.Faults.{closedStart, floorStart, QuietAtEnds}
 use Rattle.table.proofs.Faults.{closed-formula-B, floor-D, only-ends-M}
@@ -25,7 +31,7 @@ use Rattle.card.specs.Twin.{turnedOf}
 use Rattle.card.specs.Answers.{handed, lengthOf, bufferOf}
 use Rattle.theory.proofs.Cases.{cases-answer}
 use Rattle.theory.proofs.Unique.{answers-unique}
-use Rattle.promises.specs.Excluded.{MeetsAsk, MeetsStep, RefusesEverything, SaysTheClock, LeavesTheTable, OnlyMovesTheClock, MeetsRead, MeetsWrite, OneRequest, WritesNothing}
+use Rattle.promises.specs.Excluded.{MeetsAsk, MeetsStep, MeetsLeave, RefusesEverything, SaysTheClock, LeavesTheTable, OnlyMovesTheClock, OnlySaysSo, DropsAtOnce, MeetsRead, MeetsWrite, OneRequest, WritesNothing}
 
 -- whatever meets ask's contract gives each case its answer
 right-in : (f : Table → Request → Answer) → MeetsAsk f → (c : Case) → Answers (c .table) (c .request) (c .answer)
@@ -78,7 +84,7 @@ no-ask-looks-at-the-running-ends-alone f m u least r =
     omega (arith, least 103 (omega arith) only-ends-M)
 
 empty-steps : stepOf emptyTable .table .clock ≡ 1
-unfolding lowest chosen advance stepOf
+unfolding lowest chosen settling advance stepOf
 empty-steps = refl
 
 -- R45: the clock moves
@@ -93,7 +99,7 @@ remaining h = ifRuns 0 (λ r. r .remaining) h
 
 -- in case A the tick at 8 goes to slot 1
 case-A-serves : at (stepOf (caseA .table) .table .slots) 1 ≡ at (caseA .table .slots) 1 → ⊥
-unfolding lowest chosen advance stepOf
+unfolding lowest chosen settling advance stepOf
 case-A-serves e = let z : _≡_ {A = ℕ} 7 8 = ap remaining e in omega arith
 
 -- R45: every tick is served
@@ -102,6 +108,25 @@ no-step-only-moves-the-clock f m r =
     let x = ap (λ (t : Table). at (t .slots) 1) (r (caseA .table) (omega arith)) in
     let y = ap (λ (s : Stepped). at (s .table .slots) 1) (m (caseA .table)) in
     case-A-serves (sym y ∙ x)
+
+-- in case A slot 1 is let go: it runs on, and no other period follows
+case-A-left : (saysLeaving (leaveOf (caseA .table) 1 .leaving) ≡ gives 8) × (isParting (at (leaveOf (caseA .table) 1 .table .slots) 1) ≡ true)
+unfolding lowest leaveOf
+case-A-left = (refl, refl)
+
+-- R99: a leave that is granted is kept to
+pub no-leave-only-says-so : (f : Table → ℕ → Left) → MeetsLeave f → OnlySaysSo f → ⊥
+no-leave-only-says-so f m r =
+    let e = m (caseA .table) 1 in
+    let x = r (caseA .table) 1 8 (ap (λ (s : Left). saysLeaving (s .leaving)) e ∙ case-A-left .0) in
+    true-false (case-A-left .1) (ap (λ (s : Left). isParting (at (s .table .slots) 1)) (sym e) ∙ ap (λ (t : Table). isParting (at (t .slots) 1)) x)
+
+-- R100: who runs finishes his period
+pub no-leave-drops-at-once : (f : Table → ℕ → Left) → MeetsLeave f → DropsAtOnce f → ⊥
+no-leave-drops-at-once f m r =
+    let e = m (caseA .table) 1 in
+    let x = r (caseA .table) 1 8 (ap (λ (s : Left). saysLeaving (s .leaving)) e ∙ case-A-left .0) in
+    true-false (case-A-left .1) (ap (λ (s : Left). isParting (at (s .table .slots) 1)) (sym e) ∙ ap isParting x)
 
 -- the cards of cases A and C read as their tables and requests
 reads-A : readOf (cardOf (caseA .table) (caseA .request)) ≡ gives (carrying (caseA .table) (caseA .request))

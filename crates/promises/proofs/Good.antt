@@ -21,9 +21,10 @@ use Rattle.table.specs.Ask.{askOf}
 use Rattle.table.specs.Admit.{newLine, putAt, admittedAt, admitWith}
 use Rattle.table.specs.Counts.{accounted}
 use Rattle.table.specs.Step.{choose, refusedStep, stepOf}
-use Rattle.table.specs.Runs.{Act, asking, admitting, stepping, after, run}
+use Rattle.table.specs.Runs.{Act, asking, admitting, stepping, leaving, after, run}
 use Rattle.line.proofs.Search.{lowest-is}
-use Rattle.table.proofs.Counts.{tick-within, put-within}
+use Rattle.table.proofs.Counts.{booked-within, put-within}
+use Rattle.table.proofs.LettingGo.{let-go-accounted, may-inside, left-is}
 use Rattle.theory.specs.Fine.{Fine}
 use Rattle.theory.specs.Given.{Granted}
 use Rattle.theory.proofs.Numbers.{split}
@@ -31,6 +32,7 @@ use Rattle.theory.proofs.Tests.{nothing-says}
 use Rattle.theory.proofs.Granted.{granted}
 use Rattle.line.proofs.Stretched.{length-stretched, at-stretched}
 use Rattle.theory.proofs.Admitted.{admitted-fine, empty-fine}
+use Rattle.theory.proofs.Leave.{fine-let-go}
 use Rattle.theory.proofs.Step.{fine-step, fine-stepped}
 
 -- R73: what every table that a run reaches has: it is fine for some common multiple, accounts for no more than its clock, and this is no later than the last tick
@@ -94,8 +96,16 @@ good-after stepping t g =
     (λ h. let e = fine-step t (g .fine) (g .within) h in
     let c : stepOf t .table .clock ≡ t .clock + 1 = ap (λ (s : Stepped). s .table .clock) e in
     let w : accounted (stepOf t .table) ≤ stepOf t .table .clock =
-    subst (λ (s : Stepped). accounted (s .table) ≤ s .table .clock) (sym e) (omega (arith, g .within, tick-within (choose (t .slots)) (t .had) (t .idle))) in
+    subst (λ (s : Stepped). accounted (s .table) ≤ s .table .clock) (sym e) (omega (arith, g .within, booked-within (choose (t .slots)) t)) in
     record { multiple = g .multiple; fine = fine-stepped t (g .fine) (g .within) h; within = w; clock-in = omega arith })
+good-after (leaving n) t g =
+    left-is Good t n g
+    (λ f m. record {
+      multiple = g .multiple;
+      fine = fine-let-go n (may-inside (t .slots) n m) (g .fine);
+      within = omega (arith, let-go-accounted n t, g .within);
+      clock-in = g .clock-in;
+    })
 
 -- R73: and so does every run
 pub good-run : (acts : List Act) (t : Table) → Good t → Good (run acts t)

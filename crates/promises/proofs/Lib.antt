@@ -2,7 +2,9 @@
 pub mod Good
 pub mod Kept
 pub mod Gets
+pub mod Parting
 pub mod Early
+pub mod Booking
 pub mod Counted
 pub mod Numbered
 pub mod Told

@@ -8,20 +8,24 @@ use Prim.Native.Nat.{ℕ, zero, suc, _^_}
 use native.Mathlib.Omega.{arith}
 use lib.ListN.{length}
 use lib.Dec.{leb}
-use Rattle.line.specs.Slots.{pick, isWaiting, lowestOf}
+use Rattle.line.specs.Slots.{pick, at, isWaiting, lowestOf}
 use Rattle.table.specs.declared.Table.{Table}
 use Rattle.table.specs.declared.Request.{Request}
 use Rattle.table.specs.declared.Refusal.{Refusal}
 use Rattle.table.specs.declared.Answer.{Answer}
 use Rattle.table.specs.declared.Answer.the-variants.{Start, Refused}
 use Rattle.table.specs.declared.Stepped.{Stepped}
+use Rattle.table.specs.declared.Left.{Left}
+use Rattle.table.specs.declared.Leaving.the-variants.{In}
 use Rattle.table.specs.Words.{refusal, Said, gives, refuses}
-use Rattle.table.specs.Grounds.{Late, Full, Waiters, Unsound, Shorter, Misfit, Wide, Overload, Behind, Short, Row, row, grounds, FirstOf, Answers}
+use Rattle.table.specs.Grounds.{Late, Full, Waiters, Unsound, Misstretched, Misfit, Wide, Overload, Behind, Short, Row, row, grounds, FirstOf, Answers}
 use Rattle.table.specs.Ask.{says, askOf}
 use Rattle.table.specs.Admit.{admitWith}
 use Rattle.table.specs.Counts.{fault}
 use Rattle.table.specs.Step.{saysRan, choose, serve, refusedStep, stepUnless, advance, stepOf}
+use Rattle.table.specs.Leave.{saysLeaving, refusedLeave, leaveUnless, letGoAt, leaveAt, leaveOf}
 use Rattle.line.specs.Tick.{short}
+use Rattle.line.specs.Leave.{mayLeave, ticksLeft}
 use Rattle.theory.proofs.Answers.{ask-answers}
 use Rattle.card.proofs.Grounds.{Refuses, read-refuses}
 use Rattle.card.specs.Card.{Card, cardOf}
@@ -70,7 +74,7 @@ all-numbered = (
       (
         row-numbered 4 Unsound (λ e. omega arith),
         (
-          row-numbered 5 Shorter (λ e. omega arith),
+          row-numbered 5 Misstretched (λ e. omega arith),
           (
             row-numbered 6 Misfit (λ e. omega arith),
             (
@@ -112,6 +116,19 @@ step-numbered t =
     go : (b : Bool) (s : Stepped) → Numbered (saysRan (s .outcome)) → Numbered (saysRan (pick b (refusedStep t 15 0) s .outcome))
     go true s k = λ e. omega arith
     go false s k = k
+
+leave-unless : (o : Option ℕ) (t : Table) (r : Left) → Numbered (saysLeaving (r .leaving)) → Numbered (saysLeaving (leaveUnless o t r .leaving))
+leave-unless none t r k = k
+leave-unless (some p) t r k = λ e. omega arith
+
+-- R102: a leave's
+pub leave-numbered : (t : Table) (n : ℕ) → Numbered (saysLeaving (leaveOf t n .leaving))
+unfolding leaveOf
+leave-numbered t n = leave-unless (fault t) t (leaveAt n t) (go (mayLeave (at (t .slots) n)))
+  where
+    go : (b : Bool) → Numbered (saysLeaving (pick b (record { table = letGoAt n t; leaving = In (ticksLeft (at (t .slots) n)) }) (refusedLeave t 16 n) .leaving))
+    go true = tt
+    go false = λ e. omega arith
 
 -- ---- image and writer
 

@@ -7,8 +7,10 @@ use Prim.Native.Nat.{ℕ, zero, suc, _+_, _-_, _^_, _≤_, _<_}
 use native.Mathlib.Omega.{arith}
 use borrow.Author.Tests.{lt-ltb, le-ltb, lt-leb}
 use lib.Dec.{ltb}
-use lib.ListN.{set, replicate}
+use lib.ListN.{length, set, replicate, length-set}
 use Rattle.periods.specs.Multiples.{All}
+use Rattle.line.specs.declared.Follows.{Follows}
+use Rattle.line.specs.declared.Follows.the-variants.{Renews, Leaves}
 use Rattle.line.specs.declared.Held.{Held}
 use Rattle.line.specs.declared.Held.the-variants.{Nothing, Running, Waiting}
 use Rattle.line.specs.declared.Slot.{Slot}
@@ -17,17 +19,19 @@ use Rattle.table.specs.declared.Request.{Request}
 use Rattle.table.specs.declared.Answer.{Answer}
 use Rattle.table.specs.declared.Answer.the-variants.{Start, Refused}
 use Rattle.table.specs.declared.Stepped.{Stepped}
-use Rattle.line.specs.Slots.{pick, waitWith, holding, empty, begun, slotAt, at, mapAt, isNothing, lowestOf}
+use Rattle.line.specs.Slots.{pick, waitWith, holding, empty, begun, following, slotAt, at, mapAt, isNothing, lowestOf}
 use Rattle.line.specs.Demand.{endOf, lastEnd}
 use Rattle.line.specs.Stretch.{stretch, stretched}
 use Rattle.line.specs.Tick.{served, passed, servedSlot, short}
-use Rattle.table.specs.Counts.{sum, accounted, fault, hadAfter}
+use Rattle.line.specs.Leave.{letGo, letGoSlot}
+use Rattle.table.specs.Counts.{sum, accounted, fault, settle}
 use Rattle.table.specs.Grounds.{entry, asked}
 use Rattle.table.specs.Ask.{askOf}
 use Rattle.table.specs.Admit.{newLine, putAt, admitWith}
 use Rattle.table.specs.Step.{choose, serve, pass, stepUnless, ticked, advance, stepOf}
-use Rattle.table.specs.Runs.{Act, asking, admitting, stepping, after}
-use Rattle.table.proofs.Counts.{faultless, length-had, tick-within}
+use Rattle.table.specs.Runs.{Act, asking, admitting, stepping, leaving, after}
+use Rattle.table.proofs.Counts.{count-within, faultless, booked-within}
+use Rattle.table.proofs.LettingGo.{may-inside, left-is}
 use Rattle.image.specs.Image.{Narrow, AllNarrow, InEight, TableWidths}
 use Rattle.theory.proofs.Numbers.{split}
 use Rattle.theory.proofs.Tail.{last-within}
@@ -37,6 +41,7 @@ use Rattle.theory.proofs.Trace.{length-tick}
 use Rattle.promises.specs.Images.{NarrowRequest, Narrowed}
 use Rattle.promises.proofs.Good.{at-last}
 use Rattle.promises.proofs.Kept.{admit-clock, admit-length, admit-counts}
+use Rattle.promises.proofs.Booking.{tick-length}
 
 -- ---- slot by slot
 
@@ -72,11 +77,17 @@ narrow-serve : (o : Option ℕ) (l : List Slot) → AllNarrow l → AllNarrow (s
 narrow-serve none l n = n
 narrow-serve (some j) l n = narrow-put (some j) (servedSlot (slotAt l j)) l (narrow-served (at l j) (narrow-at l n j)) n
 
+-- R46, R99: what follows a period
+narrow-following : (f : Follows) (C T : ℕ) → C < 65536 → T < 65536 → Narrow (following f C T)
+narrow-following Renews C T c p = (c, p, omega arith, c)
+narrow-following Leaves C T c p = omega arith
+
 -- R45 to R47: an age rises only where it stays below its period
 narrow-passed : (h : Held) → Narrow h → Narrow (passed h)
 narrow-passed Nothing n = n
 narrow-passed (Running r) n =
-    split (r .period) (r .age + 1) (λ g. rw (le-ltb (r .age + 1) (r .period) g) (omega arith)) (λ g. rw (lt-ltb (r .age + 1) (r .period) g) (omega arith))
+    split (r .period) (r .age + 1) (λ g. rw (le-ltb (r .age + 1) (r .period) g) (narrow-following (r .follows) (r .need) (r .period) (n .0) (n .1)))
+    (λ g. rw (lt-ltb (r .age + 1) (r .period) g) (omega arith))
 narrow-passed (Waiting w) n =
     split (w .wait) 1 (λ g. rw (le-ltb 1 (w .wait) g) (omega arith)) (λ g. rw (lt-ltb 1 (w .wait) g) (omega arith))
 
@@ -92,14 +103,15 @@ wide-within (n ∷ l) h = (omega arith, wide-within l (omega arith))
 -- R45, R97: a tick before the last, of a table that accounts for no more than its clock
 wide-ticked : (o : Option ℕ) (t : Table) → TableWidths 16 t → accounted t ≤ t .clock → t .clock < 2 ^ 48 → TableWidths 16 (ticked o t .table)
 wide-ticked o t w a h =
-    let s = tick-within o (t .had) (t .idle) in
+    let s = booked-within o t in
     record {
       slots = length-tick o (t .slots) ∙ w .slots;
       clock = omega arith;
       lines = narrow-pass (serve o (t .slots)) (narrow-serve o (t .slots) (w .lines));
-      counts = length-had o (t .had) ∙ w .counts;
-      had = wide-within (hadAfter o (t .had)) (omega (arith, s));
+      counts = tick-length o t ∙ w .counts;
+      had = wide-within (ticked o t .table .had) (omega (arith, s));
       idle = omega (arith, s);
+      departed = omega (arith, s);
     }
 
 wide-unless : (o : Option ℕ) (n : ℕ) (t : Table) (s : Stepped) → TableWidths 16 t → TableWidths 16 (s .table) → TableWidths 16 (stepUnless o n t s .table)
@@ -180,12 +192,13 @@ wide-put (some k) [] w = tt
 wide-put (some zero) (n ∷ l) w = (omega arith, w .1)
 wide-put (some (suc k)) (n ∷ l) w = (w .0, wide-put (some k) l (w .1))
 
-wide-counts : (t : Table) (q : Request) → TableWidths 16 t → All InEight (after (admitting q) t .had) × InEight (after (admitting q) t .idle)
+wide-counts : (t : Table) (q : Request) → TableWidths 16 t
+    → All InEight (after (admitting q) t .had) × InEight (after (admitting q) t .idle) × InEight (after (admitting q) t .departed)
 wide-counts t q w = go (askOf t q)
   where
-    go : (a : Answer) → All InEight (admitWith t q a .table .had) × InEight (admitWith t q a .table .idle)
-    go (Start r) = (wide-put (lowestOf isNothing (t .slots)) (t .had) (w .had), w .idle)
-    go (Refused x) = (w .had, w .idle)
+    go : (a : Answer) → All InEight (admitWith t q a .table .had) × InEight (admitWith t q a .table .idle) × InEight (admitWith t q a .table .departed)
+    go (Start r) = (wide-put (lowestOf isNothing (t .slots)) (t .had) (w .had), w .idle, w .departed)
+    go (Refused x) = (w .had, w .idle, w .departed)
 
 -- R42: an admission keeps the code's widths, granted or not
 pub wide-admit : (t : Table) (q : Request) → NarrowRequest q → TableWidths 16 t → TableWidths 16 (after (admitting q) t)
@@ -196,10 +209,41 @@ wide-admit t q f w = record {
   counts = admit-counts t q ∙ w .counts;
   had = wide-counts t q w .0;
   idle = wide-counts t q w .1;
+  departed = wide-counts t q w .2;
 }
+
+-- ---- a leave
+
+narrow-let-go : (h : Held) → Narrow h → Narrow (letGo h)
+narrow-let-go Nothing n = n
+narrow-let-go (Running r) n = n
+narrow-let-go (Waiting w) n = omega arith
+
+-- R101: what a line had is no more than what is accounted for
+wide-settled : (t : Table) (n : ℕ) (b : Bool) → TableWidths 16 t → accounted t ≤ t .clock → n < length (t .had)
+    → (length (pick b (settle n t) t .had) ≡ 16) × All InEight (pick b (settle n t) t .had) × InEight (pick b (settle n t) t .idle) × InEight (pick b (settle n t) t .departed)
+wide-settled t n false w a h = (w .counts, w .had, w .idle, w .departed)
+wide-settled t n true w a h =
+    (length-set (t .had) n 0 ∙ w .counts, wide-put (some n) (t .had) (w .had), w .idle, omega (arith, a, w .clock, count-within (t .had) n 0 h))
+
+-- R100: a leave keeps the code's widths, granted or not
+pub wide-leave : (t : Table) (n : ℕ) → TableWidths 16 t → TableWidths 16 (after (leaving n) t)
+wide-leave t n w =
+    left-is (TableWidths 16) t n w
+    (λ f m. let s = wide-settled t n (isNothing (letGo (at (t .slots) n))) w (faultless t f .1) (omega (arith, may-inside (t .slots) n m, w .slots, w .counts)) in
+    record {
+      slots = length-set (t .slots) n (letGoSlot (slotAt (t .slots) n)) ∙ w .slots;
+      clock = w .clock;
+      lines = narrow-set (t .slots) n (letGoSlot (slotAt (t .slots) n)) (w .lines) (narrow-let-go (at (t .slots) n) (narrow-at (t .slots) (w .lines) n));
+      counts = s .0;
+      had = s .1;
+      idle = s .2;
+      departed = s .3;
+    })
 
 -- R3, R73: every act keeps the code's widths
 pub wide-after : (a : Act) (t : Table) → Narrowed a → TableWidths 16 t → TableWidths 16 (after a t)
 wide-after (asking q) t f w = w
 wide-after (admitting q) t f w = wide-admit t q f w
 wide-after stepping t f w = wide-step t w
+wide-after (leaving n) t f w = wide-leave t n w

@@ -9,13 +9,15 @@ use Rattle.line.specs.Demand.{lastEnd}
 use Rattle.line.specs.Shares.{periodsIn}
 use Rattle.table.specs.Ask.{says, askIn, askOf}
 use Rattle.line.specs.Ends.{endsOf, slack, bound, greatest, anyOf, start}
+use Rattle.table.specs.Counts.{settling}
 use Rattle.table.specs.Step.{saysRan, chosen, advance, stepOf}
+use Rattle.table.specs.Leave.{saysLeaving, leaveOf}
 use Rattle.table.specs.Cases.{Case}
 use Rattle.card.specs.Bytes.{marked}
 use Rattle.card.specs.Card.{cardOf}
 use Rattle.card.specs.Reading.{recordOf, recordsOf, readWith, readOf}
 use Rattle.card.specs.Answers.{lengthOf, writeOf}
-use Rattle.promises.specs.Witnesses.{askMeets, Meets, stepMeets, BrokenCard, readMeets, ShortBuffer, writeMeets}
+use Rattle.promises.specs.Witnesses.{askMeets, Meets, stepMeets, NoLeave, leaveMeets, BrokenCard, readMeets, ShortBuffer, writeMeets}
 
 -- R20, R21 to R30
 pub ask-meets : map (λ (c : Case). says (askOf (c .table) (c .request))) askMeets ≡ map (λ (c : Case). c .answer) askMeets
@@ -24,8 +26,13 @@ ask-meets = refl
 
 -- R20, R24, R34, R35
 pub step-meets : map (λ (m : Meets). saysRan (stepOf (m .table) .outcome)) stepMeets ≡ map (λ (m : Meets). refuses (m .refused)) stepMeets
-unfolding lowest chosen advance stepOf stepMeets
+unfolding lowest chosen settling advance stepOf stepMeets
 step-meets = refl
+
+-- R20, R24, R36
+pub leave-meets : map (λ (m : NoLeave). saysLeaving (leaveOf (m .table) (m .number) .leaving)) leaveMeets ≡ map (λ (m : NoLeave). refuses (m .refused)) leaveMeets
+unfolding lowest leaveOf leaveMeets
+leave-meets = refl
 
 -- R20, R31
 pub read-meets : map (λ (c : BrokenCard). readOf (c .bytes)) readMeets ≡ map (λ (c : BrokenCard). refuses (c .refused)) readMeets

@@ -8,9 +8,11 @@ use Rattle.table.specs.declared.Request.{Request}
 use Rattle.table.specs.declared.Answer.{Answer}
 use Rattle.table.specs.declared.Stepped.{Stepped}
 use Rattle.table.specs.declared.Outcome.{Outcome}
+use Rattle.table.specs.declared.Left.{Left}
 use Rattle.table.specs.Words.{emptyTable}
 use Rattle.table.specs.Ask.{says}
 use Rattle.table.specs.Step.{stepOf}
+use Rattle.table.specs.Leave.{leaveOf}
 use Rattle.card.specs.declared.ReadCard.{ReadCard}
 use Rattle.card.specs.declared.WriteAnswer.{WriteAnswer}
 use Rattle.card.specs.Reading.{readOf}
@@ -25,12 +27,16 @@ use Rattle.image.specs.Answers.{handedOut, storeOf, storedIn}
 use Rattle.calls.specs.declared.Result.{Result}
 use Rattle.calls.specs.Results.{resultOf}
 use Rattle.calls.specs.Cards.{lineFor, putOf, rewriteAs, rewrittenOf, runOf}
-use Rattle.calls.specs.Tables.{askFor, afterAdmit, stepFor, afterStep, ReadyFor, countsFor, countsAfter}
+use Rattle.calls.specs.Tables.{askFor, afterAdmit, stepFor, afterStep, leaveFor, afterLeave, ReadyFor, countsFor, countsAfter}
 use Rattle.calls.specs.Moves.{writeCardFor, cardAfter, readCardFor, imageAfter, numbersAfter}
 
 -- R48: step, and driven, which steps a table of its own
 abbrev pub Steps : Table → Stepped → Type 0
 Steps t s = s ≡ stepOf t
+
+-- R100: leave
+abbrev pub LetsGo : Table → (number : ℕ) → Left → Type 0
+LetsGo t n r = r ≡ leaveOf t n
 
 -- R51: drive answers o and leaves the table u behind the reference
 abbrev pub Drives : Table → Outcome → Table → Type 0
@@ -85,6 +91,10 @@ AdmitsImage l q r m = (r ≡ askFor (loadOf l) q) × (m ≡ afterAdmit (loadOf l
 -- R88: trimthuel_step answers r and leaves the bytes m
 abbrev pub StepsImage : (image : List ℕ) → Result → List ℕ → Type 0
 StepsImage l r m = (r ≡ stepFor (loadOf l)) × (m ≡ afterStep (loadOf l) l)
+
+-- R102: trimthuel_leave answers r and leaves the bytes m
+abbrev pub LetsGoImage : (image : List ℕ) (number : ℕ) → Result → List ℕ → Type 0
+LetsGoImage l n r m = (r ≡ leaveFor (loadOf l) n) × (m ≡ afterLeave (loadOf l) n l)
 
 -- R89: trimthuel_ready, which is lent no byte to write
 abbrev pub ReadiesImage : (image : List ℕ) → Result → Type 0

@@ -11,10 +11,12 @@ use Rattle.table.specs.declared.Answer.{Answer}
 use Rattle.table.specs.declared.Admitted.{Admitted}
 use Rattle.table.specs.declared.Stepped.{Stepped}
 use Rattle.table.specs.declared.Outcome.{Outcome}
+use Rattle.table.specs.declared.Left.{Left}
 use Rattle.table.specs.Words.{emptyTable, gives, refuses}
 use Rattle.table.specs.Grounds.{grounds, FirstOf, Answers}
 use Rattle.table.specs.Ask.{says, askOf}
 use Rattle.table.specs.Step.{saysRan, stepOf}
+use Rattle.table.specs.Leave.{saysLeaving, leaveOf}
 use Rattle.board.specs.Board.{ReadyWord, blinks}
 use Rattle.ask.specs.Asked.{Asked}
 use Rattle.admit.specs.Admits.{Admits}
@@ -29,9 +31,9 @@ use Rattle.image.specs.Loading.{loadOf}
 use Rattle.image.specs.Answers.{saidLoaded, storeOf}
 use Rattle.calls.specs.declared.Result.{Result}
 use Rattle.calls.specs.Cards.{lineFor, putOf, rewriteOf, runOf}
-use Rattle.calls.specs.Tables.{seventeen}
+use Rattle.calls.specs.Tables.{allCounts}
 use Rattle.calls.specs.Moves.{writeCardFor, readCardFor}
-use Rattle.promises.specs.Contracts.{Steps, Drives, Reads, Writes, Puts, Loads, Stores, AnswersCard, Rewrites, RunsCard, Empties, AsksImage, AdmitsImage, StepsImage, ReadiesImage, CountsImage, WritesImage, ReadsImage}
+use Rattle.promises.specs.Contracts.{Steps, LetsGo, Drives, Reads, Writes, Puts, Loads, Stores, AnswersCard, Rewrites, RunsCard, Empties, AsksImage, AdmitsImage, StepsImage, LetsGoImage, ReadiesImage, CountsImage, WritesImage, ReadsImage}
 
 -- ---- one fixed answer
 
@@ -54,6 +56,7 @@ pub record FixedAnswer : Type 0 where
   pub ask : (t : Table) (q : Request) → One (Asked t q)
   pub admit : (t : Table) (q : Request) → One (Admits t q)
   pub step : (t : Table) → One (Steps t)
+  pub leave : (t : Table) (n : ℕ) → One (LetsGo t n)
   pub drive : (t : Table) → Both (Drives t)
   pub ready-word : (t : Table) → One (ReadyWord (t .slots))
   pub lamp : (n : ℕ) → One (λ (b : ℕ). b ≡ blinks n)
@@ -70,6 +73,7 @@ pub record FixedAnswer : Type 0 where
   pub ask-image : (l : List ℕ) (q : Request) → One (AsksImage l q)
   pub admit-image : (l : List ℕ) (q : Request) → Both (AdmitsImage l q)
   pub step-image : (l : List ℕ) → Both (StepsImage l)
+  pub leave-image : (l : List ℕ) (n : ℕ) → Both (LetsGoImage l n)
   pub ready-image : (l : List ℕ) → One (ReadiesImage l)
   pub counts-image : (l ns : List ℕ) → Both (CountsImage l ns)
   pub write-image : (l : List ℕ) (q : Request) (out : List ℕ) → Both (WritesImage l q out)
@@ -85,6 +89,7 @@ pub record RefusalKeeps : Type 0 where
   pub admit : (t : Table) (q : Request) (m : Admitted) (x : Refusal) → Admits t q m → says (m .answer) ≡ refuses x
       → FirstOf grounds t q x × (m .table ≡ t)
   pub step : (t : Table) (s : Stepped) (x : Refusal) → Steps t s → saysRan (s .outcome) ≡ refuses x → s .table ≡ t
+  pub leave : (t : Table) (n : ℕ) (r : Left) (x : Refusal) → LetsGo t n r → saysLeaving (r .leaving) ≡ refuses x → r .table ≡ t
   pub drive : (t : Table) (o : Outcome) (u : Table) (x : Refusal) → Drives t o u → saysRan o ≡ refuses x → u ≡ t
   -- the reader is lent nothing to change: it hands out the empty table, zeros and no slot, with the refusal
   pub read : (card : List ℕ) (c : ReadCard) (x : Refusal) → Reads card c → saidRead c ≡ refuses x
@@ -99,6 +104,7 @@ pub record RefusalKeeps : Type 0 where
   pub empty-image : (l : List ℕ) (r : Result) (m : List ℕ) → Empties l r m → (r .number ≡ 0 → ⊥) → m ≡ l
   pub admit-image : (l : List ℕ) (q : Request) (r : Result) (m : List ℕ) → AdmitsImage l q r m → (r .number ≡ 0 → ⊥) → m ≡ l
   pub step-image : (l : List ℕ) (r : Result) (m : List ℕ) → StepsImage l r m → (r .number ≡ 0 → ⊥) → m ≡ l
+  pub leave-image : (l : List ℕ) (n : ℕ) (r : Result) (m : List ℕ) → LetsGoImage l n r m → (r .number ≡ 0 → ⊥) → m ≡ l
   pub counts-image : (l ns : List ℕ) (r : Result) (m : List ℕ) → CountsImage l ns r m → (r .number ≡ 0 → ⊥) → m ≡ ns
   pub write-image : (l : List ℕ) (q : Request) (out : List ℕ) (r : Result) (m : List ℕ) → WritesImage l q out r m → (r .number ≡ 0 → ⊥) → m ≡ out
   pub read-image : (card l ns : List ℕ) (r : Result) (m n : List ℕ) → ReadsImage card l ns r m n → (r .number ≡ 0 → ⊥) → (m ≡ l) × (n ≡ ns)
@@ -117,8 +123,10 @@ pub record ToldApart : Type 0 where
       → (t : Table) × (loadOf l ≡ gives t) × ((s : ℕ) × (says (askOf t q) ≡ gives s))
   pub step-image : (l : List ℕ) (r : Result) (m : List ℕ) → StepsImage l r m → r .number ≡ 0
       → (t : Table) × (loadOf l ≡ gives t) × ((o : Option ℕ) × (saysRan (stepOf t .outcome) ≡ gives o))
+  pub leave-image : (l : List ℕ) (n : ℕ) (r : Result) (m : List ℕ) → LetsGoImage l n r m → r .number ≡ 0
+      → (t : Table) × (loadOf l ≡ gives t) × ((k : ℕ) × (saysLeaving (leaveOf t n .leaving) ≡ gives k))
   pub ready-image : (l : List ℕ) (r : Result) → ReadiesImage l r → r .number ≡ 0 → (t : Table) × (loadOf l ≡ gives t)
-  pub counts-image : (l ns : List ℕ) (r : Result) (m : List ℕ) → CountsImage l ns r m → r .number ≡ 0 → (t : Table) × (loadOf l ≡ gives t) × (m ≡ seventeen t)
+  pub counts-image : (l ns : List ℕ) (r : Result) (m : List ℕ) → CountsImage l ns r m → r .number ≡ 0 → (t : Table) × (loadOf l ≡ gives t) × (m ≡ allCounts t)
   pub write-image : (l : List ℕ) (q : Request) (out : List ℕ) (r : Result) (m : List ℕ) → WritesImage l q out r m → r .number ≡ 0
       → (n : ℕ) × (writeCardFor (loadOf l) q (length out) ≡ gives n)
   pub read-image : (card l ns : List ℕ) (r : Result) (m n : List ℕ) → ReadsImage card l ns r m n → r .number ≡ 0

@@ -2,28 +2,34 @@
 use Prim.Native.Nat.{ℕ, _+_, _-_, _^_, _≤_, _<_}
 use mathlib.Core.Path.{_≡_}
 use mathlib.Core.List.{List, [], _∷_}
-use mathlib.Core.Option.{Option, some}
+use mathlib.Core.Option.{Option, none, some}
 use lib.ListN.{take, drop, replicate}
+use mathlib.Core.Bool.{true}
 use Rattle.line.specs.declared.Held.{Held}
+use Rattle.line.specs.declared.Held.the-variants.{Nothing}
 use Rattle.table.specs.declared.Table.{Table}
 use Rattle.table.specs.declared.Request.{Request}
 use Rattle.table.specs.declared.Refusal.{Refusal}
 use Rattle.table.specs.Words.{emptyTable, refusal, gives, refuses}
-use Rattle.line.specs.Slots.{ifRuns, RunsAs, at, Each, isNothing, lowestOf}
+use Rattle.line.specs.Slots.{ifRuns, RunsAs, at, Each, isNothing, Waits, lowestOf}
 use Rattle.line.specs.Sound.{Sound}
 use Rattle.line.specs.Demand.{lastEnd}
+use Rattle.line.specs.Leave.{isParting}
 use Rattle.table.specs.Grounds.{entry, asked, Answers}
+use Rattle.table.specs.Counts.{fault}
 use Rattle.table.specs.Ask.{says, askOf}
 use Rattle.table.specs.Admit.{admittedAt}
 use Rattle.table.specs.Step.{saysRan, stepOf}
-use Rattle.table.specs.Runs.{Act, asking, admitting, stepping, after, run, trace, times}
+use Rattle.table.specs.Leave.{saysLeaving, leaveOf}
+use Rattle.table.specs.Runs.{Act, asking, admitting, stepping, leaving, after, run, trace, times}
 
 -- ---- no missed period
 
--- R74: what is promised of every table that a run comes to: it is sound; a step from it names who ran, but at the last tick, and a step that is
--- refused is refused with 15 at the last tick
+-- R74: what is promised of every table that a run comes to: it is sound, and no ask, admission or leave is refused with 4; a step from it names who ran, but at the
+-- last tick, and a step that is refused is refused with 15 at the last tick
 pub record Unfailing (t : Table) : Type 0 where
   pub sound : Each Sound (t .slots)
+  pub no-fault : fault t ≡ none
   pub clock-in : t .clock ≤ 2 ^ 48
   pub goes-on : t .clock < 2 ^ 48 → (o : Option ℕ) × (saysRan (stepOf t .outcome) ≡ gives o)
   pub only-fifteen : (x : Refusal) → saysRan (stepOf t .outcome) ≡ refuses x → (x ≡ refusal 15 0) × (t .clock ≡ 2 ^ 48)
@@ -62,26 +68,64 @@ abbrev pub Stretches : ℕ → Act → Table → Type 0
 Stretches k (asking q) t = ⊥
 Stretches k (admitting q) t = ((r : ℕ) × (says (askOf t q) ≡ gives r)) × Lengthened (entry q k) (at (t .slots) k)
 Stretches k stepping t = ⊥
+Stretches k (leaving n) t = ⊥
 
 -- R76: no act before the tick `until` stretches slot k
 abbrev pub Unstretched : (k until : ℕ) → List Act → Table → Type 0
 Unstretched k until [] t = Unit {0}
 Unstretched k until (a ∷ rest) t = (t .clock < until → Stretches k a t → ⊥) × Unstretched k until rest (after a t)
 
--- R75: whatever is done next, when the clock is at r slot k runs with all its need before it, and with a period of at least Tn: exactly Tn
+-- R75: the act removes the line of slot k, which waits
+abbrev pub Removes : ℕ → Act → Table → Type 0
+Removes k (asking q) t = ⊥
+Removes k (admitting q) t = ⊥
+Removes k stepping t = ⊥
+Removes k (leaving n) t = (n ≡ k) × Waits (at (t .slots) k)
+
+-- R75: no act before the tick `until` removes it
+abbrev pub Unremoved : (k until : ℕ) → List Act → Table → Type 0
+Unremoved k until [] t = Unit {0}
+Unremoved k until (a ∷ rest) t = (t .clock < until → Removes k a t → ⊥) × Unremoved k until rest (after a t)
+
+-- R75: whatever is done next, if it is not removed while it waits, when the clock is at r slot k runs with all its need before it, and with a period of at least Tn: exactly Tn
 -- where no admission up to then stretched it
 abbrev pub RunsFromStart : Type 0
 RunsFromStart = (acts : List Act) (q : Request) (r k : ℕ) → Admission acts q r k
-    → (more : List Act) → run more (admitted-table acts q) .clock ≡ r
+    → (more : List Act) → Unremoved k r more (admitted-table acts q) → run more (admitted-table acts q) .clock ≡ r
     → (T : ℕ) × RunsAs (q .need) T 0 (q .need) (at (run more (admitted-table acts q) .slots) k) × (q .period ≤ T)
     × (Unstretched k (r + 1) more (admitted-table acts q) → T ≡ q .period)
 
--- R76: the list of slots that ran names k exactly Cn times from r to r + Tn
+-- R76: the list of slots that ran names k exactly Cn times from r to r + Tn, also if the line is asked to leave in that time
 abbrev pub HasAllItsNeed : Type 0
 HasAllItsNeed = (acts : List Act) (q : Request) (r k : ℕ) → Admission acts q r k
-    → (more : List Act) → Unstretched k (r + q .period) more (admitted-table acts q)
+    → (more : List Act) → Unremoved k r more (admitted-table acts q) → Unstretched k (r + q .period) more (admitted-table acts q)
     → r + q .period ≤ run more (admitted-table acts q) .clock
     → times k (take (q .period) (drop (r - asking-table acts .clock) (trace more (admitted-table acts q)))) ≡ q .need
+
+-- ---- what a line that leaves gets
+
+-- R80: what is promised from the table t on, after which the line of slot k, of these numbers, has no other period
+pub record Parts (t : Table) (k C P a c : ℕ) : Type 0 where
+  -- up to its end it is there, with its need and its period, and leaves
+  pub stays : (more : List Act) → run more t .clock < t .clock + (P - a)
+      → (x : ℕ) × RunsAs C P (a + (run more t .clock - t .clock)) x (at (run more t .slots) k) × (isParting (at (run more t .slots) k) ≡ true)
+  -- by then it has had exactly what was left of its need
+  pub gets : (more : List Act) → t .clock + (P - a) ≤ run more t .clock → times k (take (P - a) (trace more t)) ≡ c
+  -- the tick that ends its period leaves nothing in its slot
+  pub frees : (more : List Act) → run more t .clock + 1 ≡ t .clock + (P - a) → run more t .clock < 2 ^ 48
+      → at (after stepping (run more t) .slots) k ≡ Nothing
+
+-- R80: of every leave of a run that is granted to a running line of these numbers: in P − a ticks it is gone
+abbrev pub LeavesAtItsEnd : Type 0
+LeavesAtItsEnd = (acts : List Act) (k n C P a c : ℕ) → saysLeaving (leaveOf (run acts emptyTable) k .leaving) ≡ gives n
+    → RunsAs C P a c (at (run acts emptyTable .slots) k)
+    → (n ≡ P - a) × Parts (after (leaving k) (run acts emptyTable)) k C P a c
+
+-- R100: and of one that is granted to a waiting line: it is gone at once
+abbrev pub LeavesAtOnce : Type 0
+LeavesAtOnce = (acts : List Act) (k n : ℕ) → saysLeaving (leaveOf (run acts emptyTable) k .leaving) ≡ gives n
+    → Waits (at (run acts emptyTable .slots) k)
+    → (n ≡ 0) × (at (after (leaving k) (run acts emptyTable) .slots) k ≡ Nothing)
 
 -- ---- no earlier start
 
@@ -93,7 +137,7 @@ stepped n t = run (replicate n stepping) t
 abbrev pub Sixteen : Request → Type 0
 Sixteen q = (i : ℕ) → entry q i < 2 ^ 16
 
--- R77: stepped on with no other admission, a step reports 14 for a period that ends before the tick `last`, and no step before it is refused
+-- R77: stepped on with no other admission and with nobody leaving, a step reports 14 for a period that ends before the tick `last`, and no step before it is refused
 pub record Misses (t : Table) (last : ℕ) : Type 0 where
   pub steps : ℕ
   pub slot : ℕ

@@ -1,4 +1,4 @@
--- Runs over the boundary, R78: lent bytes that only admit and step change are the image of the table that the same run comes to.
+-- Runs over the boundary, R78: lent bytes that only admit, step and leave change are the image of the table that the same run comes to.
 use Prim.Native.Nat.{ℕ, _^_, _<_}
 use mathlib.Core.Path.{_≡_}
 use mathlib.Core.List.{List, [], _∷_}
@@ -8,14 +8,14 @@ use Rattle.table.specs.declared.Table.{Table}
 use Rattle.table.specs.declared.Request.{Request}
 use Rattle.table.specs.Words.{emptyTable, refusal, gives}
 use Rattle.table.specs.Ask.{says, askOf}
-use Rattle.table.specs.Runs.{Act, asking, admitting, stepping, after, run}
+use Rattle.table.specs.Runs.{Act, asking, admitting, stepping, leaving, after, run}
 use Rattle.image.specs.Image.{size, imageOf, TableWidths}
 use Rattle.image.specs.Loading.{loadOf}
 use Rattle.image.specs.Answers.{storedIn}
 use Rattle.calls.specs.declared.Result.{Result}
 use Rattle.calls.specs.Results.{grantedAs, refusedAs, slotNumber}
-use Rattle.calls.specs.Tables.{askedAs, askFor, afterAdmit, steppedAs, stepFor, afterStep}
-use Rattle.promises.specs.Contracts.{Empties, AdmitsImage, StepsImage}
+use Rattle.calls.specs.Tables.{askedAs, askFor, afterAdmit, steppedAs, stepFor, afterStep, leftAs, leaveFor, afterLeave}
+use Rattle.promises.specs.Contracts.{Empties, AdmitsImage, StepsImage, LetsGoImage}
 use Rattle.promises.specs.Demand3.{Sixteen}
 
 -- ---- what is done to lent bytes
@@ -29,28 +29,31 @@ abbrev pub Narrowed : Act → Type 0
 Narrowed (asking q) = NarrowRequest q
 Narrowed (admitting q) = NarrowRequest q
 Narrowed stepping = Unit {0}
+Narrowed (leaving n) = Unit {0}
 
 -- R6, R73: and of every act of a run
 abbrev pub AllNarrowed : List Act → Type 0
 AllNarrowed [] = Unit {0}
 AllNarrowed (a ∷ rest) = Narrowed a × AllNarrowed rest
 
--- R86, R87, R88: the lent bytes after an act over the boundary
+-- R86, R87, R88, R102: the lent bytes after an act over the boundary
 abbrev pub imageBy : Act → List ℕ → List ℕ
 imageBy (asking q) l = l
 imageBy (admitting q) l = afterAdmit (loadOf l) q l
 imageBy stepping l = afterStep (loadOf l) l
+imageBy (leaving n) l = afterLeave (loadOf l) n l
 
 -- R78: the lent bytes after one act and then the others, refused ones included
 abbrev pub imageRun : List Act → List ℕ → List ℕ
 imageRun [] l = l
 imageRun (a ∷ rest) l = imageRun rest (imageBy a l)
 
--- R85, R87, R88: whatever the contracts allow, they leave these bytes
+-- R85, R87, R88, R102: whatever the contracts allow, they leave these bytes
 pub record LeftByContract : Type 0 where
   pub empty : (l : List ℕ) (r : Result) (m : List ℕ) → Empties l r m → m ≡ storedIn emptyTable l
   pub admit : (l : List ℕ) (q : Request) (r : Result) (m : List ℕ) → AdmitsImage l q r m → m ≡ imageBy (admitting q) l
   pub step : (l : List ℕ) (r : Result) (m : List ℕ) → StepsImage l r m → m ≡ imageBy stepping l
+  pub leave : (l : List ℕ) (n : ℕ) (r : Result) (m : List ℕ) → LetsGoImage l n r m → m ≡ imageBy (leaving n) l
 
 -- ---- what they are then
 
@@ -62,10 +65,11 @@ EmptyImage = (l : List ℕ) → length l ≡ size 16 → storedIn emptyTable l �
 abbrev pub ActsAlike : Type 0
 ActsAlike = (a : Act) (t : Table) → Narrowed a → TableWidths 16 t → (imageBy a (imageOf t) ≡ imageOf (after a t)) × TableWidths 16 (after a t)
 
--- R86, R87, R88: on the image of a table is answered what is answered on the table
+-- R86, R87, R88, R102: on the image of a table is answered what is answered on the table
 abbrev pub AnswersAlike : Type 0
 AnswersAlike = (t : Table) → TableWidths 16 t
     → ((q : Request) → askFor (loadOf (imageOf t)) q ≡ askedAs t (says (askOf t q))) × (stepFor (loadOf (imageOf t)) ≡ steppedAs t)
+    × ((n : ℕ) → leaveFor (loadOf (imageOf t)) n ≡ leftAs t n)
 
 -- R78: a run over the boundary
 abbrev pub ImageRuns : Type 0

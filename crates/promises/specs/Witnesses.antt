@@ -7,7 +7,7 @@ use Rattle.table.specs.declared.Request.{Request}
 use Rattle.table.specs.declared.Refusal.{Refusal}
 use Rattle.line.specs.Slots.{empty}
 use Rattle.table.specs.Words.{refusal, refuses}
-use Rattle.table.specs.Cases.{CaseLine, Case, line, running, waiting, tableOf, tallied, tableFor, requestFor, case, caseA, caseG, caseI, caseJ, caseL}
+use Rattle.table.specs.Cases.{CaseLine, Case, line, running, parting, waiting, tableOf, tallied, tableFor, requestFor, case, caseA, caseG, caseI, caseJ, caseL}
 use Rattle.card.specs.Layout.{TA}
 use Rattle.card.specs.Card.{cardOf}
 
@@ -47,6 +47,22 @@ stepMeets =
     ∷ record { table = tallied (1 ∷ []) 0 (tableOf 0 []); refused = refusal 4 0 }
     ∷ record { table = tableFor 0 (line 1 4 4 0 1 ∷ line 2 4 4 3 2 ∷ []); refused = refusal 14 1 }
     ∷ record { table = tableFor (2 ^ 48) []; refused = refusal 15 0 }
+    ∷ []
+
+-- a table and a number, and the refusal that they meet in a leave
+pub record NoLeave : Type 0 where
+  pub table : Table
+  pub number : ℕ
+  pub refused : Refusal
+
+-- R20: 4 in both its parts, and 16: no such slot, one that holds nothing, and a line that leaves already
+unfoldable pub leaveMeets : List NoLeave
+leaveMeets =
+    record { table = tableFor 0 (line 1 4 4 0 1 ∷ line 5 4 4 0 0 ∷ []); number = 0; refused = refusal 4 1 }
+    ∷ record { table = tallied (1 ∷ []) 0 (tableOf 0 (running 1 4 0 1 ∷ [])); number = 0; refused = refusal 4 0 }
+    ∷ record { table = tableOf 0 (running 1 4 0 1 ∷ []); number = 16; refused = refusal 16 16 }
+    ∷ record { table = tableOf 0 (running 1 4 0 1 ∷ []); number = 1; refused = refusal 16 1 }
+    ∷ record { table = tableOf 0 (parting 1 4 0 1 ∷ []); number = 0; refused = refusal 16 0 }
     ∷ []
 
 -- a card, and the refusal that it meets in the reader

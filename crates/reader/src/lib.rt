@@ -95,6 +95,9 @@ fn slot_record(s: &[u8]) -> Record
     if opens(s, &layout::TB) {
         return line(s, Mark::TB);
     }
+    if opens(s, &layout::TL) {
+        return line(s, Mark::TL);
+    }
     if opens(s, &layout::TF) {
         return Record::Slot(SlotRecord::free());
     }

@@ -15,7 +15,7 @@ const LIMIT: u64 = 1_000_000;
 pub const MOST: usize = 16;
 
 // R3: the longest time from one end of a line to the next: above every period, so that a line's second end can lie behind every first one
-const LONGEST: u32 = 65_536;
+pub const LONGEST: u32 = 65_536;
 
 // R28, R29: shares, claims and whole needs, of one line or of all, times the frame.
 struct Weights {

@@ -1,4 +1,4 @@
--- The laws of the counts, R95 to R97: what they add up to, the loop that takes them from the clock, and ground 4.
+-- The laws of the counts, R95 to R97 and R101: what they add up to, the loop that takes them from the clock, ground 4, and lines that depart.
 use Prim.Native.Nat.{ℕ, zero, suc, _+_, _-_, _≤_, _<_}
 use mathlib.Core.Path.{_≡_, refl, ap, sym, _∙_}
 use mathlib.Core.Bool.{Bool, true, false, not}
@@ -7,7 +7,7 @@ use mathlib.Core.Option.{Option, none, some}
 use native.Mathlib.Omega.{arith}
 use native.Mathlib.Numerals.{add-one}
 use native.Mathlib.Nat.{le-of-suc-le-suc}
-use native.Mathlib.Decide.{decLt}
+use native.Mathlib.Decide.{decLt, ℕ-discrete}
 use borrow.Author.Tests.{lt-ltb, le-ltb, ltb-false, eqb-true, eqb-false}
 use lib.Dec.{ltb, eqb}
 use lib.ListN.{length, drop, getD, set, replicate, length-set, drop-of-length-le}
@@ -15,12 +15,14 @@ use lib.Seq.{drop-cons, set-out, getD-set-same, getD-set-other}
 use Rattle.line.specs.declared.Slot.{Slot}
 use Rattle.line.specs.Slots.{pick, orElse, lowestOf}
 use Rattle.line.specs.Sound.{sound}
+use Rattle.line.proofs.Search.{true-false}
 use Rattle.table.specs.declared.Table.{Table}
 use Rattle.table.specs.declared.Which.{Which}
 use Rattle.table.specs.declared.Which.the-variants.{None, At}
 use Rattle.table.specs.Words.{tableWith, withLines, withSlots, withCounts, slotOf}
-use Rattle.table.specs.Counts.{hadBy, sum, accounted, fault, hadAfter, idleAfter, counting}
+use Rattle.table.specs.Counts.{hadBy, sum, accounted, fault, hadAfter, idleAfter, counting, settle, settling}
 use Rattle.table.specs.Admit.{putAt}
+use Rattle.table.specs.Step.{departsIn, booked}
 use Rattle.table.specs.Runs.{isSlot, isIdle}
 
 -- ---- what counts add up to
@@ -36,6 +38,12 @@ pub sum-set : (l : List ℕ) (k n : ℕ) → k < length l → sum (set l k n) + 
 sum-set [] k n h = absurd (omega arith)
 sum-set (m ∷ l) zero n h = omega arith
 sum-set (m ∷ l) (suc k) n h = omega (arith, sum-set l k n (le-of-suc-le-suc h))
+
+-- R101: a count taken out, and what is left
+pub sum-settle : (l : List ℕ) (k : ℕ) → sum (set l k 0) + getD l k 0 ≡ sum l
+sum-settle [] k = refl
+sum-settle (n ∷ l) zero = omega arith
+sum-settle (n ∷ l) (suc k) = omega (arith, sum-settle l k)
 
 -- a table of sixteen slots, and sixteen counts of 0
 pub sixteen-counts : (k : ℕ) (l : List Slot) → length l ≡ 16 → withCounts (tableWith k l) (replicate 16 0) 0 ≡ tableWith k l
@@ -65,21 +73,30 @@ module _ {clock left i : ℕ} {l : List ℕ} (v : Taking clock l left i) where
     next = sum-drop l i d (omega (arith, v .long))
 
     -- R96: count i is more than is left
-    pub take-stop : left < getD l i d → (idle : ℕ) → true ≡ ltb clock (sum l + idle)
-    take-stop b idle = sym (lt-ltb clock (sum l + idle) (omega (arith, v .rest, next)))
+    pub take-stop : left < getD l i d → (idle departed : ℕ) → true ≡ ltb clock (sum l + idle + departed)
+    take-stop b idle departed = sym (lt-ltb clock (sum l + idle + departed) (omega (arith, v .rest, next)))
 
     -- it is not, and is taken
     pub take-on : getD l i d ≤ left → Taking clock l (left - getD l i d) (i + 1)
     take-on b = record { long = v .long; rest = omega (arith, v .rest, next) }
 
-  -- R96: all counts are taken, and the idle one is held against what is left
-  pub take-end : 16 ≤ i → (idle : ℕ) → ltb left idle ≡ ltb clock (sum l + idle)
-  take-end h idle =
-      let e : sum (drop i l) ≡ 0 = ap sum (drop-of-length-le l {i = i} (omega (arith, v .long))) in
-      elim (decLt left idle) [
-        | yes b ↦ lt-ltb left idle b ∙ sym (lt-ltb clock (sum l + idle) (omega (arith, v .rest)))
-        | no b ↦ le-ltb left idle (omega arith) ∙ sym (le-ltb clock (sum l + idle) (omega (arith, v .rest)))
-      ]
+  module _ (h : 16 ≤ i) (idle departed : ℕ) where
+    all-taken : left + sum l ≡ clock
+    all-taken =
+        let e : sum (drop i l) ≡ 0 = ap sum (drop-of-length-le l {i = i} (omega (arith, v .long))) in
+        omega (arith, v .rest)
+
+    -- R96: all counts of slots are taken, and the idle one is more than is left
+    pub take-idle : left < idle → true ≡ ltb clock (sum l + idle + departed)
+    take-idle b = sym (lt-ltb clock (sum l + idle + departed) (omega (arith, all-taken)))
+
+    -- R96: it is not, and the departed one is held against what is left then
+    pub take-end : idle ≤ left → ltb (left - idle) departed ≡ ltb clock (sum l + idle + departed)
+    take-end a =
+        elim (decLt (left - idle) departed) [
+          | yes b ↦ lt-ltb (left - idle) departed b ∙ sym (lt-ltb clock (sum l + idle + departed) (omega (arith, all-taken)))
+          | no b ↦ le-ltb (left - idle) departed (omega arith) ∙ sym (le-ltb clock (sum l + idle + departed) (omega (arith, all-taken)))
+        ]
 
 -- ---- ground 4
 
@@ -161,8 +178,77 @@ tick-within (some k) l n =
 -- R42, R96: a count of 0 in the place of another accounts for no more
 pub put-within : (o : Option ℕ) (l : List ℕ) → sum (putAt o 0 l) ≤ sum l
 put-within none l = omega arith
-put-within (some k) l =
-    elim (decLt k (length l)) [
-      | yes h ↦ omega (arith, sum-set l k 0 h)
-      | no h ↦ omega (arith, ap sum (set-out l k 0 (omega arith)))
-    ]
+put-within (some k) l = omega (arith, sum-settle l k)
+
+-- ---- lines that depart
+
+-- R101: what a departed line had is still accounted for
+pub settle-accounted : (i : ℕ) (t : Table) → accounted (settle i t) ≡ accounted t
+settle-accounted i t = omega (arith, sum-settle (t .had) i)
+
+module _ (gone : ℕ → Bool) where
+  -- R101: nobody departs from slot n
+  pub settling-stay : (n : ℕ) (t : Table) → gone n ≡ false → settling gone (n + 1) t ≡ settling gone n t
+  unfolding settling
+  settling-stay n t e = rw (add-one, e)
+
+  -- R101: the line of slot n departs
+  pub settling-go : (n : ℕ) (t : Table) → gone n ≡ true → settling gone (n + 1) t ≡ settle n (settling gone n t)
+  unfolding settling
+  settling-go n t e = rw (add-one, e)
+
+  settling-step : (Q : Table → Type 0) (n : ℕ) (t : Table) (b : Bool) → Q t → Q (settle n t) → Q (pick b (settle n t) t)
+  settling-step Q n t true p q = q
+  settling-step Q n t false p q = p
+
+  -- what every departure keeps
+  pub settling-keeps : (Q : Table → Type 0) → ((i : ℕ) (t : Table) → Q t → Q (settle i t)) → (n : ℕ) (t : Table) → Q t → Q (settling gone n t)
+  unfolding settling
+  settling-keeps Q k zero t q = q
+  settling-keeps Q k (suc n) t q =
+      let p = settling-keeps Q k n t q in
+      settling-step Q n (settling gone n t) (gone n) p (k n (settling gone n t) p)
+
+  -- R101, R96: and all are still accounted for
+  pub settling-accounted : (n : ℕ) (t : Table) → accounted (settling gone n t) ≡ accounted t
+  settling-accounted n t = settling-keeps (λ u. accounted u ≡ accounted t) (λ i u e. settle-accounted i u ∙ e) n t refl
+
+  -- R101: there are as many counts as before
+  pub settling-length : (n : ℕ) (t : Table) → length (settling gone n t .had) ≡ length (t .had)
+  settling-length n t = settling-keeps (λ u. length (u .had) ≡ length (t .had)) (λ i u e. length-set (u .had) i 0 ∙ e) n t refl
+
+  -- R101: and as many idle ticks
+  pub settling-idle : (n : ℕ) (t : Table) → settling gone n t .idle ≡ t .idle
+  settling-idle n t = settling-keeps (λ u. u .idle ≡ t .idle) (λ i u e. e) n t refl
+
+  -- R101: the count of a line that stays is as it was
+  pub settling-other : (n : ℕ) (t : Table) (k : ℕ) → gone k ≡ false → hadBy (settling gone n t) k ≡ hadBy t k
+  unfolding settling
+  settling-other zero t k e = refl
+  settling-other (suc n) t k e = go (settling gone n t) (gone n) refl (settling-other n t k e)
+    where
+      go : (u : Table) (b : Bool) → gone n ≡ b → hadBy u k ≡ hadBy t k → hadBy (pick b (settle n u) u) k ≡ hadBy t k
+      go u true g r = getD-set-other (u .had) n k 0 0 (λ z. true-false g (ap gone (sym z) ∙ e)) ∙ r
+      go u false g r = r
+
+  -- R101: that of a line that departs is 0
+  pub settling-gone : (n : ℕ) (t : Table) (k : ℕ) → k < n → k < length (t .had) → gone k ≡ true → hadBy (settling gone n t) k ≡ 0
+  unfolding settling
+  settling-gone zero t k h l e = absurd (omega arith)
+  settling-gone (suc n) t k h l e =
+      elim (ℕ-discrete k n) [
+        | yes z ↦ here (settling gone n t) z (rw (settling-length n t) l)
+        | no z ↦ go (settling gone n t) (gone n) z (settling-gone n t k (omega arith) l e)
+      ]
+    where
+      here : (u : Table) → k ≡ n → k < length (u .had) → hadBy (pick (gone n) (settle n u) u) k ≡ 0
+      here u z h = rw (sym (ap gone z) ∙ e, ← z) (getD-set-same (u .had) k 0 0 h)
+
+      go : (u : Table) (b : Bool) → (k ≡ n → ⊥) → hadBy u k ≡ 0 → hadBy (pick b (settle n u) u) k ≡ 0
+      go u true z g = getD-set-other (u .had) n k 0 0 z ∙ g
+      go u false z g = g
+
+-- R97, R101: a tick leaves no more accounted for than one more
+pub booked-within : (o : Option ℕ) (t : Table) → accounted (booked o t) ≤ accounted t + 1
+booked-within o t =
+    omega (arith, settling-accounted (departsIn o (t .slots)) (length (t .slots)) (counting o t), tick-within o (t .had) (t .idle))

@@ -10,14 +10,14 @@ use Rattle.table.specs.declared.Table.{Table}
 use Rattle.table.specs.declared.Request.{Request}
 use Rattle.line.specs.Slots.{empty, total, mapAt, lowest}
 use Rattle.table.specs.Words.{requestWith, emptyTable, refusal, Said, gives, refuses}
-use Rattle.line.specs.Streams.{due, every, endsBefore}
+use Rattle.line.specs.Streams.{due, every, endsBefore, onlyEnd}
 use Rattle.line.specs.Demand.{lastEnd}
 use Rattle.table.specs.Grounds.{asked}
 use Rattle.line.specs.Shares.{frame, periodsIn}
 use Rattle.table.specs.Ask.{says, askIn, askOf}
 use Rattle.line.specs.Ends.{endsOf, slack, bound, greatest, anyOf, start}
 use Rattle.table.specs.Admit.{admitOf}
-use Rattle.table.specs.Cases.{CaseLine, Case, line, running, waiting, tableOf, tableFor, tallied, case, caseA, caseC, caseG, caseK, caseL}
+use Rattle.table.specs.Cases.{CaseLine, Case, line, running, parting, waiting, tableOf, tableFor, tallied, talliedWith, case, caseA, caseC, caseG, caseK, caseL}
 
 abbrev refused : (number place : ℕ) → Said ℕ
 refused n k = refuses (refusal n k)
@@ -122,6 +122,61 @@ countOrders =
     ∷ row (tallied (5 ∷ []) 0 (tableOf 5 (empty ∷ running 1 8 0 1 ∷ []))) (everyPeriod 7 1 8) (refused 5 1)
     ∷ []
 
+-- R95, R96: the departed count alone, and with the others: as many as the clock, and one more
+abbrev departures : List Case
+departures =
+    row (talliedWith (3 ∷ []) 2 4 (tableOf 9 (running 1 8 0 1 ∷ []))) (everyPeriod 8 1 4) (gives 9)
+    ∷ row (talliedWith (3 ∷ []) 2 5 (tableOf 9 (running 1 8 0 1 ∷ []))) (everyPeriod 8 1 4) (refused 4 0)
+    ∷ row (talliedWith [] 0 9 (tableOf 9 (running 1 8 0 1 ∷ []))) (everyPeriod 8 1 4) (gives 9)
+    ∷ row (talliedWith [] 0 10 (tableOf 9 (running 1 8 0 1 ∷ []))) (everyPeriod 8 1 4) (refused 4 0)
+    ∷ row (talliedWith [] 1 (2 ^ 64 - 1) (tableOf 9 (running 1 8 0 1 ∷ []))) (everyPeriod 8 1 4) (refused 4 0)
+    ∷ []
+
+-- ---- a line that leaves
+
+-- these T' from slot 0 up
+abbrev periodsOf : List ℕ → (Cn Tn : ℕ) → Request
+periodsOf ps Cn Tn = requestWith (ps ++ replicate (16 - length ps) 0) Cn Tn
+
+-- R10: what it is owed stays in the demand after its end: else the start would be 0, and a period would end short at 4; and nothing is added to it: in case E, its first
+-- line leaving, the start is 40 and not 45
+abbrev leavingDemand : List Case
+leavingDemand =
+    row (tableOf 0 (parting 2 8 6 2 ∷ running 2 8 4 2 ∷ running 4 16 0 0 ∷ [])) (periodsOf (8 ∷ 8 ∷ 16 ∷ []) 1 4) (gives 1)
+    ∷ row (tableOf 40 (parting 1 4 0 1 ∷ running 16 64 52 8 ∷ running 16 32 12 0 ∷ [])) (periodsOf (4 ∷ 64 ∷ 64 ∷ []) 1 4) (gives 40)
+    ∷ row (tableOf 40 (running 1 4 0 1 ∷ running 16 64 52 8 ∷ running 16 32 12 0 ∷ [])) (periodsOf (4 ∷ 64 ∷ 64 ∷ []) 1 4) (gives 45)
+    ∷ []
+
+-- R25: of a line that leaves, T' one less than T, equal, and one more; of both breaches the lowest slot; of a line that renews, one more is allowed
+abbrev leavingStretched : List Case
+leavingStretched =
+    row (tableOf 0 (running 1 8 0 1 ∷ parting 4 8 0 4 ∷ [])) (periodsOf (8 ∷ 7 ∷ []) 1 4) (refused 5 1)
+    ∷ row (tableOf 0 (running 1 8 0 1 ∷ parting 4 8 0 4 ∷ [])) (periodsOf (8 ∷ 8 ∷ []) 1 4) (gives 0)
+    ∷ row (tableOf 0 (running 1 8 0 1 ∷ parting 4 8 0 4 ∷ [])) (periodsOf (8 ∷ 9 ∷ []) 1 4) (refused 5 1)
+    ∷ row (tableOf 0 (running 1 8 0 1 ∷ running 4 8 0 4 ∷ [])) (periodsOf (8 ∷ 9 ∷ []) 1 4) (gives 0)
+    ∷ row (tableOf 0 (running 1 8 0 1 ∷ parting 1 8 0 1 ∷ running 1 8 0 1 ∷ [])) (periodsOf (8 ∷ 9 ∷ 7 ∷ []) 1 4) (refused 5 1)
+    ∷ row (tableOf 0 (running 1 8 0 1 ∷ running 1 8 0 1 ∷ parting 1 8 0 1 ∷ [])) (periodsOf (8 ∷ 7 ∷ 9 ∷ []) 1 4) (refused 5 1)
+    ∷ row (tableOf 0 (running 1 8 0 1 ∷ running 1 8 0 1 ∷ parting 1 8 0 1 ∷ [])) (periodsOf (8 ∷ 8 ∷ 9 ∷ []) 1 4) (refused 5 2)
+    ∷ []
+
+-- R22 to R24, R27 to R30, R15: it uses its slot, does not wait, must be sound; its period is in the frame, its share in 8 and 9, what it is owed in 10, its end may be
+-- the last; beside each the other side
+abbrev leavingCounts : List Case
+leavingCounts =
+    row (tableOf 0 (replicate 16 (parting 1 64 0 1))) (everyPeriod 64 1 64) (refused 2 0)
+    ∷ row (tableOf 0 (replicate 15 (parting 1 64 0 1))) (everyPeriod 64 1 64) (gives 0)
+    ∷ row (tableOf 0 (parting 5 4 0 0 ∷ [])) (everyPeriod 4 1 4) (refused 4 0)
+    ∷ row (tableOf 0 (parting 1 64 0 1 ∷ [])) (everyPeriod 64 1 15625) (gives 0)
+    ∷ row (tableOf 0 (parting 1 64 0 1 ∷ [])) (everyPeriod 64 1 15629) (refused 7 0)
+    ∷ row (tableOf 0 (parting 8 16 0 8 ∷ [])) (everyPeriod 16 8 16) (gives 0)
+    ∷ row (tableOf 0 (parting 8 16 0 8 ∷ [])) (everyPeriod 16 9 16) (refused 8 0)
+    ∷ row (tableOf 0 (parting 4 8 4 2 ∷ [])) (everyPeriod 8 1 2) (gives 0)
+    ∷ row (tableOf 0 (parting 4 8 4 3 ∷ [])) (everyPeriod 8 1 2) (refused 9 0)
+    ∷ row (tableOf 0 (parting 3 20 17 3 ∷ running 10 20 0 0 ∷ [])) (everyPeriod 20 1 4) (gives 0)
+    ∷ row (tableOf 0 (parting 4 20 17 4 ∷ running 10 20 0 0 ∷ [])) (everyPeriod 20 1 4) (refused 10 0)
+    ∷ row (tableOf 0 (parting 2 12 2 0 ∷ running 3 6 3 3 ∷ [])) (periodsOf (12 ∷ 6 ∷ []) 1 3) (gives 1)
+    ∷ []
+
 -- ---- the order: two neighbouring grounds hold, and beside it the first is mended
 
 abbrev neighbours : List Case
@@ -148,11 +203,11 @@ neighbours =
 
 -- all of them
 unfoldable pub askEdges : List Case
-askEdges = clocks ++ (slots ++ (soundness ++ (counts ++ (stretches ++ (newLines ++ (frames ++ (loads ++ (places ++ (countOrders ++ neighbours)))))))))
+askEdges = clocks ++ (slots ++ (soundness ++ (counts ++ (stretches ++ (newLines ++ (frames ++ (loads ++ (places ++ (countOrders ++ (neighbours ++ (departures ++ (leavingDemand ++ (leavingStretched ++ leavingCounts)))))))))))))
 
 -- R18, R19, R21 to R30: each ground on both sides of its edge, its place, and its order with the next
 pub ask-edges : map (λ (c : Case). says (askOf (c .table) (c .request))) askEdges ≡ map (λ (c : Case). c .answer) askEdges
-unfolding euclid gcdOf lcmOf frameFrom total lowest due lastEnd mapAt periodsIn every endsBefore endsOf slack bound greatest anyOf start askIn askOf askEdges
+unfolding euclid gcdOf lcmOf frameFrom total lowest due lastEnd mapAt periodsIn every endsBefore onlyEnd endsOf slack bound greatest anyOf start askIn askOf askEdges
 ask-edges = refl
 
 abbrev frameIn : Case → ℕ
@@ -163,15 +218,16 @@ pub frames-K-L : (frameIn caseK ≡ 1000000) × (frameIn caseL ≡ 1000256)
 unfolding euclid gcdOf lcmOf frameFrom mapAt periodsIn
 frames-K-L = (refl, refl)
 
--- R15: no line, a waiting one by its start, and the greatest of two
-pub last-end-edges : map (lastEnd 7) ([] ∷ (empty ∷ []) ∷ (waiting 1 8 3 ∷ []) ∷ (running 1 8 3 1 ∷ empty ∷ running 1 9 2 0 ∷ []) ∷ []) ≡ 7 ∷ 7 ∷ 10 ∷ 14 ∷ []
+-- R15: no line, a waiting one by its start, and the greatest of two, leaving or not
+pub last-end-edges : map (lastEnd 7) ([] ∷ (empty ∷ []) ∷ (waiting 1 8 3 ∷ []) ∷ (running 1 8 3 1 ∷ empty ∷ running 1 9 2 0 ∷ []) ∷ (running 1 8 3 1 ∷ parting 1 9 2 0 ∷ []) ∷ [])
+    ≡ 7 ∷ 7 ∷ 10 ∷ 14 ∷ 14 ∷ []
 unfolding lastEnd
 last-end-edges = refl
 
 -- R4, R2: the empty table
 pub empty-edges : (emptyTable .clock ≡ 0) × (length (emptyTable .slots) ≡ 16) × (map (λ (s : Slot). s .held) (emptyTable .slots) ≡ replicate 16 Nothing)
-    × (emptyTable .had ≡ replicate 16 0) × (emptyTable .idle ≡ 0)
-empty-edges = (refl, refl, refl, refl, refl)
+    × (emptyTable .had ≡ replicate 16 0) × (emptyTable .idle ≡ 0) × (emptyTable .departed ≡ 0)
+empty-edges = (refl, refl, refl, refl, refl, refl)
 
 -- ---- admit
 
@@ -183,7 +239,8 @@ pub record AdmitEdge : Type 0 where
 abbrev admits : Case → Table → AdmitEdge
 admits c t = record { asks = c; leaves = t }
 
--- a later start waits, one tick or more; one at the clock runs; a slot between others is the lowest empty one, and its count alone is 0 then; a refusal keeps the table
+-- a later start waits, one tick or more; one at the clock runs; a slot between others is the lowest empty one, and its count alone is 0 then; a line that leaves does so still; a
+-- refusal keeps the table
 unfoldable pub admitEdges : List AdmitEdge
 admitEdges =
     admits caseA (tableOf 8 (running 8 32 8 0 ∷ running 8 16 8 8 ∷ waiting 1 4 5 ∷ []))
@@ -191,6 +248,8 @@ admitEdges =
     ∷ admits caseC (tableOf 0 (running 3 5 0 3 ∷ []))
     ∷ admits (row (tallied (1 ∷ 2 ∷ 1 ∷ 2 ∷ []) 1 (tableOf 7 (running 1 8 2 1 ∷ empty ∷ running 2 8 3 1 ∷ empty ∷ []))) (everyPeriod 16 3 16) (gives 7))
     (tallied (1 ∷ 0 ∷ 1 ∷ 2 ∷ []) 1 (tableOf 7 (running 1 16 2 1 ∷ running 3 16 0 3 ∷ running 2 16 3 1 ∷ [])))
+    ∷ admits (row (talliedWith (1 ∷ 2 ∷ []) 1 3 (tableOf 7 (parting 1 8 2 1 ∷ empty ∷ running 2 8 3 1 ∷ []))) (periodsOf (8 ∷ 0 ∷ 16 ∷ []) 3 16) (gives 7))
+    (talliedWith (1 ∷ 0 ∷ []) 1 3 (tableOf 7 (parting 1 8 2 1 ∷ running 3 16 0 3 ∷ running 2 16 3 1 ∷ [])))
     ∷ admits caseG (tableFor 0 (line 4 8 8 4 3 ∷ []))
     ∷ admits (tallying (4 ∷ 3 ∷ 2 ∷ []) 1 (refused 4 0)) (tallied (4 ∷ 3 ∷ 2 ∷ []) 1 (tableOf 9 (running 1 8 0 1 ∷ [])))
     ∷ []
@@ -198,5 +257,5 @@ admitEdges =
 -- R42, R43: the answer and the whole table
 pub admit-edges : map {B = Said ℕ × Table} (λ (e : AdmitEdge). (says (admitOf (e .asks .table) (e .asks .request) .answer), admitOf (e .asks .table) (e .asks .request) .table)) admitEdges
     ≡ map (λ (e : AdmitEdge). (e .asks .answer, e .leaves)) admitEdges
-unfolding euclid gcdOf lcmOf frameFrom total lowest due lastEnd mapAt periodsIn every endsBefore endsOf slack bound greatest anyOf start askIn askOf admitEdges
+unfolding euclid gcdOf lcmOf frameFrom total lowest due lastEnd mapAt periodsIn every endsBefore onlyEnd endsOf slack bound greatest anyOf start askIn askOf admitEdges
 admit-edges = refl

@@ -18,13 +18,14 @@ use Rattle.table.specs.declared.Which.the-variants.{None, At}
 use Rattle.table.specs.declared.Outcome.the-variants.{Ran, Refused}
 use Rattle.table.specs.declared.Stepped.{Stepped}
 use Rattle.line.specs.Slots.{pick, empty, slotAt, at, mapAt, lowestOf}
-use Rattle.table.specs.Words.{withSlots, laterWith, slotOf, whichOf}
-use Rattle.table.specs.Counts.{fault, counting}
-use Rattle.table.specs.Step.{choose, serve, servedAt, pass, refusedStep, stepUnless, ticked, advance, stepOf}
-use Rattle.line.specs.Tick.{servedSlot, passedSlot, short}
+use Rattle.table.specs.Words.{withSlots, withCountsOf, laterWith, slotOf, whichOf}
+use Rattle.table.specs.Counts.{accounted, fault, counting, settle, settling}
+use Rattle.table.specs.Step.{choose, serve, servedAt, pass, refusedStep, stepUnless, departsIn, ticked, advance, stepOf}
+use Rattle.line.specs.Tick.{servedSlot, passedSlot, short, departs}
 use Rattle.line.proofs.Read.{read-any}
 use Rattle.line.proofs.Loops.{Mapping, map-start, map-on, map-end}
 use Rattle.line.proofs.Search.{Looking, look-start, look-on, look-stop, look-end}
+use Rattle.table.proofs.Counts.{settling-stay, settling-go, settling-accounted, tick-within}
 
 -- t is t₀ but for its slots: what a loop over the slots keeps
 pub record OnlySlots (t₀ t : Table) : Type 0 where
@@ -39,13 +40,21 @@ module _ {t₀ t : Table} (v : OnlySlots t₀ t) where
   pub only-on : (l : List Slot) → OnlySlots t₀ (withSlots t l)
   only-on l = record { same = ap (λ (x : Table). withSlots x l) (v .same) }
 
+  -- a line departs from both
+  pub only-settle : (i : ℕ) → OnlySlots (settle i t₀) (settle i t)
+  only-settle i = record { same = ap (settle i) (v .same) }
+
+  -- R96: both account for the same ticks
+  pub only-accounted : accounted t ≡ accounted t₀
+  only-accounted = ap accounted (v .same)
+
   -- with the slots that are wanted it is the table that is wanted
   pub only-end : {l : List Slot} → t .slots ≡ l → t ≡ withSlots t₀ l
   only-end e = v .same ∙ ap (withSlots t₀) e
 
 -- the table t at another clock
 abbrev clocked : ℕ → Table → Table
-clocked k t = record { clock = k; slots = t .slots; had = t .had; idle = t .idle }
+clocked k t = record { clock = k; slots = t .slots; had = t .had; idle = t .idle; departed = t .departed }
 
 -- serving leaves the number of slots as it was
 pub length-serve : (o : Option ℕ) (l : List Slot) → length (serve o l) ≡ length l
@@ -89,14 +98,20 @@ pub slot-of-which : (o : Option ℕ) → slotOf (whichOf o) ≡ o
 slot-of-which none = refl
 slot-of-which (some k) = refl
 
--- a tick of t, with the slot o served, that has come to slot i: in v it is counted, the slots below i are a tick later, and none of their periods ends short
+-- R97, R101: a tick counted, and who departs with it from the first i slots
+abbrev bookedTo : ℕ → Option ℕ → Table → Table
+bookedTo i o t = settling (departsIn o (t .slots)) i (counting o t)
+
+-- a tick of t, with the slot o served, that has come to slot i: in v it is counted, the slots below i are a tick later, who departs from them has, and none of their
+-- periods ends short
 pub record Ticking (o : Option ℕ) (t v : Table) (i : ℕ) : Type 0 where
-  pub counted : OnlySlots (counting o t) v
+  pub counted : OnlySlots (bookedTo i o t) v
   pub later : Mapping (λ k s. passedSlot (slotAt (serve o (t .slots)) k)) 16 (t .slots) (v .slots) i
   pub fine : Looking (λ k. short (at (serve o (t .slots)) k)) (length (serve o (t .slots))) i
 
 -- no slot is passed
 pub tick-start : (o : Option ℕ) {t v : Table} → length (t .slots) ≡ 16 → v ≡ counting o t → Ticking o t v 0
+unfolding settling
 tick-start o {t} e n = subst (λ (v : Table). Ticking o t v 0) (sym n) (record { counted = only-none; later = map-start _ e; fine = look-start _ _ })
 
 module _ {o : Option ℕ} {t v : Table} {i : ℕ} (x : Ticking o t v i) where
@@ -117,16 +132,52 @@ module _ {o : Option ℕ} {t v : Table} {i : ℕ} (x : Ticking o t v i) where
     pub tick-short : b ≡ true → lowestOf short (serve o (t .slots)) ≡ some i
     tick-short z = look-stop (x .fine) (inside h) (tick-sees ∙ z)
 
-    -- R45 to R47: it does not, and the slot is a tick later
-    pub tick-on : {r : Slot} → b ≡ false → r ≡ passedSlot s → Ticking o t (withSlots v (set (v .slots) i r)) (i + 1)
-    tick-on z f = record { counted = only-on (x .counted) _; later = map-on (x .later) d h (f ∙ ap passedSlot tick-here); fine = look-on (x .fine) (inside h) (tick-sees ∙ z) }
+    -- R45 to R47: it does not, and the slot is a tick later, its line departed or not
+    module _ {r : Slot} (z : b ≡ false) (f : r ≡ passedSlot s) {a : Bool} (m : a ≡ departs (s .held)) where
+      abbrev put : Table
+      put = withSlots v (set (v .slots) i r)
+
+      later-on : Mapping (λ k s. passedSlot (slotAt (serve o (t .slots)) k)) 16 (t .slots) (set (v .slots) i r) (i + 1)
+      later-on = map-on (x .later) d h (f ∙ ap passedSlot tick-here)
+
+      fine-on : Looking (λ k. short (at (serve o (t .slots)) k)) (length (serve o (t .slots))) (i + 1)
+      fine-on = look-on (x .fine) (inside h) (tick-sees ∙ z)
+
+      tick-parts : departsIn o (t .slots) i ≡ a
+      tick-parts = sym (m ∙ ap (λ (y : Slot). departs (y .held)) tick-here)
+
+      -- R45 to R47: it stays
+      pub tick-on : a ≡ false → Ticking o t put (i + 1)
+      tick-on e = record {
+        counted = subst (λ (u : Table). OnlySlots u put) (sym (settling-stay (departsIn o (t .slots)) i (counting o t) (tick-parts ∙ e))) (only-on (x .counted) _);
+        later = later-on;
+        fine = fine-on;
+      }
+
+      -- R101: it departs
+      pub tick-off : {u : Table} → a ≡ true → u ≡ settle i put → Ticking o t u (i + 1)
+      tick-off e g =
+          subst (λ (u : Table). Ticking o t u (i + 1)) (sym g)
+          (record {
+            counted = subst (λ (u : Table). OnlySlots u (settle i put)) (sym (settling-go (departsIn o (t .slots)) i (counting o t) (tick-parts ∙ e))) (only-settle (only-on (x .counted) _) i);
+            later = later-on;
+            fine = fine-on;
+          })
+
+  -- R96: what is accounted for has room in 64 bits
+  pub tick-room : (t .clock < 2 ^ 48) × (accounted t ≤ t .clock) → accounted v < 2 ^ 64
+  tick-room w =
+      omega (arith, only-accounted (x .counted), settling-accounted (departsIn o (t .slots)) i (counting o t), tick-within o (t .had) (t .idle))
 
   -- all slots are passed: what is left is the clock
-  pub tick-end : 16 ≤ i → (lowestOf short (serve o (t .slots)) ≡ none) × (clocked (t .clock + 1) v ≡ laterWith (counting o t) (pass (serve o (t .slots))))
+  pub tick-end : 16 ≤ i → (lowestOf short (serve o (t .slots)) ≡ none) × (clocked (t .clock + 1) v ≡ ticked o t .table)
   tick-end h =
       let n = length-serve o (t .slots) in
       let e = map-end (x .later) h ∙ map-from passedSlot (t .slots) (serve o (t .slots)) (sym n) in
-      (look-end (x .fine) (omega (arith, x .later .long)), ap (clocked (t .clock + 1)) (only-end (x .counted) e))
+      let m : i ≡ length (t .slots) = omega (arith, x .later .long, x .later .upto) in (
+        look-end (x .fine) (omega (arith, x .later .long)),
+        ap (clocked (t .clock + 1)) (only-end (x .counted) e) ∙ ap (λ (k : ℕ). withCountsOf (bookedTo k o t) (laterWith t (pass (serve o (t .slots))))) m,
+      )
 
 module _ (t : Table) (w : Which) where
   advance-by : (o : Option ℕ) → lowestOf short (serve (slotOf w) (t .slots)) ≡ o → stepUnless o 14 t (ticked (slotOf w) t) ≡ advance (slotOf w) t
@@ -138,7 +189,7 @@ module _ (t : Table) (w : Which) where
   advance-short {k} e = advance-by (some k) e
 
   -- R45 to R47: none does, and every slot is a tick later
-  pub advance-fine : {next : Table} → (lowestOf short (serve (slotOf w) (t .slots)) ≡ none) × (next ≡ laterWith (counting (slotOf w) t) (pass (serve (slotOf w) (t .slots))))
+  pub advance-fine : {next : Table} → (lowestOf short (serve (slotOf w) (t .slots)) ≡ none) × (next ≡ ticked (slotOf w) t .table)
       → _≡_ {A = Stepped} (record { table = next; outcome = Ran w }) (advance (slotOf w) t)
   advance-fine e =
       ap₂ (λ (x : Table) (y : Which). let s : Stepped = record { table = x; outcome = Ran y } in s) (e .1) (which-of w)

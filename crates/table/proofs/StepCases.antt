@@ -8,8 +8,9 @@ use Rattle.line.specs.declared.Slot.{Slot}
 use Rattle.table.specs.declared.Table.{Table}
 use Rattle.line.specs.Slots.{empty, lowest}
 use Rattle.table.specs.Words.{refusal, Said, gives, refuses}
+use Rattle.table.specs.Counts.{settling}
 use Rattle.table.specs.Step.{saysRan, chosen, advance, stepOf}
-use Rattle.table.specs.Cases.{running, waiting, tableOf, tallied}
+use Rattle.table.specs.Cases.{running, parting, waiting, tableOf, tallied, talliedWith}
 
 -- a table, what each step from it says, and the table that they leave
 pub record StepCase : Type 0 where
@@ -145,13 +146,35 @@ soundness =
     ∷ unsound (waiting 4 4 0)
     ∷ []
 
+-- R44 to R46, R99, R101: a line that leaves gets what is left of its period, which ends short like any other; at the end its slot holds nothing, and what it had, its last
+-- tick included, has departed; two may go at once; a line that renews beside it goes on, and so does the count beside a slot that held nothing
+abbrev departures : List StepCase
+departures =
+    steps (talliedWith (7 ∷ 5 ∷ []) 3 2 (tableOf 20 (parting 3 4 3 1 ∷ running 2 4 3 0 ∷ []))) (ran 0 ∷ []) (talliedWith (0 ∷ 5 ∷ []) 3 10 (tableOf 21 (empty ∷ running 2 4 0 2 ∷ [])))
+    ∷ steps (talliedWith (7 ∷ 5 ∷ []) 3 2 (tableOf 20 (parting 3 4 2 1 ∷ running 2 4 3 0 ∷ []))) (ran 0 ∷ []) (talliedWith (8 ∷ 5 ∷ []) 3 2 (tableOf 21 (parting 3 4 3 0 ∷ running 2 4 0 2 ∷ [])))
+    ∷ steps (tallied (4 ∷ 0 ∷ 6 ∷ 3 ∷ 5 ∷ []) 1 (tableOf 20 (parting 3 8 7 0 ∷ empty ∷ parting 3 4 3 0 ∷ empty ∷ running 2 9 1 0 ∷ []))) (nobody ∷ [])
+    (talliedWith (0 ∷ 0 ∷ 0 ∷ 3 ∷ 5 ∷ []) 2 10 (tableOf 21 (empty ∷ empty ∷ empty ∷ empty ∷ running 2 9 2 0 ∷ [])))
+    ∷ steps (tableOf 0 (parting 2 4 0 2 ∷ running 1 9 0 1 ∷ [])) (ran 0 ∷ ran 0 ∷ ran 1 ∷ nobody ∷ nobody ∷ []) (talliedWith (0 ∷ 1 ∷ []) 2 2 (tableOf 5 (empty ∷ running 1 9 5 0 ∷ [])))
+    ∷ keeps (tableOf 0 (running 1 4 3 1 ∷ parting 1 4 3 1 ∷ [])) (refused 14 1)
+    ∷ keeps (tableOf 0 (running 1 4 3 1 ∷ parting 5 4 3 1 ∷ [])) (refused 4 1)
+    ∷ []
+
+-- R96: the departed count too, alone and with the others
+abbrev tooManyDeparted : List StepCase
+tooManyDeparted =
+    steps (talliedWith (12 ∷ []) 10 8 (tableOf 30 (running 2 9 1 1 ∷ []))) (ran 0 ∷ []) (talliedWith (13 ∷ []) 10 8 (tableOf 31 (running 2 9 2 0 ∷ [])))
+    ∷ keeps (talliedWith (12 ∷ []) 10 9 (tableOf 30 (running 2 9 1 1 ∷ []))) (refused 4 0)
+    ∷ keeps (talliedWith [] 0 31 (tableOf 30 (running 2 9 1 1 ∷ []))) (refused 4 0)
+    ∷ keeps (talliedWith (1 ∷ []) 0 (2 ^ 64 - 1) (tableOf 30 (running 2 9 1 1 ∷ []))) (refused 4 0)
+    ∷ []
+
 -- R7, R35: the last tick is reached, and not left
 abbrev lastTick : StepCase
 lastTick = steps (tableOf (2 ^ 48 - 1) (running 1 4 0 1 ∷ [])) (ran 0 ∷ refused 15 0 ∷ []) (tallied (1 ∷ []) 0 (tableOf (2 ^ 48) (running 1 4 1 0 ∷ [])))
 
 -- all of them
 unfoldable pub stepCases : List StepCase
-stepCases = caseA ∷ equalEnds ∷ leastEnd ∷ renewal ∷ starts ∷ endsShort ∷ lowestShort ∷ lastTick ∷ (orders ++ (soundness ++ (tooMany ++ countOrders)))
+stepCases = caseA ∷ equalEnds ∷ leastEnd ∷ renewal ∷ starts ∷ endsShort ∷ lowestShort ∷ lastTick ∷ (orders ++ (soundness ++ (tooMany ++ (countOrders ++ (departures ++ tooManyDeparted)))))
 
 -- what n steps of t say, and the table that they leave
 abbrev pub stepped : ℕ → Table → List (Said (Option ℕ)) × Table
@@ -160,5 +183,5 @@ stepped (suc n) t = let r = stepped n (stepOf t .table) in (saysRan (stepOf t .o
 
 -- R44 to R48: each table with its steps
 pub all-step-cases : map (λ (c : StepCase). stepped (length (c .says)) (c .before)) stepCases ≡ map (λ (c : StepCase). (c .says, c .next)) stepCases
-unfolding lowest chosen advance stepOf stepCases
+unfolding lowest chosen settling advance stepOf stepCases
 all-step-cases = refl

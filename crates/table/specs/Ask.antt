@@ -17,7 +17,7 @@ use Rattle.line.specs.Demand.{lastEnd}
 use Rattle.table.specs.Grounds.{entry, asked}
 use Rattle.line.specs.Shares.{frame, share, claim, full}
 use Rattle.line.specs.Ends.{endsOf, anyOf, start, shortAt}
-use Rattle.line.specs.Stretch.{shrunk}
+use Rattle.line.specs.Stretch.{barred}
 
 -- R41: what each case of ask's answer says
 abbrev pub says : Answer → Said ℕ
@@ -55,6 +55,6 @@ askOf t q =
     (refusedIf (isNone (lowestOf isNothing (t .slots))) 2
     (refusedAt (lowestOf isWaiting (t .slots)) 3
     (refusedAt (fault t) 4
-    (refusedAt (lowest (λ i. shrunk (entry q i) (at (t .slots) i)) (length (t .slots))) 5
+    (refusedAt (lowest (λ i. barred (entry q i) (at (t .slots) i)) (length (t .slots))) 5
     (refusedIf (not (both (leb 1 (q .need)) (leb (q .need) (q .period)))) 6
     (askIn (t .clock) (frame (asked t q) (q .period)) (asked t q) (q .need) (q .period)))))))

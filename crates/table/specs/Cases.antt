@@ -2,12 +2,13 @@
 use Prim.Native.Nat.{ℕ, _-_}
 use mathlib.Core.List.{List, [], _∷_, _++_, map}
 use lib.ListN.{length, replicate}
+use Rattle.line.specs.declared.Follows.the-variants.{Leaves}
 use Rattle.line.specs.declared.Held.the-variants.{Running, Waiting}
 use Rattle.line.specs.declared.Slot.{Slot}
 use Rattle.table.specs.declared.Table.{Table}
 use Rattle.table.specs.declared.Request.{Request}
-use Rattle.line.specs.Slots.{runWith, waitWith, holding, empty}
-use Rattle.table.specs.Words.{tableWith, withCounts, requestWith, refusal, Said, gives, refuses}
+use Rattle.line.specs.Slots.{runThen, runWith, waitWith, holding, empty}
+use Rattle.table.specs.Words.{tableWith, withCounts, withDeparted, requestWith, refusal, Said, gives, refuses}
 
 -- a line of a case: C, T, T', age, remaining
 pub record CaseLine : Type 0 where
@@ -31,6 +32,10 @@ line C T T' a c = record { need = C; period = T; stretched = T'; age = a; remain
 abbrev pub running : (C T age remaining : ℕ) → Slot
 running C T a c = holding (Running (runWith C T a c))
 
+-- a slot that runs a line which leaves
+abbrev pub parting : (C T age remaining : ℕ) → Slot
+parting C T a c = holding (Running (runThen Leaves C T a c))
+
 -- a slot whose line waits
 abbrev pub waiting : (C T wait : ℕ) → Slot
 waiting C T w = holding (Waiting (waitWith C T w))
@@ -42,6 +47,10 @@ tableOf t0 l = tableWith t0 (l ++ replicate (16 - length l) empty)
 -- the table t with these counts from slot 0 up, 0 for the others, and this idle count
 abbrev pub tallied : (had : List ℕ) → (idle : ℕ) → Table → Table
 tallied ns n t = withCounts t (ns ++ replicate (16 - length ns) 0) n
+
+-- the same, and this departed count
+abbrev pub talliedWith : (had : List ℕ) → (idle departed : ℕ) → Table → Table
+talliedWith ns n d t = withDeparted (tallied ns n t) d
 
 -- the slot of a line of a case
 abbrev pub caseSlot : CaseLine → Slot

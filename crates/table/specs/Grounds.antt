@@ -15,7 +15,7 @@ use Rattle.table.specs.Counts.{accounted}
 use Rattle.line.specs.Sound.{Sound}
 use Rattle.line.specs.Demand.{demands, newDemand, excess, Least}
 use Rattle.line.specs.Shares.{frame, share, claim, full}
-use Rattle.line.specs.Stretch.{stretched, Shrunk}
+use Rattle.line.specs.Stretch.{stretched, Barred}
 
 -- R6: the T' that the request has for slot i
 abbrev pub entry : Request → ℕ → ℕ
@@ -45,9 +45,9 @@ Unsound t q k =
     Lowest (λ i. Sound (at (t .slots) i) → ⊥) (length (t .slots)) k
     ⊎ (Each Sound (t .slots) × (t .clock < accounted t) × (k ≡ 0))
 
--- R25: a period would be shortened
-abbrev pub Shorter : Table → Request → ℕ → Type 0
-Shorter t q = Lowest (λ i. Shrunk (entry q i) (at (t .slots) i)) (length (t .slots))
+-- R25: a line would have a period that it may not have
+abbrev pub Misstretched : Table → Request → ℕ → Type 0
+Misstretched t q = Lowest (λ i. Barred (entry q i) (at (t .slots) i)) (length (t .slots))
 
 -- R26: the new line does not fit its period
 abbrev pub Misfit : Table → Request → ℕ → Type 0
@@ -89,7 +89,7 @@ grounds =
     ∷ row 2 Full
     ∷ row 3 Waiters
     ∷ row 4 Unsound
-    ∷ row 5 Shorter
+    ∷ row 5 Misstretched
     ∷ row 6 Misfit
     ∷ row 7 Wide
     ∷ row 8 Overload

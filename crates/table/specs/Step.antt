@@ -1,5 +1,6 @@
 -- The step of the pump, R44 to R48: who gets the tick, the table a tick later, and the refusals 15, 4, 14.
 use Prim.Native.Nat.{ℕ, zero, suc, _^_, _≤_, _<_}
+use mathlib.Core.Bool.{Bool}
 use mathlib.Core.List.{List, map}
 use mathlib.Core.Option.{Option, none, some}
 use lib.Dec.{ltb, leb, eqb}
@@ -10,10 +11,10 @@ use Rattle.table.specs.declared.Outcome.{Outcome}
 use Rattle.table.specs.declared.Outcome.the-variants.{Ran, Refused}
 use Rattle.table.specs.declared.Stepped.{Stepped}
 use Rattle.line.specs.Slots.{pick, slotAt, at, lowestOf}
-use Rattle.table.specs.Words.{slotOf, laterWith, refusal, Said, gives, refuses, whichOf}
-use Rattle.table.specs.Counts.{fault, counting}
+use Rattle.table.specs.Words.{slotOf, withCountsOf, laterWith, refusal, Said, gives, refuses, whichOf}
+use Rattle.table.specs.Counts.{fault, counting, settling}
 use Rattle.table.specs.Admit.{putAt}
-use Rattle.line.specs.Tick.{Owed, isOwed, toEnd, servedSlot, short, passedSlot}
+use Rattle.line.specs.Tick.{Owed, isOwed, toEnd, servedSlot, short, departs, passedSlot}
 
 -- R48: what each case of a step's answer says: the slot that ran or none, or the refusal
 abbrev pub saysRan : Outcome → Said (Option ℕ)
@@ -69,9 +70,17 @@ abbrev pub stepUnless : Option ℕ → ℕ → Table → Stepped → Stepped
 stepUnless none n t s = s
 stepUnless (some k) n t s = refusedStep t n k
 
--- R45, R48: the tick in which the slot named, or none, is served, counted (R97), where no period ends short
+-- R101: the line of slot k departs with the tick in which the slot named, or none, is served
+abbrev pub departsIn : Option ℕ → List Slot → ℕ → Bool
+departsIn o l k = departs (at (serve o l) k)
+
+-- R97, R101: such a tick counted, and who departs with it
+abbrev pub booked : Option ℕ → Table → Table
+booked o t = settling (departsIn o (t .slots)) (length (t .slots)) (counting o t)
+
+-- R45, R48: the tick in which the slot named, or none, is served, counted, where no period ends short
 abbrev pub ticked : Option ℕ → Table → Stepped
-ticked o t = record { table = laterWith (counting o t) (pass (serve o (t .slots))); outcome = Ran (whichOf o) }
+ticked o t = record { table = withCountsOf (booked o t) (laterWith t (pass (serve o (t .slots)))); outcome = Ran (whichOf o) }
 
 -- R45, R48: a tick in which the slot named, or none, is served
 unfoldable pub advance : Option ℕ → Table → Stepped

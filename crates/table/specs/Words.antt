@@ -15,19 +15,27 @@ use Rattle.line.specs.Slots.{empty}
 
 -- R2, R95: a table of this clock and these slots, and every count 0
 abbrev pub tableWith : (clock : ℕ) → List Slot → Table
-tableWith k l = record { clock = k; slots = l; had = replicate (length l) 0; idle = 0 }
+tableWith k l = record { clock = k; slots = l; had = replicate (length l) 0; idle = 0; departed = 0 }
 
 -- R2, R95: the table t with these slots and these counts of them
 abbrev pub withLines : Table → List Slot → (had : List ℕ) → Table
-withLines t l ns = record { clock = t .clock; slots = l; had = ns; idle = t .idle }
+withLines t l ns = record { clock = t .clock; slots = l; had = ns; idle = t .idle; departed = t .departed }
 
 -- R2: the table t with these slots
 abbrev pub withSlots : Table → List Slot → Table
 withSlots t l = withLines t l (t .had)
 
--- R95: the table t with these counts
+-- R95: the table t with these counts of the slots, and this idle one
 abbrev pub withCounts : Table → (had : List ℕ) → (idle : ℕ) → Table
-withCounts t ns n = record { clock = t .clock; slots = t .slots; had = ns; idle = n }
+withCounts t ns n = record { clock = t .clock; slots = t .slots; had = ns; idle = n; departed = t .departed }
+
+-- R95: the table t with this departed count
+abbrev pub withDeparted : Table → (departed : ℕ) → Table
+withDeparted t n = record { clock = t .clock; slots = t .slots; had = t .had; idle = t .idle; departed = n }
+
+-- R95: the table t with the counts of u
+abbrev pub withCountsOf : Table → Table → Table
+withCountsOf u t = withDeparted (withCounts t (u .had) (u .idle)) (u .departed)
 
 -- R72: the table t with every count 0, as a card carries it
 abbrev pub uncounted : Table → Table
@@ -35,7 +43,7 @@ uncounted t = tableWith (t .clock) (t .slots)
 
 -- R45: the table t a tick later, with these slots
 abbrev pub laterWith : Table → List Slot → Table
-laterWith t l = record { clock = t .clock + 1; slots = l; had = t .had; idle = t .idle }
+laterWith t l = record { clock = t .clock + 1; slots = l; had = t .had; idle = t .idle; departed = t .departed }
 
 -- R6: a request of these T' and this new line
 abbrev pub requestWith : (stretched : List ℕ) → (Cn Tn : ℕ) → Request

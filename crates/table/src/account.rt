@@ -1,9 +1,9 @@
-// What each line has had, R95 to R97: the counts held against the clock, and a tick counted.
+// What each line has had, R95 to R97 and R101: the counts held against the clock, a tick counted, and a line that departs.
 ghost use mathlib.Core.Path.{_≡_};
 ghost use Prim.Native.Nat.{_^_, _≤_, _<_};
 ghost use lib.Dec.{ltb};
 ghost use Rattle.table.specs.Words.{slotOf};
-ghost use Rattle.table.specs.Counts.{accounted, fault, counting};
+ghost use Rattle.table.specs.Counts.{accounted, fault, counting, settle};
 use crate::Table;
 use crate::Which;
 
@@ -22,7 +22,10 @@ impl Table {
             left = left - n;
             i = i + 1;
         }
-        left < self.idle
+        if left < self.idle {
+            return true;
+        }
+        left - self.idle < self.departed
     }
 
     // R24: the lowest slot whose line is not sound; where every line is, place 0 if the counts are too many.
@@ -57,6 +60,17 @@ impl Table {
                 }
             }
         }
+        next
+    }
+
+    // R101: what the line of the slot named has had is counted with the departed ones.
+    pub(crate) fn settled(self, i: usize) -> Table
+        requires { ⌜ (i < 16) × (accounted self < 2 ^ 64) ⌝ }
+        ensures { λ r. ⌜ r ≡ settle i self ⌝ }
+    {
+        let mut next = self;
+        next.departed = self.departed + self.had[i];
+        next.had[i] = 0;
         next
     }
 }

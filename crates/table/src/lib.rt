@@ -5,14 +5,16 @@ ghost use Rattle.line.specs.Tick.{is};
 ghost use Rattle.table.specs.Words.{tableWith, requestWith, refusal, emptyTable, slotOf};
 
 mod account; // what each line has had
+mod leave; // a line let go
 mod pump; // the step
 
-// R2: the clock and the slots; R95: what the present line of each slot has had, and the ticks in which none ran.
+// R2: the clock and the slots; R95: what the present line of each slot has had, the ticks in which none ran, and what departed lines had.
 pub struct Table {
     pub clock: u64,
     pub slots: [line::Slot; 16],
     pub had: [u64; 16],
     pub idle: u64,
+    pub departed: u64,
 }
 
 // R6: a stretched period for each slot, and the new line. Entries of slots that hold no running line are not looked at.
@@ -58,6 +60,18 @@ pub struct Stepped {
     pub outcome: Outcome,
 }
 
+// R100: what leaving answers: in how many ticks the slot holds nothing.
+pub enum Leaving {
+    In(u16),
+    Refused(Refusal),
+}
+
+// R100: the table as it is then, and what leaving answers.
+pub struct Left {
+    pub table: Table,
+    pub leaving: Leaving,
+}
+
 impl Refusal {
     // R17: the refusal with this number and place.
     pub fn new(number: u16, place: u64) -> Refusal
@@ -93,6 +107,7 @@ impl Table {
             slots: slots,
             had: [0; 16],
             idle: 0,
+            departed: 0,
         }
     }
 

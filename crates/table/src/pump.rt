@@ -72,6 +72,7 @@ impl Table {
     }
 
     // R45 to R48: a tick in which the slot named, or none, is served: what each slot holds then, or 14 at the lowest whose period ends short (R34).
+    // What a line had that departs with it is counted so (R101).
     fn advance(self, w: Which) -> Stepped
         requires { ⌜ (self .clock < 2 ^ 48) × (accounted self ≤ self .clock) ⌝ }
         ensures { λ r. ⌜ r ≡ advance (slotOf w) self ⌝ }
@@ -86,6 +87,9 @@ impl Table {
             }
             let later = s.passed();
             next.slots[i] = later;
+            if s.departs() {
+                next = next.settled(i);
+            }
             i = i + 1;
         }
         next.clock = self.clock + 1;

@@ -19,15 +19,15 @@ use Rattle.table.specs.Words.{Said, gives, refuses}
 use Rattle.line.specs.Sound.{Sound, sound}
 use Rattle.line.specs.Demand.{lastEnd}
 use Rattle.table.specs.Counts.{accounted, fault}
-use Rattle.table.specs.Grounds.{entry, asked, Late, Full, Waiters, Unsound, Shorter, Misfit, Wide, Overload, Behind, Short, Row, row, AnswersBy, Answers}
-use Rattle.line.specs.Stretch.{Shrunk, shrunk}
+use Rattle.table.specs.Grounds.{entry, asked, Late, Full, Waiters, Unsound, Misstretched, Misfit, Wide, Overload, Behind, Short, Row, row, AnswersBy, Answers}
+use Rattle.line.specs.Stretch.{Barred, barred}
 use Rattle.line.specs.Shares.{frame, share, claim, full}
 use Rattle.table.specs.Ask.{says, isNone, refusedAt, refusedIf, askIn, askOf}
 use Rattle.line.specs.Ends.{endsOf, anyOf, shortAt}
 use Rattle.line.proofs.Search.{true-false, lowest-is, lowest-none}
-use Rattle.line.proofs.Sound.{sound-says, unsound-says, shrunk-says, shrunk-not}
+use Rattle.line.proofs.Sound.{sound-says, unsound-says, barred-says, barred-not}
 use Rattle.table.proofs.Counts.{faultless}
-use Rattle.theory.specs.Fine.{Longer}
+use Rattle.theory.specs.Fine.{Unbarred}
 use Rattle.theory.proofs.Start.{start-least}
 use Rattle.theory.proofs.Ten.{alone-without-short-end, found-short}
 use Rattle.theory.proofs.Stretched.{sound-stretched}
@@ -126,16 +126,16 @@ ask-answers t q =
     (λ k e. lowest-of (λ i. Waits (at l i)) (λ i. isWaiting (at l i)) n k (λ i v. v) (λ i v e. true-false v e) e)
     (λ e k h. none-of (λ i. Waits (at l i)) (λ i. isWaiting (at l i)) n (λ i v e. true-false v e) e k (h .inside) (h .here))
     (λ e3. row-at 4 Unsound _ t q (fault t) _ (fault-holds t q) (fault-fails t q)
-    (λ e4. row-at 5 Shorter _ t q (lowest (λ i. shrunk (entry q i) (at l i)) n) _
-    (λ k e. lowest-of (λ i. Shrunk (entry q i) (at l i)) (λ i. shrunk (entry q i) (at l i)) n k (λ i. shrunk-says (entry q i) (at l i)) (λ i. shrunk-not (entry q i) (at l i)) e)
-    (λ e k h. none-of (λ i. Shrunk (entry q i) (at l i)) (λ i. shrunk (entry q i) (at l i)) n (λ i. shrunk-not (entry q i) (at l i)) e k (h .inside) (h .here))
+    (λ e4. row-at 5 Misstretched _ t q (lowest (λ i. barred (entry q i) (at l i)) n) _
+    (λ k e. lowest-of (λ i. Barred (entry q i) (at l i)) (λ i. barred (entry q i) (at l i)) n k (λ i. barred-says (entry q i) (at l i)) (λ i. barred-not (entry q i) (at l i)) e)
+    (λ e k h. none-of (λ i. Barred (entry q i) (at l i)) (λ i. barred (entry q i) (at l i)) n (λ i. barred-not (entry q i) (at l i)) e k (h .inside) (h .here))
     (λ e5. row-if 6 Misfit _ t q (not (both (leb 1 (q .need)) (leb (q .need) (q .period)))) _
     (λ e. (fits-not (q .need) (q .period) (not-true (both (leb 1 (q .need)) (leb (q .need) (q .period))) e), refl))
     (λ e k h. h .0 (fits-says (q .need) (q .period) (not-false (both (leb 1 (q .need)) (leb (q .need) (q .period))) e)))
     (λ e6. let f = fits-says (q .need) (q .period) (not-false (both (leb 1 (q .need)) (leb (q .need) (q .period))) e6) in
-    let longer : Longer l (entry q) = none-of (λ i. Shrunk (entry q i) (at l i)) (λ i. shrunk (entry q i) (at l i)) n (λ i. shrunk-not (entry q i) (at l i)) e5 in
+    let unbarred : Unbarred l (entry q) = none-of (λ i. Barred (entry q i) (at l i)) (λ i. barred (entry q i) (at l i)) n (λ i. barred-not (entry q i) (at l i)) e5 in
     from-seven t q
-    (sound-stretched l (entry q) longer (all-sound l (faultless t e4 .0)))
+    (sound-stretched l (entry q) unbarred (all-sound l (faultless t e4 .0)))
     (f .0) (f .1)))))))
   where
     l : List Slot

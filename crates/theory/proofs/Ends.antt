@@ -9,16 +9,18 @@ use native.Mathlib.Decide.{le-ind}
 use native.Mathlib.Omega.{arith}
 use Rattle.periods.specs.Multiples.{All}
 use Rattle.periods.proofs.Lists.{all-appended, all-of-each}
+use Rattle.line.specs.declared.Follows.{Follows}
+use Rattle.line.specs.declared.Follows.the-variants.{Renews, Leaves}
 use Rattle.line.specs.declared.Held.{Held}
 use Rattle.line.specs.declared.Stream.{Stream}
 use Rattle.line.specs.declared.Slot.{Slot}
 use Rattle.line.specs.Slots.{at, Each, total}
 use Rattle.line.specs.Sound.{Sound}
-use Rattle.line.specs.Streams.{asks, ofStream, byStream, endAt, flow, endsAt, EndAt, Proper}
+use Rattle.line.specs.Streams.{asks, ofStream, byStream, endAt, flow, endsThen, EndThen, endsAt, EndAt, Proper}
 use Rattle.line.specs.Demand.{demand, demands}
 use Rattle.line.specs.Ends.{endsOf}
 use Rattle.line.proofs.Streams.{sound-asks}
-use Rattle.line.proofs.Ends.{before-all, all-before}
+use Rattle.line.proofs.Ends.{before-all, all-before, only-all, all-only}
 use Rattle.theory.specs.Given.{IsEnd, AnyEnd}
 use Rattle.theory.proofs.Sums.{total-le}
 use Rattle.theory.proofs.Flow.{flow-mono, flow-step}
@@ -70,7 +72,11 @@ demands-mono t0 l t u s b = total-le (λ h. demand t0 h t) (λ h. demand t0 h u)
 
 -- R9: an end of a stream comes after the clock
 end-after : (k : ℕ) (s : Stream) (d : ℕ) → Proper s → EndAt k s d → k < d
-end-after k s d p e = omega (arith, e .1)
+end-after k s d p = go (s .follows)
+  where
+    go : (f : Follows) → EndThen f (endAt k s) (s .period) d → k < d
+    go Renews e = omega (arith, e .1)
+    go Leaves e = omega arith
 
 end-late : (t0 : ℕ) (h : Held) (d : ℕ) → Sound h → IsEnd t0 h d → t0 < d
 end-late t0 h d s e = go (asks h) (sound-asks h s) e
@@ -87,11 +93,21 @@ any-late t0 l d s e = end-late t0 (at l (e .0)) d (s (e .0) (e .1)) (e .2)
 
 -- what holds of every end before last holds of the stream's list of them
 ends-listed : (Q : ℕ → Type 0) (k last : ℕ) (s : Stream) → Proper s → ((d : ℕ) → EndAt k s d → d < last → Q d) → All Q (endsAt k last s)
-ends-listed Q k last s p f = before-all Q (endAt k s) (s .period) last (omega arith) (λ n b. f (endAt k s + n * s .period) (n, refl) b)
+ends-listed Q k last s p = go (s .follows)
+  where
+    go : (w : Follows) → ((d : ℕ) → EndThen w (endAt k s) (s .period) d → d < last → Q d)
+        → All Q (endsThen w (endAt k s) (s .period) last)
+    go Renews f = before-all Q (endAt k s) (s .period) last (omega arith) (λ n b. f (endAt k s + n * s .period) (n, refl) b)
+    go Leaves f = only-all Q (endAt k s) last (λ b. f (endAt k s) refl b)
 
 -- and the other way round
 listed-ends : (Q : ℕ → Type 0) (k last : ℕ) (s : Stream) (d : ℕ) → Proper s → All Q (endsAt k last s) → EndAt k s d → d < last → Q d
-listed-ends Q k last s d p a e b = rw (e .1) (all-before Q (endAt k s) (s .period) last (omega arith) a (e .0) (omega (arith, e .1)))
+listed-ends Q k last s d p = go (s .follows)
+  where
+    go : (w : Follows) → All Q (endsThen w (endAt k s) (s .period) last)
+        → EndThen w (endAt k s) (s .period) d → d < last → Q d
+    go Renews a e b = rw (e .1) (all-before Q (endAt k s) (s .period) last (omega arith) a (e .0) (omega (arith, e .1)))
+    go Leaves a e b = rw e (all-only Q (endAt k s) last a (omega arith))
 
 ends-in : (Q : ℕ → Type 0) (t0 last : ℕ) (h : Held) → Sound h → ((d : ℕ) → IsEnd t0 h d → d < last → Q d) → All Q (byStream [] (endsAt t0 last) h)
 ends-in Q t0 last h s f = go (asks h) (sound-asks h s) f

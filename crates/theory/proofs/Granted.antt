@@ -19,14 +19,14 @@ use Rattle.line.specs.Sound.{Sound}
 use Rattle.line.specs.Demand.{lastEnd, Least, newDemand}
 use Rattle.table.specs.Counts.{fault}
 use Rattle.table.specs.Grounds.{entry, asked}
-use Rattle.line.specs.Stretch.{Shrunk, shrunk}
+use Rattle.line.specs.Stretch.{Barred, barred}
 use Rattle.line.specs.Shares.{periodsIn, frame, share, claim, full}
 use Rattle.table.specs.Ask.{says, isNone, refusedAt, refusedIf, askIn, askOf}
 use Rattle.line.specs.Ends.{start, endsOf, anyOf, shortAt}
 use Rattle.line.proofs.Search.{true-false}
-use Rattle.line.proofs.Sound.{shrunk-not}
+use Rattle.line.proofs.Sound.{barred-not}
 use Rattle.table.proofs.Counts.{faultless}
-use Rattle.theory.specs.Fine.{Longer}
+use Rattle.theory.specs.Fine.{Unbarred}
 use Rattle.theory.specs.Given.{Given, Alone, Granted}
 use Rattle.theory.proofs.Start.{start-least}
 use Rattle.theory.proofs.Ten.{alone-without-short-end}
@@ -95,14 +95,14 @@ granted t q r e =
     let p3 = past-at (lowestOf isWaiting l) 3 _ r (p2 .1) in
     let p4 = past-at (fault t) 4 _ r (p3 .1) in
     let clean = faultless t (p4 .0) in
-    let p5 = past-at (lowest (λ i. shrunk (entry q i) (at l i)) n) 5 _ r (p4 .1) in
+    let p5 = past-at (lowest (λ i. barred (entry q i) (at l i)) n) 5 _ r (p4 .1) in
     let p6 = past-if (not (both (leb 1 (q .need)) (leb (q .need) (q .period)))) 6 _ r (p5 .1) in
     let k = some-of (lowestOf isNothing l) (p2 .0) in
     let waits = none-of (λ i. Waits (at l i)) (λ i. isWaiting (at l i)) n (λ i v e. true-false v e) (p3 .0) in
     let sounds = all-sound l (clean .0) in
-    let longer : Longer l (entry q) = none-of (λ i. Shrunk (entry q i) (at l i)) (λ i. shrunk (entry q i) (at l i)) n (λ i. shrunk-not (entry q i) (at l i)) (p5 .0) in
+    let unbarred : Unbarred l (entry q) = none-of (λ i. Barred (entry q i) (at l i)) (λ i. barred (entry q i) (at l i)) n (λ i. barred-not (entry q i) (at l i)) (p5 .0) in
     let f = fits-says (q .need) (q .period) (not-false (both (leb 1 (q .need)) (leb (q .need) (q .period))) (p6 .0)) in
-    let w = granted-load t q r (sound-stretched l (entry q) longer sounds) (f .0) (f .1) (p6 .1) in
+    let w = granted-load t q r (sound-stretched l (entry q) unbarred sounds) (f .0) (f .1) (p6 .1) in
     record {
       early = ltb-false (2 ^ 48 - 65536) (t .clock) (p1 .0);
       slot = k .0;
@@ -110,7 +110,7 @@ granted t q r e =
       none-waits = waits;
       sound = sounds;
       within = clean .1;
-      longer = longer;
+      unbarred = unbarred;
       given = w .0;
       alone = w .1;
       least = w .2;

@@ -15,6 +15,7 @@ pub mod Scale
 pub mod Cases
 pub mod Slotwise
 pub mod Pump
+pub mod Leave
 pub mod Lagging
 pub mod Step
 pub mod Admitted

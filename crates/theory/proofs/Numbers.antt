@@ -1,7 +1,7 @@
 -- Laws of `due`, for any end, period and clock, beside those of `line`: everything else about demand is cited from here.
 use mathlib.Core.Path.{_≡_, ap}
 use Prim.Native.Nat.{ℕ, suc, _+_, _*_, _-_, _/_, _∣_, _≤_, _<_}
-use native.Mathlib.Nat.{div-eq-of-lt, div-eq-sub-div, mul-le-mul-left, le-trans}
+use native.Mathlib.Nat.{div-eq-of-lt, div-eq-sub-div, mul-le-mul-left, mul-le-mul-right, le-trans}
 use native.Mathlib.Decide.{decLe}
 use native.Mathlib.Omega.{arith}
 use Rattle.periods.proofs.Whole.{whole, div-mono, div-anti, share-of-time}
@@ -22,6 +22,17 @@ due-mono e x C P t u p h =
     split e t
     (λ g. omega (arith, due-after e x C P t g, due-after e x C P u (omega arith), mul-le-mul-left C (div-mono P (t - e) (u - e) p (omega arith))))
     (λ g. omega (arith, due-before e x C P t g))
+
+-- less due at every end after the first is no more in all
+pub due-less : (e x C D P t : ℕ) → C ≤ D → due e x C P t ≤ due e x D P t
+due-less e x C D P t h =
+    split e t
+    (λ g. omega (arith, due-after e x C P t g, due-after e x D P t g, mul-le-mul-right ((t - e) / P) h))
+    (λ g. omega (arith, due-before e x C P t g))
+
+-- with nothing due after the first end, it is due from then on and nothing more
+pub due-once : (e x P t : ℕ) → e ≤ t → due e x 0 P t ≡ x
+due-once e x P t h = omega (arith, due-after e x 0 P t h)
 
 -- a longer period asks for no more: of a line with the same age, whose end comes later by as much
 pub due-longer : (k e v x C P Q t : ℕ) → 1 ≤ P → P ≤ Q → v + P ≡ e + Q → due (k + v) x C Q t ≤ due (k + e) x C P t

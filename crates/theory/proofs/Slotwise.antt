@@ -86,7 +86,7 @@ sound-passed h s = asks-sound (passed h) (rw (asks-passed h) (go (asks h) (sound
   where
     go : (o : Option Stream) → ofStream (Unit {0}) Proper o → ofStream (Unit {0}) Proper (ofStream none onward o)
     go none p = tt
-    go (some x) p = onward-is x (λ (T : Type 0). T) (Unit {0}) Proper (λ g. omega arith) (λ g. omega arith)
+    go (some x) p = onward-is x (λ (T : Type 0). T) (Unit {0}) Proper (λ g. omega arith) (λ g. omega arith) (λ g. tt)
 
 -- R45: a sound line is sound when served
 pub sound-served : (h : Held) → Sound h → Sound (served h)
@@ -102,7 +102,7 @@ share-passed M h = rw (asks-passed h) (go (asks h))
   where
     go : (o : Option Stream) → ofStream 0 (shareOf M) (ofStream none onward o) ≤ ofStream 0 (shareOf M) o
     go none = omega arith
-    go (some x) = onward-is x (λ (n : ℕ). n ≤ shareOf M x) 0 (shareOf M) (λ g. omega arith) (λ g. omega arith)
+    go (some x) = onward-is x (λ (n : ℕ). n ≤ shareOf M x) 0 (shareOf M) (λ g. omega arith) (λ g. omega arith) (λ g. omega arith)
 
 -- R28: nor when served
 pub share-served : (M : ℕ) (h : Held) → share M (served h) ≤ share M h
@@ -118,7 +118,7 @@ divides-passed M h d = rw (asks-passed h) (go (asks h) d)
   where
     go : (o : Option Stream) → ofStream (Unit {0}) (Measures M) o → ofStream (Unit {0}) (Measures M) (ofStream none onward o)
     go none d = tt
-    go (some x) d = onward-is x (λ (T : Type 0). T) (Unit {0}) (Measures M) (λ g. d) (λ g. d)
+    go (some x) d = onward-is x (λ (T : Type 0). T) (Unit {0}) (Measures M) (λ g. d) (λ g. d) (λ g. tt)
 
 -- R8: and when a line is served
 pub divides-served : (M : ℕ) (h : Held) → Divides M h → Divides M (served h)

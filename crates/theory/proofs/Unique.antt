@@ -12,7 +12,7 @@ use Rattle.table.specs.declared.Answer.the-variants.{Start, Refused}
 use Rattle.line.specs.Slots.{Lowest}
 use Rattle.table.specs.Words.{refusal, Said, gives, refuses}
 use Rattle.line.specs.Demand.{newDemand}
-use Rattle.table.specs.Grounds.{asked, Late, Full, Waiters, Unsound, Shorter, Misfit, Wide, Overload, Behind, Short, Row, row, grounds, FirstOf, NoneOf, Answers}
+use Rattle.table.specs.Grounds.{asked, Late, Full, Waiters, Unsound, Misstretched, Misfit, Wide, Overload, Behind, Short, Row, row, grounds, FirstOf, NoneOf, Answers}
 use Rattle.table.specs.Ask.{says, askOf}
 use Rattle.theory.proofs.Numbers.{split}
 use Rattle.theory.proofs.Start.{least-unique}
@@ -54,7 +54,7 @@ all-one t q = (
       (
         row-one 4 Unsound t q (unsound-one t q),
         (
-          row-one 5 Shorter t q (lowest-one _ _),
+          row-one 5 Misstretched t q (lowest-one _ _),
           (
             row-one 6 Misfit t q (zero-one _),
             (

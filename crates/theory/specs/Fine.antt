@@ -11,7 +11,7 @@ use Rattle.line.specs.Slots.{at, Each, total}
 use Rattle.line.specs.Sound.{Sound}
 use Rattle.line.specs.Streams.{byStream}
 use Rattle.line.specs.Demand.{demands}
-use Rattle.line.specs.Stretch.{Shrunk}
+use Rattle.line.specs.Stretch.{Barred}
 use Rattle.line.specs.Shares.{Divides, share, claim, full}
 use Rattle.line.specs.Tick.{Owed}
 use Rattle.table.specs.Step.{Earliest, serve, pass}
@@ -60,6 +60,6 @@ abbrev pub Safe : ℕ → List Slot → Type 0
 Safe zero l = Unit {0}
 Safe (suc n) l = (o : Option ℕ) → Earliest o l → Each Kept (serve o l) × Safe n (pass (serve o l))
 
--- R25: no running line is given a period shorter than its own
-abbrev pub Longer : List Slot → (ℕ → ℕ) → Type 0
-Longer l p = (i : ℕ) → i < length l → Shrunk (p i) (at l i) → ⊥
+-- R25: every running line may have its T' for its period
+abbrev pub Unbarred : List Slot → (ℕ → ℕ) → Type 0
+Unbarred l p = (i : ℕ) → i < length l → Barred (p i) (at l i) → ⊥

@@ -15,7 +15,7 @@ use Rattle.line.specs.Demand.{demands, newDemand, Least}
 use Rattle.table.specs.Counts.{accounted}
 use Rattle.table.specs.Grounds.{entry, asked}
 use Rattle.line.specs.Shares.{frame, Divides, share, claim, full}
-use Rattle.theory.specs.Fine.{Longer}
+use Rattle.theory.specs.Fine.{Unbarred}
 
 -- R24, R26, R28, R29: none of these grounds holds of the lines l at their T' and the new line (Cn, Tn), the sums taken times a common multiple F
 pub record Given (F : ℕ) (l : List Slot) (Cn Tn : ℕ) : Type 0 where
@@ -48,7 +48,7 @@ pub record Granted (t : Table) (q : Request) (r : ℕ) : Type 0 where
   pub none-waits : Each (λ h. Waits h → ⊥) (t .slots)
   pub sound : Each Sound (t .slots)
   pub within : accounted t ≤ t .clock
-  pub longer : Longer (t .slots) (entry q)
+  pub unbarred : Unbarred (t .slots) (entry q)
   pub given : Given (frame (asked t q) (q .period)) (asked t q) (q .need) (q .period)
   pub alone : Alone (t .clock) (asked t q)
   pub least : Least (t .clock) (asked t q) (newDemand (q .need) (q .period)) r

@@ -13,6 +13,7 @@ use Rattle.line.specs.declared.Held.{Held}
 use Rattle.line.specs.declared.Held.the-variants.{Nothing, Running, Waiting}
 use Rattle.line.specs.declared.Slot.{Slot}
 use Rattle.line.specs.Slots.{pick, empty, isNothing, isWaiting, at, lowestOf}
+use Rattle.line.proofs.After.{by-follows}
 use Rattle.line.proofs.Search.{Looking, look-start, look-on, look-stop, look-end}
 use Rattle.card.specs.declared.Mark.{Mark}
 use Rattle.card.specs.declared.SlotRecord.{SlotRecord}
@@ -95,7 +96,7 @@ alone No = false
 -- R53: that is the record of a slot that holds nothing
 nothing-alone : (h : Held) (t : ℕ) → isNothing h ≡ alone (recordFor h t)
 nothing-alone Nothing t = refl
-nothing-alone (Running r) t = refl
+nothing-alone (Running r) t = by-follows (λ (m : Mark). false ≡ isFree m) Mark.TB Mark.TL (r .follows) refl refl
 nothing-alone (Waiting w) t = refl
 
 -- the slot h has the record r

@@ -94,6 +94,7 @@ fn put_record(out: &mut [u8], r: SlotRecord)
         Mark::TA => put_line(out, &layout::TA, r),
         Mark::TB => put_line(out, &layout::TB, r),
         Mark::TF => put_mark(out, &layout::TF),
+        Mark::TL => put_line(out, &layout::TL, r),
     }
 }
 

@@ -5,7 +5,7 @@ use crate::esit;
 use crate::published;
 use crate::random::Random;
 use crate::slow;
-use crate::types::{Content, Request, Run, Table, EMPTY, SLOTS};
+use crate::types::{Content, Follows, Request, Run, Table, EMPTY, SLOTS};
 use std::hint::black_box;
 use std::time::Instant;
 
@@ -127,6 +127,7 @@ pub fn many_ends(count: usize, last: u16, apart: bool) -> Question {
             period,
             age,
             remaining: u16::from(age == 0),
+            follows: Follows::Renews,
         });
         request.stretched[i] = period;
     }

@@ -5,7 +5,7 @@ use super::figures::Row;
 use crate::card;
 use crate::image;
 use crate::rules;
-use crate::types::{Content, Request, Run, EMPTY, ZEROS};
+use crate::types::{Content, Follows, Request, Run, EMPTY, ZEROS};
 use std::hint::black_box;
 
 /// R66: a number of 16 bits.
@@ -26,6 +26,7 @@ pub fn equal_lines(lines: usize) -> Question {
             period: 64,
             age: 0,
             remaining: 2,
+            follows: Follows::Renews,
         });
         request.stretched[i] = 64;
     }
@@ -72,6 +73,7 @@ pub fn run(fine: &mut bool) -> Row {
             period,
             age: 0,
             remaining: need,
+            leaves: false,
         };
         ran = (0..TICKS)
             .filter(|_| pump.step().is_ok_and(|slot| slot.is_some()))

@@ -7,7 +7,7 @@ use crate::types::{Refusal, Request};
 use std::fmt;
 
 /// R93: the version of the boundary.
-const VERSION: u64 = 3;
+const VERSION: u64 = 4;
 
 /// R63: the slot of a result that is none.
 pub const NO_SLOT: u64 = 255;
@@ -38,6 +38,7 @@ pub enum Act {
     Ask(NewLine),
     Admit(NewLine),
     Step,
+    Leave(u64),
     Ready,
     Counts,
     Lamp(u64),
@@ -57,6 +58,7 @@ impl Act {
             Act::Ask(_) => "ask",
             Act::Admit(_) => "admit",
             Act::Step => "step",
+            Act::Leave(_) => "leave",
             Act::Ready => "ready",
             Act::Counts => "counts",
             Act::Lamp(_) => "lamp",
@@ -80,6 +82,7 @@ impl Act {
             ["ask", need, period] => Act::Ask(line(need, period)?),
             ["admit", need, period] => Act::Admit(line(need, period)?),
             ["step"] => Act::Step,
+            ["leave", number] => Act::Leave(number.parse().ok()?),
             ["ready"] => Act::Ready,
             ["counts"] => Act::Counts,
             ["lamp", number] => Act::Lamp(number.parse().ok()?),
@@ -96,7 +99,7 @@ impl fmt::Display for Act {
         let name = self.name();
         match self {
             Act::Run(ticks) => write!(f, "{name} {ticks}"),
-            Act::Lamp(number) => write!(f, "{name} {number}"),
+            Act::Leave(number) | Act::Lamp(number) => write!(f, "{name} {number}"),
             Act::Ask(line) | Act::Admit(line) | Act::WriteCard(line) => {
                 write!(f, "{name} {} {}", line.need, line.period)
             }
@@ -185,6 +188,7 @@ fn attempt(act: &Act, desk: &mut Desk) -> Result<Told, Refusal> {
             images::admit(desk.image.part_mut(), &request).map(placed)
         }
         Act::Step => images::step(desk.image.part_mut()).map(Told::slot),
+        Act::Leave(number) => images::leave(desk.image.part_mut(), *number).map(Told::value),
         Act::Ready => images::ready(desk.image.part()).map(|word| Told::value(word.into())),
         Act::Counts => {
             let (image, lent) = (desk.image.part(), desk.counts.array_mut());
@@ -212,7 +216,7 @@ mod tests {
     use crate::cases::{self, CARD_A};
     use crate::image;
     use crate::orders;
-    use crate::types::{Content, Table, Wait, EMPTY, LAST_TICK, SLOTS, ZEROS};
+    use crate::types::{Content, Follows, Table, Wait, EMPTY, LAST_TICK, SLOTS, ZEROS};
 
     const FILL: u8 = 7;
     const GUARD: u8 = 9;
@@ -225,7 +229,7 @@ mod tests {
             out: Lent::new(&vec![FILL; out], GUARD),
             stretched: Lent::new(&case_a().1.stretched, GUARD.into()),
             numbers: Lent::new(&[FILL.into(); 18], GUARD.into()),
-            counts: Lent::new(&[FILL.into(); 17], GUARD.into()),
+            counts: Lent::new(&[FILL.into(); 18], GUARD.into()),
         }
     }
 
@@ -252,7 +256,7 @@ mod tests {
     #[test]
     fn numbers_alone() {
         let desk = on_table(&EMPTY);
-        changes_nothing(Act::Version, &desk, Told::value(3));
+        changes_nothing(Act::Version, &desk, Told::value(4));
         for (number, blinks) in [(0, 0), (3, 1), (4, 2), (15, 5), (16, 0), (1 << 32 | 1, 0)] {
             changes_nothing(Act::Lamp(number), &desk, Told::value(blinks));
         }
@@ -260,9 +264,9 @@ mod tests {
 
     #[test]
     fn the_empty_table_in_a_lent_buffer() {
-        changes_nothing(Act::Empty, &desk(&[FILL; 288], 0), refused(13, 0));
-        let mut lent = desk(&[FILL; 291], 0);
-        assert_eq!(should(&Act::Empty, &mut lent), Told::value(289));
+        changes_nothing(Act::Empty, &desk(&[FILL; 296], 0), refused(13, 0));
+        let mut lent = desk(&[FILL; 299], 0);
+        assert_eq!(should(&Act::Empty, &mut lent), Told::value(297));
         let wanted = [image::bytes(&EMPTY), vec![FILL; 2]].concat();
         assert_eq!(lent, desk(&wanted, 0));
     }
@@ -286,9 +290,40 @@ mod tests {
         changes_nothing(Act::Ready, &now, Told::value(0b110));
         // R98: the card's table came with every count 0, so that these do not add up to the clock.
         assert_eq!(should(&Act::Counts, &mut now), Told::value(16));
-        let mut counts = [0; 17];
+        let mut counts = [0; 18];
         counts[1] = 8;
         assert_eq!(now.counts.part(), counts);
+    }
+
+    /// R100 to R102: a running line goes at its end, with what it has had; a waiting one at once.
+    #[test]
+    fn case_a_let_go() {
+        let (table, request) = case_a();
+        let (_, admitted) = rules::admit(&table, &request).expect("case A");
+        let mut now = on_table(&admitted);
+        assert_eq!(should(&Act::Leave(1), &mut now), Told::value(8));
+        assert_eq!(should(&Act::Leave(2), &mut now), Told::value(0));
+        changes_nothing(Act::Leave(1), &now, refused(16, 1));
+        changes_nothing(Act::Leave(2), &now, refused(16, 2));
+        changes_nothing(Act::Leave(16), &now, refused(16, 16));
+        // A number of which only the lowest bits name a slot.
+        for number in [1 << 8, 1 << 16, 1 << 32, u64::MAX] {
+            changes_nothing(Act::Leave(number), &now, refused(16, number));
+        }
+        let mut wanted = admitted;
+        wanted.slots[2] = Content::Nothing;
+        if let Content::Running(run) = &mut wanted.slots[1] {
+            run.follows = Follows::Leaves;
+        }
+        assert_eq!(now, on_table(&wanted));
+        for _ in 0..8 {
+            assert_eq!(should(&Act::Step, &mut now), Told::value(1));
+        }
+        assert_eq!(should(&Act::Counts, &mut now), Told::value(16));
+        let mut counts = [0; 18];
+        counts[17] = 8;
+        assert_eq!(now.counts.part(), counts);
+        changes_nothing(Act::Leave(1), &now, refused(16, 1));
     }
 
     #[test]
@@ -327,7 +362,7 @@ mod tests {
             Act::Ready,
             Act::WriteCard(ZEROS.into()),
         ];
-        for act in acts.into_iter().chain([Act::Counts]) {
+        for act in acts.into_iter().chain([Act::Counts, Act::Leave(9)]) {
             changes_nothing(act, &desk(&bytes, 0), refused(11, 152));
             changes_nothing(act, &desk(&bytes[..80], 0), refused(11, 80));
         }
@@ -338,7 +373,8 @@ mod tests {
         }
     }
 
-    /// R98: any counts are shown, the idle count last, also where the lines and the sum would be refused.
+    /// R98: any counts are shown, the idle count and then the departed one last, also where the lines and the sum would be
+    /// refused.
     #[test]
     fn counts_of_any_table() {
         let mut table = Table { clock: 5, ..EMPTY };
@@ -347,9 +383,9 @@ mod tests {
             period: 0,
             wait: 0,
         });
-        let counts: [u64; 17] = std::array::from_fn(|place| u64::MAX - place as u64);
+        let counts: [u64; 18] = std::array::from_fn(|place| u64::MAX - place as u64);
         table.counts.had.copy_from_slice(&counts[..16]);
-        table.counts.idle = counts[16];
+        (table.counts.idle, table.counts.departed) = (counts[16], counts[17]);
         let mut wanted = on_table(&table);
         wanted.counts = Lent::new(&counts, GUARD.into());
         let mut now = on_table(&table);
@@ -378,12 +414,12 @@ mod tests {
 
     #[test]
     fn a_card_to_its_table() {
-        changes_nothing(Act::ReadCard, &desk(&[FILL; 288], 0), refused(13, 0));
+        changes_nothing(Act::ReadCard, &desk(&[FILL; 296], 0), refused(13, 0));
         let mut cut = desk(&[], 0);
         cut.card = Lent::new(&CARD_A[..33], GUARD);
         changes_nothing(Act::ReadCard, &cut, refused(11, 22));
-        let mut now = desk(&[FILL; 290], 0);
-        assert_eq!(should(&Act::ReadCard, &mut now), Told::value(289));
+        let mut now = desk(&[FILL; 298], 0);
+        assert_eq!(should(&Act::ReadCard, &mut now), Told::value(297));
         let mut wanted = desk(&[image::bytes(&case_a().0), vec![FILL]].concat(), 0);
         let mut numbers = [0; 18];
         (numbers[0], numbers[1]) = (32, 16);

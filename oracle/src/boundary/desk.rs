@@ -70,7 +70,7 @@ pub struct Desk {
     pub stretched: Lent<u16>,
     /// R92: where a card's request is written, eighteen numbers.
     pub numbers: Lent<u16>,
-    /// R98: where a table's counts are written, seventeen numbers.
+    /// R98: where a table's counts are written, eighteen numbers.
     pub counts: Lent<u64>,
 }
 

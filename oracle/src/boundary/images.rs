@@ -1,4 +1,4 @@
-//! The operations on images, R85 to R92 and R98.
+//! The operations on images, R85 to R92, R98 and R102.
 
 use crate::card;
 use crate::image;
@@ -38,6 +38,13 @@ pub fn step(image: &mut [u8]) -> Result<Option<usize>, Refusal> {
     let (next, ran) = rules::step(&image::read(image)?)?;
     image::write(&next, image)?;
     Ok(ran)
+}
+
+/// R102: in how many ticks the slot that the number names holds nothing.
+pub fn leave(image: &mut [u8], number: u64) -> Result<u64, Refusal> {
+    let (ticks, next) = rules::leave(&image::read(image)?, number)?;
+    image::write(&next, image)?;
+    Ok(ticks)
 }
 
 /// R89.

@@ -1,9 +1,10 @@
 //! What may be wrong with a table and its request, or with an image.
 
 use crate::draw;
+use crate::draw_leaving;
 use crate::image;
 use crate::random::Random;
-use crate::types::{Content, Request, Run, Table, Wait, SLOTS};
+use crate::types::{Content, Follows, Request, Run, Table, Wait, SLOTS};
 
 fn byte(random: &mut Random) -> u8 {
     random.below(256) as u8
@@ -17,7 +18,7 @@ fn any_slot(random: &mut Random) -> usize {
     random.below(SLOTS as u64) as usize
 }
 
-/// A sound line with a short period, so that ends and ties are frequent.
+/// A sound line with a short period, so that ends and ties are frequent; one in three leaves.
 fn short_line(random: &mut Random) -> Run {
     let period = 1 + random.small(8);
     let need = 1 + random.small(period.into());
@@ -26,6 +27,10 @@ fn short_line(random: &mut Random) -> Run {
         period,
         age: random.small(period.into()),
         remaining: random.small(u64::from(need) + 1),
+        follows: match random.below(3) {
+            0 => Follows::Leaves,
+            _ => Follows::Renews,
+        },
     }
 }
 
@@ -38,11 +43,15 @@ fn fill(random: &mut Random, table: &mut Table) {
     }
 }
 
-/// R23: a line that waits for up to three ticks; one that waits for none, or whose need does not fit, is not sound.
+/// R23: a line that waits for up to three ticks, often in the place of another, whose count it keeps; one that waits for none, or
+/// whose need does not fit, is not sound.
 fn put_waiting(random: &mut Random, table: &mut Table) {
     let line = short_line(random);
     let more = random.small(8).saturating_sub(6);
-    table.slots[any_slot(random)] = Content::Waiting(Wait {
+    let any = any_slot(random);
+    let counted = table.counts.had.iter().position(|ticks| *ticks > 0);
+    let slot = counted.filter(|_| random.below(2) == 0).unwrap_or(any);
+    table.slots[slot] = Content::Waiting(Wait {
         need: line.need * random.small(8).min(1) + more * line.period,
         period: line.period,
         wait: random.small(4),
@@ -96,8 +105,19 @@ fn short_lines(random: &mut Random, table: &mut Table) {
     }
 }
 
-/// One thing that is wrong with a table or its request, or merely not what a run leads to.
+/// R99: lines leave, with the T' that they have to have or with any.
+fn let_go(random: &mut Random, table: &mut Table, request: &mut Request) {
+    match random.below(8) {
+        0 => draw_leaving::any(random, table),
+        1 => draw_leaving::misfitting(random, table, request),
+        2..=4 => draw_leaving::fitting(random, table, request),
+        _ => {}
+    }
+}
+
+/// One thing that is wrong with a table or its request, or merely not what a run leads to, beside lines that leave.
 pub fn table(random: &mut Random, table: &mut Table, request: &mut Request) {
+    let_go(random, table, request);
     match random.below(20) {
         0..=6 => draw::damage(random, table, request),
         7 => full_need(random, table),
@@ -126,8 +146,8 @@ fn spoil(random: &mut Random, image: &mut Vec<u8>) {
     let any = random.below(image::LENGTH as u64) as usize;
     let drawn = byte(random);
     match random.below(8) {
-        0 => put(image, 0, drawn % 4),
-        1 => put(image, slot, drawn % 4),
+        0 => put(image, 0, drawn % 5),
+        1 => put(image, slot, drawn % 5),
         2 => put(image, slot, drawn),
         3 => put(image, slot + 1 + any % 8, drawn),
         4 => {

@@ -9,11 +9,12 @@ use super::tally::Tally;
 use crate::boundary::{Act, NewLine, Told};
 use crate::card;
 use crate::draw;
+use crate::draw_leaving;
 use crate::image;
 use crate::orders;
 use crate::random::Random;
 use crate::spoil;
-use crate::types::{Request, Table, EMPTY, LONGEST_CARD};
+use crate::types::{Content, Request, Table, Wait, EMPTY, LONGEST_CARD, SLOTS};
 
 /// The longest buffer lent for a card, and the longest one lent for an image.
 pub const LONGEST_LENT: usize = LONGEST_CARD + 16;
@@ -47,11 +48,12 @@ impl<'a> Drawn<'a> {
     /// What every run begins with.
     pub fn first(&mut self) -> Done {
         self.numbers()?;
+        self.leave_numbers()?;
         self.lengths()?;
         self.broken_cards()
     }
 
-    /// A whole history: a table is come to, and then it is asked, admitted to, stepped, damaged.
+    /// A whole history: a table is come to, and then it is asked, admitted to, stepped, left, damaged.
     pub fn history(&mut self) -> Done {
         self.lend(LONGEST_CARD)?;
         self.open()?;
@@ -72,11 +74,29 @@ impl<'a> Drawn<'a> {
         Ok(())
     }
 
+    /// R100, R102: the slots' numbers with any one of the 64 bits changed, on a table with lines that run, leave and wait.
+    fn leave_numbers(&mut self) -> Done {
+        let (mut table, _) = draw_leaving::near_full(self.random);
+        if let Some(slot) = table.lowest_empty() {
+            let (need, period, wait) = (1, 4, 2);
+            table.slots[slot] = Content::Waiting(Wait { need, period, wait });
+        }
+        let image = image::bytes(&table);
+        for number in 0..SLOTS as u64 {
+            for bit in 0..64 {
+                self.lay(&image)?;
+                self.call(Act::Leave(number ^ 1 << bit))?;
+            }
+        }
+        Ok(())
+    }
+
     /// Every length of what is lent to be written into and of an image, for one table and its card in the old order (R58).
     fn lengths(&mut self) -> Done {
         let (table, request) = draw::near_full(self.random);
         let image = image::bytes(&table);
         self.lay(&image)?;
+        let used = table.running().next().map_or(0, |(slot, _)| slot as u64);
         let line = self.request(&request)?;
         let card = orders::old(&card::bytes(&table, &request));
         self.operate(Operation::Card(card))?;
@@ -88,7 +108,7 @@ impl<'a> Drawn<'a> {
         }
         for length in 0..=LONGEST_IMAGE_LENT {
             let resized = damage::resized(self.random, &image, length);
-            for act in on_images(line) {
+            for act in on_images(line, used) {
                 self.lay(&resized)?;
                 self.call(act)?;
             }
@@ -98,7 +118,7 @@ impl<'a> Drawn<'a> {
 
     /// R57, R58: every broken card of the stored set, among them the longest card cut to every length.
     fn broken_cards(&mut self) -> Done {
-        for card in spoil::named() {
+        for card in spoil::named().into_iter().chain(spoil::leaving()) {
             self.operate(Operation::Card(card))?;
             for act in [Act::Answer, Act::Rewrite, Act::Run(1), Act::ReadCard] {
                 self.call(act)?;
@@ -153,12 +173,13 @@ impl<'a> Drawn<'a> {
     }
 }
 
-/// R85 to R92, R98: the functions that are lent an image or a buffer for one.
-pub fn on_images(line: NewLine) -> [Act; 8] {
+/// R85 to R92, R98, R102: the functions that are lent an image or a buffer for one.
+pub fn on_images(line: NewLine, number: u64) -> [Act; 9] {
     [
         Act::Ask(line),
         Act::Admit(line),
         Act::Step,
+        Act::Leave(number),
         Act::Ready,
         Act::Counts,
         Act::WriteCard(line),

@@ -25,6 +25,7 @@ pub fn did(act: &Act, desk: &mut Desk) -> Told {
         Act::Ask(line) => numbers::ask(image.part(), line.need, line.period, stretched),
         Act::Admit(line) => numbers::admit(image.part_mut(), line.need, line.period, stretched),
         Act::Step => numbers::step(image.part_mut()),
+        Act::Leave(number) => numbers::leave(image.part_mut(), *number),
         Act::Ready => numbers::ready(image.part()),
         Act::Counts => numbers::counts(image.part(), desk.counts.array_mut()),
         Act::Lamp(number) => return Told::value(numbers::lamp(*number).into()),

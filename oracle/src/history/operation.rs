@@ -2,7 +2,7 @@
 
 use crate::boundary::{Act, Desk};
 use crate::image;
-use crate::types::{Content, Run, Wait, SLOTS};
+use crate::types::{Content, Follows, Run, Wait, IDLE, SLOTS};
 use std::fmt;
 
 #[derive(Clone, Debug, PartialEq, Eq)]
@@ -11,7 +11,7 @@ pub enum Operation {
     Clock(u64),
     /// What a slot of the image holds, where it is long enough to have it.
     Slot(usize, Content),
-    /// R95: a count in the image, where it is long enough to have it; the seventeenth is the idle count.
+    /// R95: a count in the image, by its place among the eighteen, where it is long enough to have it.
     Count(usize, u64),
     /// One byte of the image, where it is there.
     Byte(usize, u8),
@@ -108,7 +108,8 @@ impl Operation {
                 Operation::Count(slot_number(slot)?, ticks.parse().ok()?)
             }
             ["slot", slot, ref holds @ ..] => Operation::Slot(slot_number(slot)?, content(holds)?),
-            ["idle", ticks] => Operation::Count(SLOTS, ticks.parse().ok()?),
+            ["idle", ticks] => Operation::Count(IDLE, ticks.parse().ok()?),
+            ["departed", ticks] => Operation::Count(IDLE + 1, ticks.parse().ok()?),
             ["byte", at, byte] => Operation::Byte(at.parse().ok()?, byte.parse().ok()?),
             ["cut", length] => Operation::Cut(length.parse().ok()?),
             ["more", ref hex @ ..] => Operation::More(bytes(hex)?),
@@ -139,19 +140,22 @@ fn numbers<const N: usize>(words: &[&str]) -> Option<[u16; N]> {
     numbers?.try_into().ok()
 }
 
-/// What a slot holds, in words: `nothing`, or `runs` with C, T, age and remaining, or `waits` with C, T and wait.
+/// What a slot holds, in words: `nothing`, or `runs` or `leaves` with C, T, age and remaining, or `waits` with C, T and wait.
 fn content(words: &[&str]) -> Option<Content> {
+    let running = |words: &[&str], follows| {
+        let [need, period, age, remaining] = numbers(words)?;
+        Some(Content::Running(Run {
+            need,
+            period,
+            age,
+            remaining,
+            follows,
+        }))
+    };
     match words {
         ["nothing"] => Some(Content::Nothing),
-        ["runs", rest @ ..] => {
-            let [need, period, age, remaining] = numbers(rest)?;
-            Some(Content::Running(Run {
-                need,
-                period,
-                age,
-                remaining,
-            }))
-        }
+        ["runs", rest @ ..] => running(rest, Follows::Renews),
+        ["leaves", rest @ ..] => running(rest, Follows::Leaves),
         ["waits", rest @ ..] => {
             let [need, period, wait] = numbers(rest)?;
             Some(Content::Waiting(Wait { need, period, wait }))
@@ -188,7 +192,7 @@ fn record_length(card: &[u8]) -> usize {
     let length = match card {
         [b'C', b'K', ..] => 10,
         [b'T', b'F', ..] => 2,
-        [b'T', b'A' | b'B', ..] => 12,
+        [b'T', b'A' | b'B' | b'L', ..] => 12,
         [b'R', b'Q', ..] => 6,
         _ => card.len(),
     };
@@ -206,11 +210,12 @@ pub fn records(card: &[u8]) -> String {
     words.join(" ")
 }
 
-/// R95: a count in words, by its place among the seventeen.
+/// R95: a count in words, by its place among the eighteen.
 pub fn counted(place: usize, ticks: u64) -> String {
     match place {
-        SLOTS => format!("idle {ticks}"),
-        slot => format!("slot {slot} had {ticks}"),
+        0..SLOTS => format!("slot {place} had {ticks}"),
+        IDLE => format!("idle {ticks}"),
+        _ => format!("departed {ticks}"),
     }
 }
 
@@ -227,8 +232,9 @@ impl fmt::Display for Content {
         match self {
             Content::Nothing => f.write_str("nothing"),
             Content::Running(run) => {
+                let word = if run.leaves() { "leaves" } else { "runs" };
                 let (need, period) = (run.need, run.period);
-                write!(f, "runs {need} {period} {} {}", run.age, run.remaining)
+                write!(f, "{word} {need} {period} {} {}", run.age, run.remaining)
             }
             Content::Waiting(line) => {
                 write!(f, "waits {} {} {}", line.need, line.period, line.wait)

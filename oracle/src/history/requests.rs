@@ -6,7 +6,7 @@ use crate::rules;
 use crate::types::{Content, Request, Table, SLOTS};
 
 /// How many more requests are drawn for one that starts later than the clock.
-const LATER_TRIALS: usize = 6;
+const LATER_TRIALS: usize = 10;
 
 /// Loads are drawn in whole parts; all periods divide the base, so that they can be stretched, and the frame is short.
 #[derive(Clone, Copy)]

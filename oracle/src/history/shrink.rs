@@ -4,7 +4,7 @@ use super::beside::{first_difference, Beside, Doer};
 use super::laid;
 use super::operation::Operation;
 use crate::boundary::{Act, NewLine};
-use crate::types::{Content, Run, Wait};
+use crate::types::{Content, Follows, Run, Wait};
 
 /// How many histories are tried at most.
 const TRIALS: usize = 20_000;
@@ -170,20 +170,31 @@ fn fewer(bytes: &[u8]) -> Vec<Vec<u8>> {
     fewer
 }
 
+/// One that leaves may renew, and not the other way: so that this ends.
+fn simpler_run(run: &Run) -> Vec<Run> {
+    let renewing = Run {
+        follows: Follows::Renews,
+        ..*run
+    };
+    let less = one_less([run.need, run.period, run.age, run.remaining]);
+    let less = less.into_iter().map(|[need, period, age, remaining]| Run {
+        need,
+        period,
+        age,
+        remaining,
+        ..*run
+    });
+    run.leaves()
+        .then_some(renewing)
+        .into_iter()
+        .chain(less)
+        .collect()
+}
+
 fn simpler_content(content: &Content) -> Vec<Content> {
     match content {
         Content::Nothing => vec![],
-        Content::Running(run) => one_less([run.need, run.period, run.age, run.remaining])
-            .into_iter()
-            .map(|[need, period, age, remaining]| {
-                Content::Running(Run {
-                    need,
-                    period,
-                    age,
-                    remaining,
-                })
-            })
-            .collect(),
+        Content::Running(run) => simpler_run(run).into_iter().map(Content::Running).collect(),
         Content::Waiting(line) => one_less([line.need, line.period, line.wait])
             .into_iter()
             .map(|[need, period, wait]| Content::Waiting(Wait { need, period, wait }))
@@ -198,7 +209,7 @@ fn simpler_line(line: &NewLine, act: fn(NewLine) -> Act) -> Vec<Operation> {
         .collect()
 }
 
-/// What may stand in an operation's place; each has lesser numbers or fewer bytes, so that this ends.
+/// What may stand in an operation's place; each has lesser numbers, fewer bytes or a line that renews, so that this ends.
 fn simpler(operation: &Operation) -> Vec<Operation> {
     let numbers =
         |number: u64, of: fn(u64) -> Operation| less(number).into_iter().map(of).collect();
@@ -234,6 +245,9 @@ fn simpler(operation: &Operation) -> Vec<Operation> {
         }
         Operation::Call(Act::Lamp(number)) => {
             numbers(*number, |number| Operation::Call(Act::Lamp(number)))
+        }
+        Operation::Call(Act::Leave(number)) => {
+            numbers(*number, |number| Operation::Call(Act::Leave(number)))
         }
         Operation::Call(Act::Ask(line)) => simpler_line(line, Act::Ask),
         Operation::Call(Act::Admit(line)) => simpler_line(line, Act::Admit),

@@ -4,11 +4,13 @@ use super::met;
 use super::operation::Operation;
 use crate::boundary::{Act, Desk, Told};
 use crate::image;
+use crate::rules;
+use crate::types::Table;
 use std::collections::BTreeMap;
 use std::fmt;
 
 /// The greatest number of a refusal.
-const REFUSALS: usize = 15;
+const REFUSALS: usize = 16;
 
 /// R32: the number that is given by nothing.
 const NOT_GIVEN: usize = 12;
@@ -26,8 +28,8 @@ pub struct Tally {
     pub later: u64,
     /// R65: rewritten cards of which a slot was named.
     pub turned: u64,
-    /// How often each of `met::ALL` was met.
-    met: [u64; met::ALL.len()],
+    /// How often each of `met::all` was met, by its name.
+    met: BTreeMap<&'static str, u64>,
 }
 
 impl Tally {
@@ -45,25 +47,24 @@ impl Tally {
         for told in all.iter().filter(|told| told.number == 0) {
             self.count_granted(&act, told, desk);
         }
-        // What the table was before any other of several steps is not known here.
-        if let Some(told) = all.first() {
-            self.count_met(&act, told, before, desk);
+        let mut table = image::read(before).ok();
+        for told in all {
+            let Some(now) = table else { break };
+            self.count_met(&act, told, &now, desk);
+            // Several calls are steps: what the table was before the next one.
+            table = rules::step(&now).ok().map(|(next, _)| next);
         }
     }
 
-    fn count_met(&mut self, act: &Act, told: &Told, before: &[u8], desk: &Desk) {
-        let Ok(table) = &image::read(before) else {
-            return;
-        };
-        let stretched = desk.stretched.array();
+    fn count_met(&mut self, act: &Act, told: &Told, table: &Table, desk: &Desk) {
         let call = met::Call {
             act,
             told,
             table,
-            stretched,
+            desk,
         };
-        for (count, (_, is_met)) in self.met.iter_mut().zip(met::ALL) {
-            *count += u64::from(is_met(&call));
+        for (name, _) in met::all().filter(|(_, is_met)| is_met(&call)) {
+            *self.met.entry(name).or_default() += 1;
         }
     }
 
@@ -102,18 +103,17 @@ impl Tally {
     }
 
     fn met(&self) -> impl Iterator<Item = (&'static str, u64)> + '_ {
-        let names = met::ALL.iter().map(|(name, _)| *name);
-        names.zip(self.met)
+        met::all().map(|(name, _)| (name, self.met.get(name).copied().unwrap_or(0)))
     }
 
-    /// What no call met of all that the counts can meet.
+    /// What no call met of all that can be met.
     pub fn unmet(&self) -> Vec<&'static str> {
         let unmet = self.met().filter(|(_, times)| *times == 0);
         unmet.map(|(name, _)| name).collect()
     }
 }
 
-/// A line for each call and one for all, the starts, the reordered cards, what the counts met, and what was laid on the desk.
+/// A line for each call and one for all, the starts, the reordered cards, what was met, and what was laid on the desk.
 impl fmt::Display for Tally {
     fn fmt(&self, f: &mut fmt::Formatter<'_>) -> fmt::Result {
         for (name, answers) in &self.calls {
@@ -124,7 +124,7 @@ impl fmt::Display for Tally {
         writeln!(f, "starts {starts}, later than the clock {later}")?;
         writeln!(f, "rewritten with slots reordered {}", self.turned)?;
         for (name, times) in self.met() {
-            writeln!(f, "counts, {name}: {times}")?;
+            writeln!(f, "met {times}: {name}")?;
         }
         let laid = self
             .laid

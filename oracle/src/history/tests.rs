@@ -1,6 +1,7 @@
 //! The comparison finds what it should find, and its histories are short and can be done again.
 
 mod counts;
+mod leaving;
 
 use super::beside::{Beside, Doer};
 use super::drawn::Drawn;
@@ -10,14 +11,16 @@ use super::{compared, damage, laid, replay};
 use crate::boundary::{should, Act, Desk, Told};
 use crate::draw;
 use crate::draw_counts;
+use crate::draw_leaving;
 use crate::image;
 use crate::random::Random;
+use crate::types::Table;
 
-const CALLS: u64 = 30_000;
-const SEED: u64 = 6;
+const CALLS: u64 = 40_000;
+const SEED: u64 = 7;
 
 #[test]
-fn the_rules_do_not_differ_from_themselves_and_meet_every_refusal_and_all_that_counts_can() {
+fn the_rules_do_not_differ_from_themselves_and_meet_every_refusal_and_all_that_can_be_met() {
     let mut tally = Tally::default();
     assert_eq!(compared(should, CALLS, SEED, &mut tally), None);
     assert!(tally.compared() >= CALLS);
@@ -34,12 +37,13 @@ fn twelve_is_amiss_where_it_is_told_and_any_other_refusal_where_it_is_not() {
         .map(|number| Told::refused(number, 10))
         .collect();
     tally.count(&Act::Rewrite.into(), &told, &[], &Desk::new());
-    assert_eq!(tally.amiss(), [1, 2, 3, 4, 5, 6, 7, 8, 9, 10, 12, 14, 15]);
+    let others = [1, 2, 3, 4, 5, 6, 7, 8, 9, 10, 12, 14, 15, 16];
+    assert_eq!(tally.amiss(), others);
 }
 
 /// R96: on an empty table at clock 0 an idle tick is one above, and the idle count alone, and nothing else is met.
 #[test]
-fn what_the_counts_did_not_meet_is_named() {
+fn what_was_not_met_is_named() {
     let mut tally = Tally::default();
     let all = tally.unmet();
     let mut desk = Desk::new();
@@ -49,7 +53,7 @@ fn what_the_counts_did_not_meet_is_named() {
     let before = desk.image.part().to_vec();
     let told = should(&Act::Step, &mut desk);
     tally.count(&Act::Step.into(), &[told], &before, &desk);
-    let wanted = ["one above", "the idle count alone"];
+    let wanted = ["counts one above", "counts, the idle one alone"];
     let met = all.iter().filter(|name| !tally.unmet().contains(name));
     assert_eq!(Vec::from_iter(met.copied()), wanted);
 }
@@ -66,6 +70,11 @@ fn with(act: &Act, desk: &mut Desk, fault: impl FnOnce(&mut Told, &mut Desk)) ->
 
 fn granted(told: &Told) -> bool {
     told.number == 0
+}
+
+/// The table of a desk whose image reads.
+fn table(desk: &Desk) -> Option<Table> {
+    image::read(desk.image.part()).ok()
 }
 
 /// After a tick of slot 2 the clock stands.
@@ -204,7 +213,8 @@ fn each_fault_is_found_and_made_a_short_history_that_can_be_done_again() {
         ("order kept", order_kept, 2),
         ("lowest named", lowest_named, 2),
     ];
-    for (name, library, most) in faults.into_iter().chain(counts::FAULTS) {
+    let others = counts::FAULTS.into_iter().chain(leaving::FAULTS);
+    for (name, library, most) in faults.into_iter().chain(others) {
         let mut tally = Tally::default();
         let text = compared(library, CALLS, SEED, &mut tally).expect(name);
         let operations = text.lines().filter(|line| !line.starts_with('#')).count();
@@ -255,6 +265,14 @@ fn a_line_that_is_no_operation_is_refused() {
         "slot 0 had 1 2",
         "idle",
         "idle 18446744073709551616",
+        "departed",
+        "departed -1",
+        "slot 0 leaves 1 2 3",
+        "slot 0 leaves",
+        "leave",
+        "leave -1",
+        "leave 18446744073709551616",
+        "leave 1 2",
         "counts 1",
         "byte 1 256",
         "card 1",
@@ -283,6 +301,7 @@ fn a_wanted_image_is_laid() {
     let mut beside = Beside::new(should);
     for round in 0..20_000 {
         let (mut table, _) = draw::any(random);
+        draw_leaving::any(random, &mut table);
         draw_counts::any(random, &mut table);
         let image = image::bytes(&table);
         let wanted = match round % 4 {
@@ -307,11 +326,15 @@ fn a_difference_among_steps_says_which() {
 
 #[test]
 fn a_history_says_what_it_was_told() {
-    let text = "# a remark\n\nadmit 8 16: anything\nstretched 16\nadmit 8 16\nstep 8\nready\ncounts\nidle 1\nslot 3 had 2\n\
+    let text = "# a remark\n\nadmit 8 16: anything\nstretched 16\nadmit 8 16\nstep 8\nready\ncounts\nleave 1\nleave 1\n\
+                table\nstep 8\ntable\nleave 18446744073709551615\nidle 1\nslot 3 had 2\n\
                 counts\nstep\nbyte 0 1\nstep 2\ntable\n";
     let said = "# a remark\n\nadmit 8 16: start 0 slot 0\nstretched 16\nadmit 8 16: start 0 slot 1\nstep 8: 00000000\n\
-                ready: word 2\ncounts: clock 8, slot 0 had 8\nidle 1\nslot 3 had 2\n\
-                counts: clock 8, slot 0 had 8, slot 3 had 2, idle 1\nstep: refused 4 0\n\
+                ready: word 2\ncounts: clock 8, slot 0 had 8\nleave 1: gone in 8\nleave 1: refused 16 1\n\
+                table: clock 8, slot 0 runs 8 16 8 0, slot 1 leaves 8 16 8 8, slot 0 had 8\nstep 8: 11111111\n\
+                table: clock 16, slot 0 runs 8 16 0 8, slot 0 had 8, departed 8\n\
+                leave 18446744073709551615: refused 16 18446744073709551615\nidle 1\nslot 3 had 2\n\
+                counts: clock 16, slot 0 had 8, slot 3 had 2, idle 1, departed 8\nstep: refused 4 0\n\
                 byte 0 1\nstep 2: refused 11 0\ntable: refused 11 0\n";
     assert_eq!(replay::replayed(should, text), Ok((said.to_string(), true)));
     assert_eq!(replay::replayed(should, said), Ok((said.to_string(), true)));

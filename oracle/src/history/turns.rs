@@ -7,10 +7,14 @@ use crate::boundary::Act;
 use crate::card;
 use crate::draw;
 use crate::draw_counts;
+use crate::draw_leaving;
 use crate::image;
 use crate::orders;
 use crate::spoil;
-use crate::types::{Request, LAST_ASK, LONGEST_CARD};
+use crate::types::{Content, Request, LAST_ASK, LONGEST_CARD, SLOTS};
+
+/// The longest period up to whose end a line that was let go is followed.
+const FOLLOWED: u64 = 60;
 
 impl Drawn<'_> {
     /// How a history comes to its first table.
@@ -39,10 +43,12 @@ impl Drawn<'_> {
         self.step(steps)
     }
 
-    /// A table that mostly passes all refusals, with its request.
+    /// A table that mostly passes all refusals, with its request; R99: of half of them some lines leave.
     fn open_question(&mut self) -> Done {
         let (mut table, request) = match self.random.below(64) {
             0 => draw::wide(self.random),
+            1..=16 => draw_leaving::near_full(self.random),
+            17..=32 => draw_leaving::hurried(self.random),
             _ => draw::near_full(self.random),
         };
         draw_counts::fitting(self.random, &mut table);
@@ -52,15 +58,12 @@ impl Drawn<'_> {
     }
 
     pub fn turn(&mut self) -> Done {
-        match self.random.below(64) {
+        match self.random.below(68) {
             0..=22 => {
                 let request = self.draw_request();
                 self.ask(&request)
             }
-            23 | 24 => {
-                let request = self.draw_request();
-                self.admit(&request)
-            }
+            23 | 24 => self.admit_drawn(),
             25..=30 => {
                 let times = 1 + self.random.below(24);
                 self.step(times)
@@ -80,7 +83,8 @@ impl Drawn<'_> {
                 let number = self.random.below(20);
                 self.call(Act::Lamp(number)).map(|_| ())
             }
-            _ => self.call(Act::Version).map(|_| ()),
+            63 => self.call(Act::Version).map(|_| ()),
+            _ => self.leave(),
         }
     }
 
@@ -98,8 +102,56 @@ impl Drawn<'_> {
         self.call(Act::Admit(line)).map(|_| ())
     }
 
+    /// R100: one new line in four is let go again, while it waits or in its first period.
+    fn admit_drawn(&mut self) -> Done {
+        let request = self.draw_request();
+        let line = self.request(&request)?;
+        let told = self.call(Act::Admit(line))?;
+        if told.number == 0 && self.random.below(4) == 0 {
+            let times = self.random.below(3);
+            self.step(times)?;
+            self.call(Act::Leave(told.place))?;
+        }
+        Ok(())
+    }
+
     fn step(&mut self, times: u64) -> Done {
         self.operate(Operation::Steps(times)).map(|_| ())
+    }
+
+    /// R100: the number of a slot that holds a line, often one that waits; of any slot; or of none, up to 2^64 − 1.
+    fn draw_number(&mut self) -> u64 {
+        let table = self.table();
+        let used = (0..SLOTS).filter(|slot| table.slots[*slot] != Content::Nothing);
+        let used: Vec<usize> = used.collect();
+        let any = self.random.below(SLOTS as u64);
+        let line = used.get(self.random.below(used.len() as u64) as usize);
+        let line = line.map_or(any, |slot| *slot as u64);
+        let waiting = table.lowest(Content::is_waiting);
+        match self.random.below(16) {
+            0..=6 => waiting.map_or(line, |slot| slot as u64),
+            7..=10 => line,
+            11 | 12 => any,
+            13 => SLOTS as u64 + any,
+            14 => line | 1 << (4 + self.random.below(60)),
+            _ => u64::MAX - self.random.below(3),
+        }
+    }
+
+    /// R100: a line is let go, if there is one; then the same number is named again, or the pump runs up to where the slot holds
+    /// nothing, and a new line is admitted there.
+    fn leave(&mut self) -> Done {
+        let number = self.draw_number();
+        let told = self.call(Act::Leave(number))?;
+        match self.random.below(4) {
+            0 => self.call(Act::Leave(number)).map(|_| ()),
+            1 | 2 if told.number == 0 && told.value <= FOLLOWED => {
+                self.step(told.value)?;
+                let rest = self.loads.rest(self.random, &self.table());
+                self.admit(&rest)
+            }
+            _ => Ok(()),
+        }
     }
 
     /// What is lent for something of a length: exactly so much, a byte less, any length, or more than enough.
@@ -173,16 +225,20 @@ impl Drawn<'_> {
         damage::table(self.random, &mut table, &mut request);
         self.lay(&image::bytes(&table))?;
         let line = self.request(&request)?;
-        match self.random.below(8) {
+        match self.random.below(12) {
             0..=3 => self.call(Act::Ask(line)).map(|_| ())?,
             4 => self.call(Act::Admit(line)).map(|_| ())?,
             5 | 6 => {
                 let times = 1 + self.random.below(4);
                 self.step(times)?;
             }
-            _ => {
+            7 => {
                 self.call(Act::Ready)?;
                 self.call(Act::WriteCard(line))?;
+            }
+            _ => {
+                let number = self.draw_number();
+                self.call(Act::Leave(number))?;
             }
         }
         self.lay(&before)
@@ -201,7 +257,9 @@ impl Drawn<'_> {
             _ => draw_counts::too_many(self.random, &mut table),
         }
         let counted = image::bytes(&table);
-        for act in on_images(self.request(&request)?) {
+        self.lay(&counted)?;
+        let (line, number) = (self.request(&request)?, self.draw_number());
+        for act in on_images(line, number) {
             self.lay(&counted)?;
             self.call(act)?;
         }
@@ -212,7 +270,7 @@ impl Drawn<'_> {
     fn broken_image(&mut self) -> Done {
         let before = self.image();
         let request = self.draw_request();
-        let acts = on_images(self.request(&request)?);
+        let acts = on_images(self.request(&request)?, self.draw_number());
         let spoilt = damage::image(self.random, &before);
         for _ in 0..=self.random.below(3) {
             let act = acts[self.random.below(acts.len() as u64) as usize];

@@ -45,6 +45,7 @@ fn one(act: &Act, told: &Told, desk: &Desk) -> String {
             let stretched = written(&numbers[..SLOTS]);
             format!("length {value}, line {need} {period}, stretched{stretched}")
         }
+        Act::Leave(_) => format!("gone in {value}"),
         Act::Empty => format!("length {value}"),
         Act::Run(_) => format!("ran {value}"),
         Act::Ready => format!("word {value}"),

@@ -25,7 +25,7 @@ impl Draw {
         }
     }
 
-    /// Lines and a new, short one that take up nearly all of the pump, each line owed all or nothing.
+    /// Lines and a new, short one that take up nearly all of the pump, each line owed all or nothing; one in four leaves.
     fn question(&mut self, frame: u32, least: u32) -> (Pump, Request) {
         let mut pump = Pump::new(0);
         let mut request = Request {
@@ -46,6 +46,7 @@ impl Draw {
                     period: period as u16,
                     age: age as u16,
                     remaining: remaining as u16,
+                    leaves: self.below(4) == 0,
                 };
                 free -= need * (frame / period);
             }

@@ -1,7 +1,7 @@
 //! Cards that go over the boundary whole (R64 to R66).
 
 use crate::lent::{writes, Lent, FILL};
-use crate::samples::{refused, CARD_A, CARD_A_MIXED, CARD_A_OLD};
+use crate::samples::{refused, CARD_A, CARD_A_MIXED, CARD_A_OLD, CARD_LEAVING, CARD_LEAVING_TWIN};
 use trimthuel::{answer, rewrite, run, Refusal, Rewritten, CARD_MAX, LINE_MAX};
 
 /// The function on a card that is lent too, and stays.
@@ -22,9 +22,16 @@ fn r64_the_line() {
     for card in [CARD_A, CARD_A_OLD, CARD_A_MIXED] {
         writes(of(answer, card), b"release 13\n");
     }
+    // R10: 40 and not 45, since the first line leaves.
+    for card in [CARD_LEAVING, CARD_LEAVING_TWIN] {
+        writes(of(answer, card), b"release 40\n");
+    }
     writes(of(answer, b""), b"refused 11 0\n");
-    // R58: a record that is cut, as with TB.
-    writes(of(answer, b"CK\0\0\0\0\0\0\0\0TA"), b"refused 11 10\n");
+    // R57, R58: a record that is cut, as with TB.
+    for mark in [b"TA", b"TL"] {
+        let cut = [b"CK\0\0\0\0\0\0\0\0", &mark[..]].concat();
+        writes(of(answer, &cut), b"refused 11 10\n");
+    }
     let late = b"CK\xFF\xFF\xFF\xFF\xFF\xFF\xFF\xFFRQ\x01\0\x04\0";
     writes(of(answer, late), b"refused 1 0\n");
     assert_eq!(answer(CARD_A, &mut [0; LINE_MAX]), Ok(11));
@@ -48,6 +55,16 @@ fn r65_a_card_is_written_as_its_twin() {
     }
 }
 
+/// R72: a TL record stands as it is.
+#[test]
+fn r65_a_card_with_every_mark() {
+    for (card, turned) in [(CARD_LEAVING, 0b1000), (CARD_LEAVING_TWIN, 0)] {
+        writes(of(rewritten_length, card), CARD_LEAVING_TWIN);
+        let whole = Rewritten { length: 54, turned };
+        assert_eq!(rewrite(card, &mut [0; CARD_MAX]), Ok(whole));
+    }
+}
+
 /// R65: the slots that are named of a card with these records.
 fn slots_of(records: &[&[u8]]) -> Vec<usize> {
     let card = [&CARD_A[..10], &records.concat(), &CARD_A[34..]].concat();
@@ -61,6 +78,9 @@ fn r65_the_slots_of_the_old_order() {
     assert_eq!(slots_of(&[old; 16]), Vec::from_iter(0..16));
     assert_eq!(slots_of(&[&b"TF".repeat(15), old]), [15]);
     assert_eq!(slots_of(&[old, b"TF", old]), [0, 2]);
+    let leaving: &[u8] = b"TL\x01\0\x02\0\x03\0\x04\0\x05\0";
+    assert_eq!(slots_of(&[leaving, old, leaving]), [1]);
+    assert_eq!(slots_of(&[leaving; 16]), []);
     assert_eq!(slots_of(&[]), []);
 }
 
@@ -69,6 +89,8 @@ fn r66_the_pump_runs() {
     assert_eq!(run(CARD_A, 0), Ok(0));
     assert_eq!(run(CARD_A, 26), Ok(23));
     assert_eq!(run(CARD_A, 56), Ok(53));
+    assert_eq!(run(CARD_LEAVING, 56), Ok(42));
+    assert_eq!(run(CARD_LEAVING_TWIN, 56), Ok(42));
     assert_eq!(run(b"CK", 1), refused(11, 0));
     assert_eq!(run(b"CK\0\0\0\0\0\0\0\0RQ\0\0\0\0", 1), refused(6, 0));
     // R35: the last ask is 65,536 ticks before the last tick, so that no run gets there.

@@ -2,30 +2,34 @@
 
 use crate::lent::Lent;
 use crate::samples::{
-    admitted, case_a, counted, image, refused, running, waiting, Image, BENCH, IDLE, LAST_TICK,
+    admitted, case_a, counted, image, refused, running, waiting, Image, BENCH, DEPARTED, IDLE,
+    LAST_TICK,
 };
-use trimthuel::image::{admit, ask, counts, ready, step, write_card};
-use trimthuel::{Answer, CARD_MAX};
+use trimthuel::image::{admit, ask, counts, leave, ready, step, write_card};
+use trimthuel::{Answer, CARD_MAX, COUNTS};
 
-/// R24: ask, admit and step refuse these bytes alike, and leave them.
+/// R24: ask, admit, step and leave refuse these bytes alike, and leave them.
 #[track_caller]
 fn refuses(table: Image, place: usize) {
     let mut lent = Lent::new(&table);
     assert_eq!(ask(lent.lend(), &BENCH), refused(4, place));
     assert_eq!(admit(lent.lend(), &BENCH), refused(4, place));
     assert_eq!(step(lent.lend()), refused(4, place));
+    assert_eq!(leave(lent.lend(), 0), refused(4, place));
+    assert_eq!(leave(lent.lend(), u64::MAX), refused(4, place));
     lent.holds(&table);
 }
 
 #[test]
 fn r96_equal_to_the_clock_and_one_above() {
     let granted = Ok(Answer { start: 13, slot: 2 });
-    for place in 0..=IDLE {
-        let other = (place + 1) % (IDLE + 1);
+    for place in 0..COUNTS {
+        let other = (place + 1) % COUNTS;
         for (one, rest) in [(8, 0), (5, 3), (0, 0)] {
             let table = counted(case_a(), &[(place, one), (other, rest)]);
             assert_eq!(ask(&table, &BENCH), granted);
             assert_eq!(step(&mut table.clone()), Ok(Some(1)));
+            assert_eq!(leave(&mut table.clone(), 1), Ok(8));
         }
         refuses(counted(case_a(), &[(place, 9)]), 0);
         refuses(counted(case_a(), &[(place, 5), (other, 4)]), 0);
@@ -34,14 +38,16 @@ fn r96_equal_to_the_clock_and_one_above() {
 
 #[test]
 fn r96_a_sum_that_does_not_wrap() {
-    let all = |ticks: u64| Vec::from_iter((0..=IDLE).map(|place| (place, ticks)));
+    let all = |ticks: u64| Vec::from_iter((0..COUNTS).map(|place| (place, ticks)));
     let sums = [
         vec![(0, 1 << 63), (1, 1 << 63)],
         vec![(15, 1 << 63), (IDLE, 1 << 63)],
+        vec![(IDLE, 1 << 63), (DEPARTED, 1 << 63)],
         all(1 << 60)[..16].to_vec(),
-        all(1 << 60)[1..].to_vec(),
+        all(1 << 60)[2..].to_vec(),
         vec![(0, u64::MAX), (1, 1)],
         vec![(3, 1), (IDLE, u64::MAX)],
+        vec![(3, 1), (DEPARTED, u64::MAX)],
         vec![(5, u64::MAX), (6, 9)],
         all(u64::MAX),
     ];
@@ -91,12 +97,14 @@ fn r48_other_grounds_of_a_step() {
 /// R89, R91, R98: who does not test the counts.
 #[test]
 fn r98_any_counts_are_shown() {
-    let all: Vec<_> = (0..=IDLE).map(|k| (k, u64::MAX - k as u64)).collect();
+    let all: Vec<_> = (0..COUNTS).map(|k| (k, u64::MAX - k as u64)).collect();
     let table = counted(case_a(), &all);
     let shown = counts(&table).unwrap();
     assert_eq!(shown.had, std::array::from_fn(|k| u64::MAX - k as u64));
     assert_eq!((shown.idle, shown.clock), (u64::MAX - 16, 8));
-    assert_eq!(shown.sum(), 17 * u128::from(u64::MAX) - 136);
+    assert_eq!(shown.departed, u64::MAX - 17);
+    // 0 to 17 add up to 153.
+    assert_eq!(shown.sum(), 18 * u128::from(u64::MAX) - 153);
     assert_eq!(ready(&table), Ok(0b10));
     assert_eq!(write_card(&table, &BENCH, &mut [0; CARD_MAX]), Ok(40));
 }
@@ -104,13 +112,13 @@ fn r98_any_counts_are_shown() {
 /// R42: the new line's slot alone is set to 0, whatever stood there; a stretched line keeps its own.
 #[test]
 fn r42_an_admission_sets_one_count_to_0() {
-    let mut all: Vec<_> = (0..=IDLE).map(|k| (k, 1 << 40)).collect();
+    let mut all: Vec<_> = (0..COUNTS).map(|k| (k, 1 << 40)).collect();
     let late = |mut table: Image| {
-        table[1..9].copy_from_slice(&(17_u64 << 40).to_le_bytes());
+        table[1..9].copy_from_slice(&(18_u64 << 40).to_le_bytes());
         table
     };
     let mut table = counted(late(case_a()), &all);
-    let start = (17 << 40) + 5;
+    let start = (18 << 40) + 5;
     assert_eq!(admit(&mut table, &BENCH), Ok(Answer { start, slot: 2 }));
     all[2] = (2, 0);
     assert_eq!(table, counted(late(admitted()), &all));

@@ -17,9 +17,9 @@ fn the_same_words() {
         let (number, why) = entry.split_once(" */ \"").expect("a number and words");
         (number.trim().parse().expect("a number"), why)
     });
-    let ours = (0..=15).map(|number| (number, refusal(number).why()));
+    let ours = (0..=16).map(|number| (number, refusal(number).why()));
     assert_eq!(Vec::from_iter(words), Vec::from_iter(ours));
-    for number in [16, u16::MAX] {
+    for number in [17, u16::MAX] {
         assert_eq!(refusal(number).why(), refusal(0).why());
     }
 }
@@ -46,8 +46,9 @@ fn the_same_constants() {
 
 #[test]
 fn r50_the_lamp() {
-    let blinks = Vec::from_iter((0..=16).map(|number| refusal(number).blinks()));
-    assert_eq!(blinks, [0, 1, 1, 1, 2, 2, 2, 3, 3, 3, 3, 4, 4, 4, 5, 5, 0]);
+    let blinks = Vec::from_iter((0..=17).map(|number| refusal(number).blinks()));
+    let wanted = [0, 1, 1, 1, 2, 2, 2, 3, 3, 3, 3, 4, 4, 4, 5, 5, 0, 0];
+    assert_eq!(blinks, wanted);
     // R90: all 64 bits are looked at.
     for number in [16, 256, (1 << 16) + 1, (1 << 32) + 15, u64::MAX] {
         assert_eq!(trimthuel::lamp(number), 0);

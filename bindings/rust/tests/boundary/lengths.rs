@@ -1,12 +1,12 @@
-//! Every function on images (R85 to R92, R98), with lent buffers of every length.
+//! Every function on images (R85 to R92, R98, R102), with lent buffers of every length.
 
 use crate::lent::{overwritten, writes, Lent, FILL};
 use crate::samples::{
-    admitted, case_a, counted, image, refused, running, Image, BENCH, CARD_A, CARD_A_MIXED,
-    CARD_A_OLD, NUMBERS_A,
+    admitted, case_a, case_e_leaving, counted, image, leaving, refused, running, Image, BENCH,
+    CARD_A, CARD_A_MIXED, CARD_A_OLD, CARD_LEAVING, CARD_LEAVING_TWIN, NUMBERS_A,
 };
 use std::fmt::Debug;
-use trimthuel::image::{admit, ask, counts, empty, read_card, ready, step, write_card};
+use trimthuel::image::{admit, ask, counts, empty, leave, read_card, ready, step, write_card};
 use trimthuel::{Answer, Counts, Refusal, REQUEST_SIZE, TABLE_SIZE};
 
 /// R83: case A's image cut, or with bytes after it, is refused there and stays. Whole it is granted this, and is that after.
@@ -46,6 +46,12 @@ fn r88_step() {
 }
 
 #[test]
+fn r102_leave() {
+    let next = image(8, &[(0, running(8, 16, 8, 0)), (1, leaving(8, 16, 8, 8))]);
+    reads(|table| leave(table, 1), 8, next);
+}
+
+#[test]
 fn r89_ready() {
     reads(|table| ready(table), 0b10, case_a());
 }
@@ -55,6 +61,7 @@ fn r98_counts() {
     let none = Counts {
         had: [0; 16],
         idle: 0,
+        departed: 0,
         clock: 8,
     };
     reads(|table| counts(table), none, case_a());
@@ -93,6 +100,15 @@ fn read_into(
 fn r92_read_card() {
     for card in [CARD_A, CARD_A_OLD, CARD_A_MIXED] {
         writes(|table| read_into(card, table, &NUMBERS_A), &case_a());
+    }
+    let mut numbers_e = [0; REQUEST_SIZE];
+    (numbers_e[0], numbers_e[2], numbers_e[3]) = (4, 64, 64);
+    (numbers_e[16], numbers_e[17]) = (1, 4);
+    for card in [CARD_LEAVING, CARD_LEAVING_TWIN] {
+        writes(
+            |table| read_into(card, table, &numbers_e),
+            &case_e_leaving(),
+        );
     }
     for length in 0..CARD_A.len() {
         let card = &CARD_A[..length];

@@ -4,6 +4,7 @@ mod broken;
 mod cards;
 mod counts;
 mod header;
+mod leave;
 mod lengths;
 mod lent;
 mod numbers;

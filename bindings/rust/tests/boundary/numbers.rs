@@ -2,7 +2,8 @@
 
 use crate::lent::Lent;
 use crate::samples::{
-    admitted, case_a, counted, image, BENCH, CARD_A, CARD_A_OLD, IDLE, LAST_TICK,
+    admitted, case_a, counted, image, leaving, BENCH, CARD_A, CARD_A_OLD, CARD_LEAVING, DEPARTED,
+    IDLE, LAST_TICK,
 };
 use trimthuel::numbers::{self, Numbers, NO_SLOT};
 use trimthuel::{Request, CARD_MAX, COUNTS, LINE_MAX, REQUEST_SIZE, SLOTS, TABLE_SIZE};
@@ -47,10 +48,26 @@ fn step_and_ready() {
     is(numbers::ready(&case_a()[..80]), [11, 80, 0]);
 }
 
-/// R98: what is told, and what the seventeen lent numbers are then.
+/// R102: a refusal's place is the number as it was named.
+#[test]
+fn leave() {
+    is(numbers::leave(&mut case_a(), 1), [0, 0, 8]);
+    is(numbers::leave(&mut admitted(), 0), [0, 0, 24]);
+    is(numbers::leave(&mut admitted(), 2), [0, 0, 0]);
+    let gone = image(0, &[(0, leaving(1, 4, 3, 0))]);
+    let over = counted(gone, &[(DEPARTED, 1)]);
+    for number in [0, 1, 15, 16, 17, 1 << 16, 1 << 32, u64::MAX] {
+        let [mut whole, mut cut, mut over] = [gone, gone, over];
+        is(numbers::leave(&mut whole, number), [16, number, 0]);
+        is(numbers::leave(&mut cut[..80], number), [11, 80, 0]);
+        is(numbers::leave(&mut over, number), [4, 0, 0]);
+    }
+}
+
+/// R98: what is told, and what the eighteen lent numbers are then.
 fn shown(table: &[u8]) -> (Numbers, [u64; COUNTS]) {
     let mut lent = Lent::new(&[7; COUNTS]);
-    let counts: &mut [u64; COUNTS] = lent.lend().try_into().expect("seventeen numbers");
+    let counts: &mut [u64; COUNTS] = lent.lend().try_into().expect("eighteen numbers");
     let told = numbers::counts(table, counts);
     let after = *counts;
     lent.holds(&after);
@@ -59,14 +76,22 @@ fn shown(table: &[u8]) -> (Numbers, [u64; COUNTS]) {
 
 #[test]
 fn counts() {
-    let table = counted(case_a(), &[(0, 4), (15, u64::MAX), (IDLE, u64::MAX - 1)]);
+    let most = [
+        (15, u64::MAX),
+        (IDLE, u64::MAX - 1),
+        (DEPARTED, u64::MAX - 2),
+    ];
+    let table = counted(counted(case_a(), &[(0, 4)]), &most);
     let (told, after) = shown(&table);
     is(told, [0, 0, 8]);
     let mut wanted = [0; COUNTS];
-    (wanted[0], wanted[15], wanted[IDLE]) = (4, u64::MAX, u64::MAX - 1);
+    wanted[0] = 4;
+    for (place, ticks) in most {
+        wanted[place] = ticks;
+    }
     assert_eq!(after, wanted);
     is(shown(&image(u64::MAX, &[])).0, [0, 0, u64::MAX]);
-    for (broken, at) in [(&table[..288], 288), (&[0; 289], 0), (&[], 0)] {
+    for (broken, at) in [(&table[..296], 296), (&[0; 297], 0), (&[], 0)] {
         let (told, after) = shown(broken);
         is(told, [11, at, 0]);
         assert_eq!(after, [7; COUNTS]);
@@ -75,7 +100,7 @@ fn counts() {
 
 #[test]
 fn what_is_written() {
-    is(numbers::empty(&mut [0; TABLE_SIZE]), [0, 0, 289]);
+    is(numbers::empty(&mut [0; TABLE_SIZE]), [0, 0, 297]);
     is(numbers::empty(&mut [0; TABLE_SIZE - 1]), [13, 0, 0]);
     for (table, room, wanted) in [
         (case_a(), 40, [0, 0, 40]),
@@ -90,7 +115,7 @@ fn what_is_written() {
     }
     let read =
         |card, room| numbers::read_card(card, &mut [0; TABLE_SIZE][..room], &mut [0; REQUEST_SIZE]);
-    is(read(CARD_A, TABLE_SIZE), [0, 0, 289]);
+    is(read(CARD_A, TABLE_SIZE), [0, 0, 297]);
     is(read(CARD_A, TABLE_SIZE - 1), [13, 0, 0]);
     is(read(&CARD_A[..39], TABLE_SIZE), [11, 34, 0]);
 }
@@ -102,6 +127,7 @@ fn whole_cards() {
     is(numbers::rewrite(CARD_A, &mut [0; CARD_MAX]), [0, 0, 40]);
     is(numbers::rewrite(CARD_A_OLD, &mut [0; CARD_MAX]), [0, 3, 40]);
     is(numbers::rewrite(CARD_A_OLD, &mut [0; 39]), [13, 0, 0]);
+    is(numbers::rewrite(CARD_LEAVING, &mut [0; 54]), [0, 8, 54]);
     is(
         numbers::rewrite(&CARD_A[..39], &mut [0; CARD_MAX]),
         [11, 34, 0],

@@ -1,7 +1,8 @@
 //! The pump that owns its table, and requests.
 
 use crate::samples::{
-    admitted, case_a, counted, image, refused, running, BENCH, CARD_A, CARD_A_OLD, LAST_TICK,
+    admitted, case_a, case_e_leaving, counted, image, leaving, refused, running, BENCH, CARD_A,
+    CARD_A_OLD, CARD_LEAVING, CARD_LEAVING_TWIN, DEPARTED, IDLE, LAST_TICK,
 };
 use trimthuel::{Answer, Pump, Refusal, Request, CARD_MAX, TABLE_SIZE};
 
@@ -16,6 +17,19 @@ fn r4_a_new_pump_is_the_empty_table() {
     assert_eq!(EMPTY.ready(), 0);
     assert_eq!((EMPTY.counts().sum(), EMPTY.counts().clock), (0, 0));
     assert_eq!(trimthuel::version(), trimthuel::VERSION);
+}
+
+/// A character for each tick.
+fn row_of(pump: &mut Pump, ticks: usize) -> Result<String, Refusal> {
+    let digit = |slot: usize| char::from_digit(slot as u32, 10).unwrap_or('?');
+    let ticks = (0..ticks).map(|_| Ok(pump.step()?.map_or('.', digit)));
+    ticks.collect()
+}
+
+/// What the driver's own history has after these words.
+fn stored(words: &str) -> Option<&'static str> {
+    let history = include_str!("../../../../histories/controller.history");
+    history.lines().find_map(|line| line.strip_prefix(words))
 }
 
 /// R67, from the empty table to case A and on; the row is the one of the driver's own program.
@@ -40,20 +54,24 @@ fn case_a_from_the_empty_table() -> Result<(), Refusal> {
     assert_eq!(pump.image(), &counted(case_a(), &eight));
     assert_eq!(pump.admit(&bench), Ok(answer));
     assert_eq!(pump.image(), &counted(admitted(), &eight));
-    let digit = |slot: usize| char::from_digit(slot as u32, 10).unwrap_or('?');
-    let ticks = (0..56).map(|_| Ok(pump.step()?.map_or('.', digit)));
-    let row = ticks.collect::<Result<String, Refusal>>()?;
-    let history = include_str!("../../../../histories/controller.history");
-    let stored = history
-        .lines()
-        .find_map(|line| line.strip_prefix("step 56: "));
-    assert_eq!(stored, Some(row.as_str()));
+    let row = row_of(&mut pump, 56)?;
+    assert_eq!(stored("step 56: "), Some(row.as_str()));
     // R79: each count is how often the row names it, the first eight ticks before it.
     let named = |mark: char| row.chars().filter(|ran| *ran == mark).count() as u64;
     let counts = pump.counts();
     let had = [8 + named('0'), named('1'), named('2')];
     assert_eq!((&counts.had[..3], counts.idle), (&had[..], named('.')));
     assert_eq!((counts.sum(), counts.clock), (64, 64));
+    // R100: the second line is let go at the beginning of a period, and has all of it.
+    assert_eq!(pump.leave(1), Ok(16));
+    assert_eq!(pump.leave(1), refused(16, 1));
+    let last = row_of(&mut pump, 16)?;
+    assert_eq!(stored("step 16: "), Some(last.as_str()));
+    let counts = pump.counts();
+    assert_eq!((counts.had[1], counts.departed), (0, named('1') + 8));
+    assert_eq!((counts.sum(), counts.clock), (80, 80));
+    assert_eq!(pump.leave(1), refused(16, 1));
+    assert_eq!(pump.leave(usize::MAX), refused(16, usize::MAX));
     Ok(())
 }
 
@@ -67,6 +85,8 @@ fn r17_a_refusal_changes_nothing() {
     assert_eq!(pump.admit(&pump.request(5, 4)), refused(6, 0));
     assert_eq!(pump.admit(&pump.request(1, 4)), refused(8, 0));
     assert_eq!(pump.write_card(&BENCH, &mut [0; 39]), refused(13, 0));
+    assert_eq!(pump.leave(2), refused(16, 2));
+    assert_eq!(pump.leave(16), refused(16, 16));
     assert_eq!(pump, before);
     let mut last = Pump::from_image(&image(LAST_TICK, &[])).unwrap();
     assert_eq!(last.step(), refused(15, 0));
@@ -103,10 +123,24 @@ fn r72_there_and_back() {
     assert_eq!(Pump::from_card(b"CK\0\0\0\0\0\0\0\0TA"), refused(11, 10));
 }
 
+/// R53, R72: a line that leaves does so on the card too, and what is gone is not counted there.
+#[test]
+fn r72_there_and_back_with_a_line_that_leaves() {
+    let (pump, request) = Pump::from_card(CARD_LEAVING).unwrap();
+    assert_eq!(pump.image(), &case_e_leaving());
+    assert_eq!(Pump::from_card(CARD_LEAVING_TWIN), Ok((pump, request)));
+    let had = [(0, 4), (IDLE, 1), (DEPARTED, u64::MAX)];
+    let full = Pump::from_image(&counted(case_e_leaving(), &had)).unwrap();
+    let mut card = [0; CARD_MAX];
+    assert_eq!(full.write_card(&request, &mut card), Ok(54));
+    assert_eq!(&card[..54], CARD_LEAVING_TWIN);
+}
+
 #[test]
 fn every_slot_keeps_its_period() {
+    let kinds = [running, leaving];
     let lines: Vec<_> = (0..15)
-        .map(|slot| (slot, running(1, 1000 + slot as u16, 0, 1)))
+        .map(|slot| (slot, kinds[slot % 2](1, 1000 + slot as u16, 0, 1)))
         .collect();
     let pump = Pump::from_image(&image(0, &lines)).unwrap();
     let Request { stretched, .. } = pump.request(1, 4);

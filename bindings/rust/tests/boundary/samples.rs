@@ -20,6 +20,11 @@ pub fn running(need: u16, period: u16, age: u16, remaining: u16) -> Line {
     (1, [need, period, age, remaining])
 }
 
+/// R3, R99: C, T, age, remaining of a line that leaves.
+pub fn leaving(need: u16, period: u16, age: u16, remaining: u16) -> Line {
+    (3, [need, period, age, remaining])
+}
+
 /// R3: C, T, wait.
 pub fn waiting(need: u16, period: u16, wait: u16) -> Line {
     (2, [need, period, wait, 0])
@@ -28,7 +33,7 @@ pub fn waiting(need: u16, period: u16, wait: u16) -> Line {
 /// R81: the image of a clock and some slots; the others hold nothing, and nothing is counted.
 pub fn image(clock: u64, lines: &[(usize, Line)]) -> Image {
     let mut image = [0; TABLE_SIZE];
-    image[0] = 2;
+    image[0] = 3;
     image[1..9].copy_from_slice(&clock.to_le_bytes());
     for (slot, (kind, numbers)) in lines {
         let at = offset(*slot);
@@ -40,8 +45,9 @@ pub fn image(clock: u64, lines: &[(usize, Line)]) -> Image {
     image
 }
 
-/// R81: where the idle count stands among the counts.
+/// R81: where the idle count and the departed one, the last, stand among the counts.
 pub const IDLE: usize = 16;
+pub const DEPARTED: usize = 17;
 
 /// R81: the same with some counts, each by its place.
 pub fn counted(mut image: Image, counts: &[(usize, u64)]) -> Image {
@@ -88,6 +94,32 @@ pub const CARD_A_MIXED: &[u8] = b"CK\x08\0\0\0\0\0\0\0\
 
 /// R92: the request of case A as eighteen numbers.
 pub const NUMBERS_A: [u16; 18] = [32, 16, 0, 0, 0, 0, 0, 0, 0, 0, 0, 0, 0, 0, 0, 0, 1, 4];
+
+/// R53: case E with a line that leaves: a TL, a TF, a TB and a TA record.
+pub const CARD_LEAVING: &[u8] = b"CK\x28\0\0\0\0\0\0\0\
+    TL\x01\0\x04\0\x04\0\0\0\x01\0\
+    TF\
+    TB\x10\0\x40\0\x40\0\x34\0\x08\0\
+    TA\x10\0\x20\0\x40\0\0\0\x0C\0\
+    RQ\x01\0\x04\0";
+
+/// R72: its twin.
+pub const CARD_LEAVING_TWIN: &[u8] = b"CK\x28\0\0\0\0\0\0\0\
+    TL\x01\0\x04\0\x04\0\0\0\x01\0\
+    TF\
+    TB\x10\0\x40\0\x40\0\x34\0\x08\0\
+    TB\x10\0\x20\0\x40\0\x0C\0\0\0\
+    RQ\x01\0\x04\0";
+
+/// R56: its table.
+pub fn case_e_leaving() -> Image {
+    let lines = [
+        (0, leaving(1, 4, 0, 1)),
+        (2, running(16, 64, 52, 8)),
+        (3, running(16, 32, 12, 0)),
+    ];
+    image(40, &lines)
+}
 
 pub fn refused<T>(number: u16, place: usize) -> Result<T, Refusal> {
     let place = place as u64;

@@ -1,4 +1,4 @@
--- `put_image`: the slots go behind the version and the clock, and the counts behind the slots.
+-- `put_image`: the slots go behind the version and the clock, the counts behind the slots, each where the last ends.
 use borrow.Author.Needs.{needs}
 use mathlib.Core.Path.{_≡_, refl}
 use mathlib.Core.List.{_∷_, _++_}
@@ -14,7 +14,8 @@ use Rattle.image.proofs.put_image.Tie as tie
 returns : tie.Need-returns
 unfolding imageOf
 returns c =
-    let e = c .before .before in
+    let d = c .before .before in
+    let e = d .before .before .before .before in
     let k = e .before .before .before .before in
     let s = k .before .before .before .before in
     let n = s .before .before .before .before in
@@ -23,19 +24,24 @@ returns c =
     let front = version ∷ le 8 (a .t .clock) in
     let slots = slotsBytes (a .t .slots) in
     let counts = countsBytes (a .t .had) in
+    let idle = le 8 (a .t .idle) in
     let h : length (a .t .slots) ≡ 16 = simp length-map at (b .good .0 .1 .1 .1 .0 .1 .0 .1) in
     let g : length (a .t .had) ≡ 16 = simp length-map at (b .good .0 .1 .1 .1 .1 .0 .1 .0 .1) in
     let ls : length slots ≡ 144 = omega (arith, length-slots (a .t .slots)) in
     let lc : length counts ≡ 128 = omega (arith, length-counts (a .t .had)) in
-    put-at (a .out .now) _ (front ++ slots ++ counts) (le 8 (a .t .idle)) (e .put-eight .last .0) 281 8
+    let lsc : length (slots ++ counts) ≡ 272 = omega (arith, length-append slots counts) in
+    put-at (a .out .now) _ (front ++ slots ++ counts ++ idle) (le 8 (a .t .departed)) (d .put-eight2 .last .0) 289 8
+    (put-at (a .out .now) _ (front ++ slots ++ counts) idle (e .put-eight .last .0) 281 8
     (put-at (a .out .now) _ (front ++ slots) counts (k .put-counts .last .0) 153 128
     (put-at (a .out .now) (n .put-nine .last .0) front slots (s .put-slots .last .0) 9 144 (n .put-nine .ensures) refl ls (s .put-slots .ensures))
     (omega arith) lc (k .put-counts .ensures))
-    (omega (arith, length-append slots counts)) refl (e .put-eight .ensures)
+    (omega arith) refl (e .put-eight .ensures))
+    (omega (arith, length-append (slots ++ counts) idle)) refl (d .put-eight2 .ensures)
 
 pub put-image-spec : {M : Type 1} → statement M
 put-image-spec =
     tie.close
     (tie.spec (λ c κs. search needs) (λ c. search needs) (λ c. search needs) (λ c. search needs) (λ c κs. search needs)
+    (λ c. search needs) (λ c. search needs) (λ c. search needs) (λ c κs. search needs)
     (λ c. search needs) (λ c. search needs) (λ c. search needs) (λ c κs. search needs)
     (λ c. search needs) (λ c. search needs) (λ c. search needs) (λ c κs. search needs) (λ c. search needs) returns)

@@ -17,6 +17,9 @@ put-line-requires-2 c κs = omega (arith, ap recordLength (c .before .before .en
 put-mark-requires : tie.Need-put-mark-requires
 put-mark-requires c κs = omega (arith, ap recordLength (c .before .before .enum-told3 .given .1))
 
+put-line-requires-3 : tie.Need-put-line-requires-3
+put-line-requires-3 c κs = omega (arith, ap recordLength (c .before .before .enum-told4 .given .1))
+
 returns : tie.Need-returns
 returns c =
     let a = c .before .before .before .before .before .before .before .before .args in
@@ -32,8 +35,13 @@ returns-3 c =
     let a = c .before .before .before .before .before .before .before .before .args in
     put-marked (a .r) Mark.TF (c .before .before .before .before .before .enum-told3 .given .1) (a .out .now) _ (c .before .before .put-mark .ensures)
 
+returns-4 : tie.Need-returns-4
+returns-4 c =
+    let a = c .before .before .before .before .before .before .before .before .args in
+    put-marked (a .r) Mark.TL (c .before .before .before .before .before .enum-told4 .given .1) (a .out .now) _ (c .before .before .put-line3 .ensures)
+
 pub put-record-spec : {M : Type 1} → statement M
 put-record-spec =
     tie.close
     (tie.spec (λ c. search needs) put-line-requires (λ c. search needs) put-line-requires-2 (λ c. search needs) put-mark-requires (λ c. search needs)
-    returns (λ c. search needs) returns-2 (λ c. search needs) returns-3)
+    put-line-requires-3 (λ c. search needs) returns (λ c. search needs) returns-2 (λ c. search needs) returns-3 (λ c. search needs) returns-4)

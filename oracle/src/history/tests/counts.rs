@@ -1,11 +1,11 @@
 //! Libraries that count wrongly (R42, R96 to R98), or test the counts wrongly (R24).
 
-use super::{granted, with, Fault};
+use super::{granted, table, with, Fault};
 use crate::boundary::{should, Act, Desk, Told, NO_SLOT};
 use crate::history::operation::Operation;
 use crate::image;
 use crate::rules;
-use crate::types::{Table, SLOTS};
+use crate::types::{Table, IDLE, SLOTS};
 
 pub const FAULTS: [Fault; 11] = [
     ("served uncounted", served_uncounted, 2),
@@ -17,14 +17,9 @@ pub const FAULTS: [Fault; 11] = [
     ("counts before lines", counts_before_lines, 3),
     ("counts after 14", counts_after_14, 4),
     ("too many not shown", too_many_not_shown, 2),
-    ("idle first", idle_first, 2),
+    ("departed before idle", departed_before_idle, 2),
     ("refusal shows", refusal_shows, 3),
 ];
-
-/// The table of a desk whose image reads.
-fn table(desk: &Desk) -> Option<Table> {
-    image::read(desk.image.part()).ok()
-}
 
 /// A count put into the image.
 fn put(desk: &mut Desk, place: usize, ticks: u64) {
@@ -132,11 +127,11 @@ fn too_many_not_shown(act: &Act, desk: &mut Desk) -> Told {
     }
 }
 
-/// The idle count stands before those of the slots.
-fn idle_first(act: &Act, desk: &mut Desk) -> Told {
+/// The two last counts are exchanged.
+fn departed_before_idle(act: &Act, desk: &mut Desk) -> Told {
     with(act, desk, |told, desk| {
         if *act == Act::Counts && granted(told) {
-            desk.counts.part_mut().rotate_right(1);
+            desk.counts.part_mut().swap(IDLE, IDLE + 1);
         }
     })
 }

@@ -32,12 +32,13 @@ loop-again c =
     let v = at .before .before .before .before .loop .inv in
     let h = at .before .before .before .loop-test .taken in
     let t = at .is-empty .ensures in
-    ⊎-elim (λ w. rw (w .8) (gather-push v _ h t (w .0 .taken) (w .1 .ensures) (w .2 .ensures))) (λ w. rw (w .1) (gather-skip v _ h t (w .0 .left))) (c .if1 .came)
+    ⊎-elim (λ w. rw (w .8) (gather-push v _ h t (w .0 .taken) (w .1 .ensures) (w .2 .ensures) (w .7 .ensures))) (λ w. rw (w .1) (gather-skip v _ h t (w .0 .left))) (c .if1 .came)
 
 pub gather-spec : {M : Type 1} → statement M
 gather-spec =
     tie.close
-    (tie.spec Inv-loop μ-loop loop-holds (λ c. search needs) (λ c. search needs) (λ c. search needs) (λ c. search needs) (λ c κs. search needs) (λ c κs. search needs) (λ c κs. search needs)
-    (λ c. search needs) (λ c. search needs) (λ c. search needs) (λ c. search needs) (λ c. search needs) (λ c. search needs) (λ c. search needs) (λ c. search needs) (λ c. search needs)
-    (λ c. search needs) (λ c. search needs) (λ c. search needs) (λ c. search needs) (λ c. search needs) (λ c. search needs) (λ c. search needs) (λ c. search needs) (λ c. search needs) loop-again
+    (tie.spec Inv-loop μ-loop loop-holds (λ c. search needs) (λ c. search needs) (λ c. search needs) (λ c. search needs) (λ c κs. search needs) (λ c κs. search needs)
+    (λ c κs. search needs) (λ c. search needs) (λ c. search needs) (λ c. search needs) (λ c. search needs) (λ c. search needs) (λ c. search needs) (λ c. search needs)
+    (λ c. search needs) (λ c. search needs) (λ c. search needs) (λ c. search needs) (λ c. search needs) (λ c κs. search needs) (λ c. search needs) (λ c. search needs)
+    (λ c. search needs) (λ c. search needs) (λ c. search needs) loop-again
     (λ c. let v = c .before .loop .inv in record { few = omega (arith, v .few, v .upto); room = gather-room v; same = gather-end v (c .loop-test .left); wide = v .wide }))

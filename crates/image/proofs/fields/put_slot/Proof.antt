@@ -7,5 +7,6 @@ use Rattle.image.proofs.fields.put_slot.Tie as tie
 pub put-slot-spec : {M : Type 1} → statement M
 put-slot-spec =
     tie.close
-    (tie.spec (λ c. search needs) (λ c κs. search needs) (λ c. search needs) (λ c κs. search needs) (λ c κs. search needs) (λ c. search needs)
-    (λ c κs. search needs) (λ c κs. search needs) (λ c. search needs) (λ c. search put-nothing) (λ c. search needs) (λ c. search put-running) (λ c. search needs) (λ c. search put-waiting))
+    (tie.spec (λ c. search needs) (λ c κs. search needs) (λ c. search needs) (λ c κs. search needs) (λ c κs. search needs) (λ c κs. search needs)
+    (λ c. search needs) (λ c κs. search needs) (λ c κs. search needs) (λ c. search needs) (λ c. search put-nothing) (λ c. search needs)
+    (λ c. search put-running) (λ c. search needs) (λ c. search put-waiting))
