@@ -41,6 +41,20 @@ const LEAVING_BACK: &[u8] = b"TL\xB6\x0C\x58\x16\x58\x16\xCD\x0B\xD9\x09";
 const SECOND_LEAVING: &[u8] = b"TL\x4F\x08\x24\x36\x24\x36\x82\x03\xF5\x02";
 const STRETCHED: &[u8] = b"TL\xB6\x0C\x72\x0D\x58\x16\xD9\x09\xCD\x0B";
 
+/// What the card of both lines says, and what it says with age and remaining exchanged; `numbers` works it out.
+const SAID: &str = "release 116940353647775\n";
+const EXCHANGED: &str = "release 116940353647275\n";
+
+/// The card of these two lines and the request, an empty slot before each of them.
+fn of_lines(
+    name: &'static str,
+    first: &'static [u8],
+    second: &'static [u8],
+    line: &'static str,
+) -> EdgeCard {
+    edge(name, &[CLOCK, FREE, first, FREE, second, ASKED], line)
+}
+
 /// R52, R53: every number in its place, its lower byte first.
 ///
 /// With t0 for the clock, the first line ends at t0 + 5720 − 2521 = t0 + 3199 and has 178 ticks to spare
@@ -57,8 +71,8 @@ fn numbers() -> Vec<EdgeCard> {
     late[0] = b"CK\x1F\x2E\x3D\x4C\x5B\x6A\x01\x00";
     later[0] = b"CK\x1F\x2E\x3D\x4C\x5B\x6A\x00\x01";
     vec![
-        edge("all different", &between, "release 116940353647775\n"),
-        edge("age and remaining", &back, "release 116940353647275\n"),
+        edge("all different", &between, SAID),
+        edge("age and remaining", &back, EXCHANGED),
         edge("T and T'", &shrunk, "refused 5 3\n"),
         edge("Cn and Tn", &asked, "refused 6 0\n"),
         edge("seventh byte of the clock", &late, "refused 1 0\n"),
@@ -141,15 +155,12 @@ fn lengths() -> Vec<EdgeCard> {
 /// what it says there with age and remaining exchanged. Were the first of two TA records alone read in the
 /// old order, the sum of R29 would be 1201 − 1113 and the card refused.
 fn mixed_orders() -> Vec<EdgeCard> {
-    let card =
-        |name, first, second, line| edge(name, &[CLOCK, FREE, first, FREE, second, ASKED], line);
-    let (said, exchanged) = ("release 116940353647775\n", "release 116940353647275\n");
     vec![
-        card("TA and TB", OLD, SECOND, said),
-        card("TB and TA", FIRST, SECOND_OLD, said),
-        card("TA and TA", OLD, SECOND_OLD, said),
-        card("TA and TA, marks only", MARKED, SECOND_MARKED, exchanged),
-        card("TA as TB", FIRST_BACK, SECOND_MARKED, exchanged),
+        of_lines("TA and TB", OLD, SECOND, SAID),
+        of_lines("TB and TA", FIRST, SECOND_OLD, SAID),
+        of_lines("TA and TA", OLD, SECOND_OLD, SAID),
+        of_lines("TA and TA, marks only", MARKED, SECOND_MARKED, EXCHANGED),
+        of_lines("TA as TB", FIRST_BACK, SECOND_MARKED, EXCHANGED),
     ]
 }
 
@@ -200,17 +211,14 @@ fn old_forms() -> Vec<EdgeCard> {
 
 /// R53: the card of `numbers` with lines that leave. The start lies between the first ends, so that it is the same.
 fn leaving_numbers() -> Vec<EdgeCard> {
-    let card =
-        |name, first, second, line| edge(name, &[CLOCK, FREE, first, FREE, second, ASKED], line);
-    let (said, exchanged) = ("release 116940353647775\n", "release 116940353647275\n");
     vec![
-        card("TL and TB", LEAVING, SECOND, said),
-        card("TL and TA", LEAVING, SECOND_OLD, said),
-        card("TB and TL", FIRST, SECOND_LEAVING, said),
-        card("TA and TL", OLD, SECOND_LEAVING, said),
-        card("TL and TL", LEAVING, SECOND_LEAVING, said),
-        card("TL, exchanged", LEAVING_BACK, SECOND_BACK, exchanged),
-        card("TL, T' longer", STRETCHED, SECOND, "refused 5 1\n"),
+        of_lines("TL and TB", LEAVING, SECOND, SAID),
+        of_lines("TL and TA", LEAVING, SECOND_OLD, SAID),
+        of_lines("TB and TL", FIRST, SECOND_LEAVING, SAID),
+        of_lines("TA and TL", OLD, SECOND_LEAVING, SAID),
+        of_lines("TL and TL", LEAVING, SECOND_LEAVING, SAID),
+        of_lines("TL, exchanged", LEAVING_BACK, SECOND_BACK, EXCHANGED),
+        of_lines("TL, T' longer", STRETCHED, SECOND, "refused 5 1\n"),
     ]
 }
 
