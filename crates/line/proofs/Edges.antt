@@ -14,7 +14,7 @@ use Rattle.line.specs.Shares.{share, claim, full}
 use Rattle.line.specs.Demand.{demand, endOf}
 use Rattle.line.specs.Stretch.{barred}
 use Rattle.line.specs.Tick.{passed, departs}
-use Rattle.line.specs.Leave.{mayLeave, letGo, ticksLeft}
+use Rattle.line.specs.Leave.{mayLeave, isParting, letGo, ticksLeft}
 
 -- R10, R11: nothing before the end, what remains at the end itself, the need once more a whole period later
 pub due-edges : map (due 5 2 3 4) (0 ∷ 4 ∷ 5 ∷ 8 ∷ 9 ∷ 12 ∷ 13 ∷ []) ≡ 0 ∷ 0 ∷ 2 ∷ 2 ∷ 5 ∷ 5 ∷ 8 ∷ []
@@ -83,12 +83,13 @@ pub barred-edges :
     × (map (barred 7) (waits ∷ Nothing ∷ []) ≡ false ∷ false ∷ [])
 barred-edges = (refl, refl, refl)
 
--- R36, R100: who may be asked to leave, what the slot holds then, and for how many ticks
+-- R36, R99, R100: who may be asked to leave, who leaves already, what the slot holds then, and for how many ticks
 pub leave-edges :
     (map mayLeave (Nothing ∷ runs ∷ waits ∷ leaves ∷ []) ≡ false ∷ true ∷ true ∷ false ∷ [])
+    × (map isParting (Nothing ∷ runs ∷ waits ∷ leaves ∷ []) ≡ false ∷ false ∷ false ∷ true ∷ [])
     × (map letGo (Nothing ∷ runs ∷ waits ∷ leaves ∷ []) ≡ Nothing ∷ leaves ∷ Nothing ∷ leaves ∷ [])
     × (map ticksLeft (Nothing ∷ runs ∷ waits ∷ leaves ∷ []) ≡ 0 ∷ 5 ∷ 0 ∷ 5 ∷ [])
-leave-edges = (refl, refl, refl)
+leave-edges = (refl, refl, refl, refl)
 
 -- R3: a line is of its own four numbers
 pub is-itself : RunsAs 3 8 3 2 runs

@@ -146,11 +146,16 @@ soundness =
     ∷ unsound (waiting 4 4 0)
     ∷ []
 
--- R44 to R46, R99, R101: a line that leaves gets what is left of its period, which ends short like any other; at the end its slot holds nothing, and what it had, its last
+-- R44 to R46, R99, R101: a line that leaves has its turn as one that renews, in the lower slot of two with equal ends and in the higher, and with an end a tick sooner and a
+-- tick later; it gets what is left of its period, which ends short like any other; at the end its slot holds nothing, and what it had, its last
 -- tick included, has departed; two may go at once; a line that renews beside it goes on, and so does the count beside a slot that held nothing
 abbrev departures : List StepCase
 departures =
-    steps (talliedWith (7 ∷ 5 ∷ []) 3 2 (tableOf 20 (parting 3 4 3 1 ∷ running 2 4 3 0 ∷ []))) (ran 0 ∷ []) (talliedWith (0 ∷ 5 ∷ []) 3 10 (tableOf 21 (empty ∷ running 2 4 0 2 ∷ [])))
+    steps (tableOf 0 (parting 1 8 2 1 ∷ running 1 8 2 1 ∷ [])) (ran 0 ∷ ran 1 ∷ []) (tallied (1 ∷ 1 ∷ []) 0 (tableOf 2 (parting 1 8 4 0 ∷ running 1 8 4 0 ∷ [])))
+    ∷ steps (tableOf 0 (running 1 8 2 1 ∷ parting 1 8 2 1 ∷ [])) (ran 0 ∷ ran 1 ∷ []) (tallied (1 ∷ 1 ∷ []) 0 (tableOf 2 (running 1 8 4 0 ∷ parting 1 8 4 0 ∷ [])))
+    ∷ steps (tableOf 0 (running 1 8 2 1 ∷ parting 1 8 3 1 ∷ [])) (ran 1 ∷ []) (tallied (0 ∷ 1 ∷ []) 0 (tableOf 1 (running 1 8 3 1 ∷ parting 1 8 4 0 ∷ [])))
+    ∷ steps (tableOf 0 (parting 1 8 2 1 ∷ running 1 8 3 1 ∷ [])) (ran 1 ∷ []) (tallied (0 ∷ 1 ∷ []) 0 (tableOf 1 (parting 1 8 3 1 ∷ running 1 8 4 0 ∷ [])))
+    ∷ steps (talliedWith (7 ∷ 5 ∷ []) 3 2 (tableOf 20 (parting 3 4 3 1 ∷ running 2 4 3 0 ∷ []))) (ran 0 ∷ []) (talliedWith (0 ∷ 5 ∷ []) 3 10 (tableOf 21 (empty ∷ running 2 4 0 2 ∷ [])))
     ∷ steps (talliedWith (7 ∷ 5 ∷ []) 3 2 (tableOf 20 (parting 3 4 2 1 ∷ running 2 4 3 0 ∷ []))) (ran 0 ∷ []) (talliedWith (8 ∷ 5 ∷ []) 3 2 (tableOf 21 (parting 3 4 3 0 ∷ running 2 4 0 2 ∷ [])))
     ∷ steps (tallied (4 ∷ 0 ∷ 6 ∷ 3 ∷ 5 ∷ []) 1 (tableOf 20 (parting 3 8 7 0 ∷ empty ∷ parting 3 4 3 0 ∷ empty ∷ running 2 9 1 0 ∷ []))) (nobody ∷ [])
     (talliedWith (0 ∷ 0 ∷ 0 ∷ 3 ∷ 5 ∷ []) 2 10 (tableOf 21 (empty ∷ empty ∷ empty ∷ empty ∷ running 2 9 2 0 ∷ [])))
