@@ -37,7 +37,7 @@ static volatile uint8_t paint;
 /* The empty functions. On x86-64 the caller clears its arguments, so that they may be called with any. */
 static struct trimthuel_result no_result(void)
 {
-    struct trimthuel_result nothing = {0, 0, 0};
+    struct trimthuel_result nothing = {0, 0, 0, 0, 0};
 
     return nothing;
 }

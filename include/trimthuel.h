@@ -1,5 +1,5 @@
 /*
- * The pump's boundary for C and C++: numbers and byte buffers only. The rules, R1 to R102, are those of
+ * The pump's boundary for C and C++: numbers and byte buffers only. The rules, R1 to R104, are those of
  * docs/RULES.md.
  *
  * A table stands in 297 bytes that the caller keeps, its image (R81): the lines, and counts of what each
@@ -33,7 +33,7 @@ extern "C" {
 #endif
 
 /* R93: of the boundary that this header declares. The library's own is trimthuel_version(). */
-#define TRIMTHUEL_VERSION 4
+#define TRIMTHUEL_VERSION 5
 
 /*
  * R81: of the layout of an image, its first byte. An image of version 1, which had no counts, or of version 2,
@@ -56,8 +56,8 @@ extern "C" {
 /* R55: bytes of the longest card. */
 #define TRIMTHUEL_CARD_MAX 208
 
-/* R61: bytes of the longest answer line, its newline included. */
-#define TRIMTHUEL_LINE_MAX 40
+/* R61: every answer line fits so many bytes, its newline included. */
+#define TRIMTHUEL_LINE_MAX 72
 
 /* R63: the slot in a result that is none. */
 #define TRIMTHUEL_NO_SLOT 255
@@ -65,12 +65,15 @@ extern "C" {
 /*
  * R63: what a call answers. Where the number is 0 it is granted, and the value is what was asked for;
  * the place is 0 unless the function says otherwise. Else the number is a refusal's, the place is the
- * slot, the number or the byte offset that it speaks of or 0 (R21 to R36), and the value is 0.
+ * slot, the number or the byte offset that it speaks of or 0 (R21 to R36), and the value is 0. Tick and
+ * excess are what 10 says beside that (R103), and 0 wherever the number is not 10.
  */
 struct trimthuel_result {
     uint64_t number;
     uint64_t place;
     uint64_t value;
+    uint64_t tick;
+    uint64_t excess;
 };
 
 /* R21 to R36: why, in words. Refusal n is rule R(20 + n). 12 is no longer given; its number stays taken (R32). */
@@ -112,14 +115,17 @@ struct trimthuel_result trimthuel_empty(uint8_t *table, size_t table_len);
 
 /*
  * R86: whether and when a new line could start. The value is the tick of its start, the place the slot
- * that it would have. Refuses with 11, then with the first of 1 to 10 that holds (R18).
+ * that it would have. Refuses with 11, then with the first of 1 to 10 that holds (R18). With 10 the tick
+ * is the first, by the table's clock, at which the running lines alone, at their stretched periods, want
+ * more than there is time for, and the excess, of 32 bits, is by how many ticks (R103).
  */
 struct trimthuel_result trimthuel_ask(const uint8_t *table, size_t table_len, uint16_t need, uint16_t period,
                                       const uint16_t stretched[TRIMTHUEL_SLOTS]);
 
 /*
- * R87: answers as trimthuel_ask does. Where it grants, the running lines have their stretched periods
- * and the new line its slot, where it runs or waits for its start, and has had nothing yet.
+ * R87: answers as trimthuel_ask does, with 10 its tick and excess too. Where it grants, the running lines
+ * have their stretched periods and the new line its slot, where it runs or waits for its start, and has had
+ * nothing yet.
  */
 struct trimthuel_result trimthuel_admit(uint8_t *table, size_t table_len, uint16_t need, uint16_t period,
                                         const uint16_t stretched[TRIMTHUEL_SLOTS]);
@@ -168,8 +174,9 @@ struct trimthuel_result trimthuel_read_card(const uint8_t *card, size_t card_len
                                             uint16_t request[TRIMTHUEL_REQUEST_SIZE]);
 
 /*
- * R64: writes the answer line of a card (R61), `release 13` or `refused 4 2`, and its newline; no zero byte
- * follows. The value is its length. Refuses with 13 alone: any other refusal is a line.
+ * R64: writes the answer line of a card (R61), `release 13`, `refused 4 2`, or with 10 its tick and excess
+ * too, `refused 10 0 3 2`, and its newline; no zero byte follows. The value is its length. Refuses with 13
+ * alone: any other refusal is a line.
  */
 struct trimthuel_result trimthuel_answer(const uint8_t *card, size_t card_len, uint8_t *out, size_t out_len);
 

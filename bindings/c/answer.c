@@ -33,13 +33,18 @@ static int read_card(const char *path, uint8_t card[ROOM], size_t *len)
     return fine;
 }
 
-/* R63: a name, and what a call answered: its value, or `refused` with number and place. */
+/*
+ * R63: a name, and what a call answered: its value, or `refused` with number and place, and with 10 its tick
+ * and its excess (R103).
+ */
 static void show(const char *name, struct trimthuel_result result)
 {
     if (result.number == 0)
         printf("%s %" PRIu64, name, result.value);
     else
         printf("%s refused %" PRIu64 " %" PRIu64, name, result.number, result.place);
+    if (result.tick != 0 || result.excess != 0)
+        printf(" %" PRIu64 " %" PRIu64, result.tick, result.excess);
 }
 
 /* R64: the line of the card, which always fits, and the exit status that it means. */

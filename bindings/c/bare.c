@@ -45,10 +45,11 @@ int memcmp(const void *one, const void *other, size_t n)
     return 0;
 }
 
-/* R17, R63 */
+/* R17, R63; R103: no call here is refused with 10. */
 static int is(struct trimthuel_result result, uint64_t number, uint64_t place, uint64_t value)
 {
-    return result.number == number && result.place == place && result.value == value;
+    return result.number == number && result.place == place && result.value == value && result.tick == 0 &&
+           result.excess == 0;
 }
 
 static uint8_t pump[TRIMTHUEL_TABLE_SIZE];

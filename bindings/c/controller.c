@@ -32,12 +32,16 @@ static void blink(unsigned times)
         fputs("* ", stderr);
 }
 
-/* R50: a refusal blinks, and says why. */
+/* R50: a refusal blinks, and says why; R103: 10 also says when the lines are short first, and by how much. */
 static void report(const char *what, struct trimthuel_result refusal)
 {
     blink(trimthuel_lamp(refusal.number));
-    fprintf(stderr, "%s: refusal %" PRIu64 " at %" PRIu64 ": %s\n", what, refusal.number, refusal.place,
+    fprintf(stderr, "%s: refusal %" PRIu64 " at %" PRIu64 ": %s", what, refusal.number, refusal.place,
             trimthuel_why(refusal.number));
+    if (refusal.excess != 0)
+        fprintf(stderr, ": %" PRIu64 " %s short at tick %" PRIu64, refusal.excess,
+                refusal.excess == 1 ? "tick" : "ticks", refusal.tick);
+    fputc('\n', stderr);
 }
 
 /* The value of a call without which the pump cannot go on: a refusal closes the valves and stops. */

@@ -290,6 +290,27 @@ mod tests {
         assert_eq!((&buffer[..40], buffer[40]), (&CARD_A[..], 7));
     }
 
+    /// R61: the tick and the excess stand behind the place where they are not both 0. Of numbers as wide as R17 and R103 allow the
+    /// line has 67 bytes.
+    #[test]
+    fn the_line_of_a_refusal() {
+        let said = |number, place, tick, excess| {
+            line(Err(Refusal {
+                number,
+                place,
+                tick,
+                excess,
+            }))
+        };
+        assert_eq!(said(10, 0, 3, 2), "refused 10 0 3 2\n");
+        assert_eq!(said(10, 0, 0, 2), "refused 10 0 0 2\n");
+        assert_eq!(said(10, 0, 3, 0), "refused 10 0 3 0\n");
+        assert_eq!(said(11, 22, 0, 0), "refused 11 22\n");
+        // This program's numbers of refusals have 8 bits, two digits fewer than 16 bits may have.
+        let widest = said(u8::MAX, u64::MAX, u64::MAX, u32::MAX.into());
+        assert_eq!(widest.len() + 2, 67);
+    }
+
     #[test]
     fn a_buffer_of_40_bytes_against_39_for_card_a() {
         let a = &cases::all()[0];

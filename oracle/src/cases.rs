@@ -68,6 +68,11 @@ pub fn refused(number: u8, place: usize) -> Result<u64, Refusal> {
     Err(Refusal::at(number, place))
 }
 
+/// R103: the answer that is refusal 10, with the first tick that is short, and by how much.
+pub fn late(tick: u64, excess: u64) -> Result<u64, Refusal> {
+    Err(Refusal::late(tick, excess))
+}
+
 const D_LINES: [Line; 2] = [(7, 28, 28, 20, 7), (8, 16, 32, 8, 0)];
 
 /// R67: the table of cases.
@@ -88,7 +93,7 @@ pub fn letters() -> Vec<Case> {
         case("G", 0, &[(4, 8, 8, 4, 3)], (1, 2), refused(9, 0)),
         case("H", 0, &[half], (8, 16), Ok(0)),
         case("I", 0, &[half], (9, 16), refused(8, 0)),
-        case("J", 0, &j, four, refused(10, 0)),
+        case("J", 0, &j, four, late(3, 2)),
         case("K", 0, &k, (1, 15_625), Ok(0)),
         case("L", 0, &k, (1, 15_629), refused(7, 0)),
         case("M", 100, &D_LINES, (3, 6), Ok(104)),

@@ -52,7 +52,7 @@ fn table(clock: u64, slots: &[(usize, Content)], counts: &[(usize, u64)]) -> Tab
 }
 
 fn refused<T>(number: u8, place: u64) -> Result<T, Refusal> {
-    Err(Refusal { number, place })
+    Err(Refusal::named(number, place))
 }
 
 /// R100: from then on it leaves, and nothing else of it or beside it changes.

@@ -168,7 +168,7 @@ pub fn newcomer(random: &mut Random, base: u64, room: u64, request: &mut Request
 }
 
 /// A clock: small, anywhere, or the greatest at which asking is possible.
-fn clock(random: &mut Random) -> u64 {
+pub fn clock(random: &mut Random) -> u64 {
     match random.below(4) {
         0 => random.below(1_000),
         1 => LAST_ASK - random.below(3),

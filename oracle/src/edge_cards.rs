@@ -276,6 +276,34 @@ fn leaving_lengths() -> Vec<EdgeCard> {
     ]
 }
 
+/// R61, R103: lines of refusal 10. R67: case J's first line, which is owed 5 ticks within 3, and the second, which owes nothing.
+/// They stand by themselves too.
+pub fn late() -> Vec<EdgeCard> {
+    let j: &[u8] = b"TB\x05\x00\x14\x00\x14\x00\x11\x00\x05\x00";
+    let old: &[u8] = b"TA\x05\x00\x14\x00\x14\x00\x05\x00\x11\x00";
+    let leaving: &[u8] = b"TL\x05\x00\x14\x00\x14\x00\x11\x00\x05\x00";
+    let spare: &[u8] = b"TB\x0A\x00\x14\x00\x14\x00\x00\x00\x00\x00";
+    let zero: &[u8] = b"CK\x00\x00\x00\x00\x00\x00\x00\x00";
+    // A clock of 2^48 − 65,536.
+    let last: &[u8] = b"CK\x00\x00\xFF\xFF\xFF\xFF\x00\x00";
+    let quarter: &[u8] = b"RQ\x01\x00\x04\x00";
+    // (32767, 65535, 65535, 65534, 32767) and (32767, 65535, 65535, 0, 0) with (1, 65535): no excess is greater (`edge_late.rs`).
+    let most: &[u8] = b"TB\xFF\x7F\xFF\xFF\xFF\xFF\xFE\xFF\xFF\x7F";
+    let idle: &[u8] = b"TB\xFF\x7F\xFF\xFF\xFF\xFF\x00\x00\x00\x00";
+    let seldom: &[u8] = b"RQ\x01\x00\xFF\xFF";
+    let said = "refused 10 0 3 2\n";
+    let far = "refused 10 0 116940353646114 2\n";
+    let longest = "refused 10 0 281474976645121 32766\n";
+    vec![
+        edge("10", &[zero, j, spare, quarter], said),
+        edge("10, TA", &[zero, old, spare, quarter], said),
+        edge("10, TL", &[zero, leaving, spare, quarter], said),
+        edge("10, turned", &[zero, spare, FREE, j, quarter], said),
+        edge("10, clock", &[CLOCK, j, spare, quarter], far),
+        edge("10, longest", &[last, most, idle, seldom], longest),
+    ]
+}
+
 /// The cards with lines that leave. They stand by themselves, so that no card of the stored set moves.
 pub fn leaving() -> Vec<EdgeCard> {
     let all = [leaving_numbers(), leaving_marks(), leaving_lengths()];

@@ -1,7 +1,7 @@
 //! Tables of which a line leaves (R99), on both sides of a limit, and beside the same with every line renewing. The answers are
 //! worked out by hand from docs/RULES.md.
 
-use crate::cases::{case, refused, Case, Line, LAST_CLOCK};
+use crate::cases::{case, late, refused, Case, Line, LAST_CLOCK};
 
 /// R5: a sound line; R25: with a T' a tick below its T, and a tick above.
 const SOUND: Line = (1, 16, 16, 0, 1);
@@ -42,7 +42,7 @@ fn as_any_other() -> Vec<Case> {
         at("G", &[(4, 8, 8, 4, 3)], (1, 2), refused(9, 0)),
         at("H", &half, (8, 16), Ok(0)),
         at("I", &half, (9, 16), refused(8, 0)),
-        at("J", &owed(5), four, refused(10, 0)),
+        at("J", &owed(5), four, late(3, 2)),
         at("J, in time", &owed(3), four, Ok(0)),
         at("K", &most, (1, 15_625), Ok(0)),
         at("L", &most, (1, 15_629), refused(7, 0)),

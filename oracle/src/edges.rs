@@ -4,7 +4,8 @@
 //! Most starts are the clock, for one reason: a line of age 0, and one that owes nothing, has at no tick
 //! a demand above C / T' of the time gone by, so that with R28 passed the excess is never above 0.
 
-use crate::cases::{self, case, refused, Case, Line, LAST_CLOCK};
+use crate::cases::{self, case, late, refused, Case, Line, LAST_CLOCK};
+use crate::edge_late;
 use crate::edge_leaving;
 
 /// R5: a sound line, and the same with one tick too many owed.
@@ -92,26 +93,26 @@ fn sums() -> Vec<Case> {
     let at = |name, lines: &[Line], new, answer| case(name, 7, lines, new, answer);
     // 1/2 and 9/16 or 8/16; and 3 − 4 + 4 × 4/8 = 1.
     let behind = [(4, 8, 8, 4, 3)];
-    // 5 × 17/20 alone is above 0, with −10 it is not; and 5, 4 or 3 ticks are owed within 3. With 3 the
-    // new line fits from the clock on: at its first end 3 + 1 ticks are wanted in 4.
+    // 5 × 17/20 alone is above 0, with −10 it is not; and 5, 4 or 3 ticks are owed within 3, by tick 10. With 3
+    // the new line fits from the clock on: at its first end 3 + 1 ticks are wanted in 4.
     let owed = |c| [(5, 20, 20, 17, c), (10, 20, 20, 0, 0)];
     // 57 × 15,625 + 1,709 × 64 is 1,000,001; with 1,708 it is 999,937.
     let most = [(57, 64, 64, 0, 57)];
     // (2 − 3) + 3 × 19/64 + a/15,625 is a millionth above 0 for 1,709, and below 0 for 1,708; the new
     // line wants half the time, and the others far less than the other half.
-    let late = |a| [(3, 64, 64, 19, 2), (1, 15_625, 15_625, a, 1)];
+    let behind_by = |a| [(3, 64, 64, 19, 2), (1, 15_625, 15_625, a, 1)];
     let (four, half) = ((1, 4), (1, 2));
     vec![
         at("8 and 9", &behind, (9, 16), refused(8, 0)),
         at("9, not 8", &behind, (8, 16), refused(9, 0)),
         at("9 and 10", &owed(5)[..1], four, refused(9, 0)),
-        at("10, not 9", &owed(5), four, refused(10, 0)),
-        at("excess 1", &owed(4), four, refused(10, 0)),
+        at("10, not 9", &owed(5), four, late(10, 2)),
+        at("excess 1", &owed(4), four, late(10, 1)),
         at("excess 0", &owed(3), four, Ok(7)),
         at("a millionth over", &most, (1_709, 15_625), refused(8, 0)),
         at("just enough", &most, (1_708, 15_625), Ok(7)),
-        at("a millionth late", &late(1_709), half, refused(9, 0)),
-        at("just in time", &late(1_708), half, Ok(7)),
+        at("a millionth late", &behind_by(1_709), half, refused(9, 0)),
+        at("just in time", &behind_by(1_708), half, Ok(7)),
     ]
 }
 
@@ -123,8 +124,9 @@ pub fn rows() -> Vec<Case> {
         .collect()
 }
 
-/// Every row that has its answer beside it: the cases, these edges, and those of lines that leave.
+/// Every row that has its answer beside it: the cases, these edges, those of lines that leave, and those of lines that are late.
 pub fn stated() -> impl Iterator<Item = Case> {
     let edges = rows().into_iter().chain(edge_leaving::rows());
+    let edges = edges.chain(edge_late::rows());
     cases::all().into_iter().chain(edges)
 }

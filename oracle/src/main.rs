@@ -11,10 +11,12 @@ mod digest;
 mod draw;
 #[cfg(any(test, feature = "house"))]
 mod draw_counts;
+mod draw_late;
 mod draw_leaving;
 mod edge_cards;
 #[cfg(test)]
 mod edge_counts;
+mod edge_late;
 mod edge_leaving;
 mod edges;
 mod esit;

@@ -1,5 +1,5 @@
-//! The rules of docs/RULES.md: refusals 1 to 10 in their order (R18), ask, admit, step, leave, what is counted
-//! (R97, R101), lamp, ready word.
+//! The rules of docs/RULES.md: refusals 1 to 10 in their order (R18), by how much 10 is late (R103), ask, admit, step,
+//! leave, what is counted (R97, R101), lamp, ready word.
 //!
 //! Nothing here computes a start by a formula. The excess is summed from its definition for one
 //! tick after the other, and the starts are tried one after the other. Times are counted from
@@ -140,9 +140,10 @@ impl<'a> Outlook<'a> {
         }
     }
 
-    /// R30: some tick at which the lines that run want more than there was time for.
-    fn above_zero(&self) -> bool {
-        self.excess.iter().any(|excess| *excess > 0)
+    /// R30, R103: the first tick, counted from t0, at which the lines that run want more than there was time for, and by how much.
+    fn first_short(&self) -> Option<(usize, i64)> {
+        let mut all = self.excess.iter().copied().enumerate();
+        all.find(|(_, excess)| *excess > 0)
     }
 
     /// R13: true when with the new line started at `start`, its demand by R11, the excess is at most
@@ -190,6 +191,32 @@ fn last_end(lines: &[Stretched]) -> usize {
 pub fn last_end_of(table: &Table, request: &Request) -> u64 {
     let end = last_end(&stretched_lines(table, request)) as u64;
     table.clock.saturating_add(end)
+}
+
+/// R9: an end of a running line at its T', and R12: the excess of the running lines alone then.
+#[cfg(any(test, feature = "house"))]
+#[derive(Clone, Copy, Debug, PartialEq, Eq)]
+pub struct End {
+    pub slot: usize,
+    pub tick: u64,
+    pub excess: i64,
+}
+
+/// R9, R12: every end before the last end, slot by slot, for a table and a request that pass R21 to R25.
+#[cfg(any(test, feature = "house"))]
+pub fn ends_alone(table: &Table, request: &Request) -> Vec<End> {
+    let lines = stretched_lines(table, request);
+    let last = last_end(&lines);
+    let excess = &running_excess(&lines, last);
+    let ends = |line: &Stretched| {
+        let (slot, clock) = (line.slot, table.clock);
+        line.ends_before(last).map(move |end| End {
+            slot,
+            tick: clock + end as u64,
+            excess: excess[end],
+        })
+    };
+    lines.iter().flat_map(ends).collect()
 }
 
 /// R24: the place of a line that is not sound, or, where every line is, 0 for too many ticks counted (R96).
@@ -255,8 +282,8 @@ fn delay(table: &Table, request: &Request, beyond: Beyond) -> Result<usize, Refu
     };
     let last = last_end(&lines);
     let mut outlook = Outlook::new(&lines, last + more);
-    if outlook.above_zero() {
-        return Err(Refusal::at(10, 0));
+    if let Some((after, excess)) = outlook.first_short() {
+        return Err(Refusal::late(table.clock + after as u64, excess as u64));
     }
     let mut start = 0usize;
     loop {
@@ -373,10 +400,7 @@ pub fn leave(table: &Table, number: u64) -> Result<(u64, Table), Refusal> {
     if let Some(place) = fault(table) {
         return Err(Refusal::at(4, place));
     }
-    let none = Refusal {
-        number: 16,
-        place: number,
-    };
+    let none = Refusal::named(16, number);
     let slot = (0..SLOTS).find(|slot| *slot as u64 == number).ok_or(none)?;
     let mut next = *table;
     match &mut next.slots[slot] {
@@ -447,6 +471,7 @@ mod tests {
     use crate::cases;
     use crate::draw;
     use crate::draw_counts;
+    use crate::draw_late;
     use crate::draw_leaving;
     use crate::edges;
     use crate::random::Random;
@@ -465,6 +490,11 @@ mod tests {
         i64::from(line.run.remaining) + i64::from(line.run.need) * whole
     }
 
+    /// R12 of the running lines alone.
+    fn alone(lines: &[Stretched], t: i64) -> i64 {
+        lines.iter().map(|line| demand(line, t)).sum::<i64>() - t
+    }
+
     /// R11, R12 word by word, counted from t0, the new line started at r.
     fn excess(lines: &[Stretched], request: &Request, r: i64, t: i64) -> i64 {
         let new = if t < r {
@@ -472,7 +502,7 @@ mod tests {
         } else {
             i64::from(request.need) * ((t - r) / i64::from(request.period))
         };
-        lines.iter().map(|line| demand(line, t)).sum::<i64>() + new - t
+        alone(lines, t) + new
     }
 
     #[test]
@@ -535,9 +565,64 @@ mod tests {
     #[test]
     fn looking_before_the_last_end_gives_the_same() {
         let mut random = Random::new(13);
-        for _ in 0..3_000 {
-            let (table, request) = draw_leaving::small(&mut random);
+        for round in 0..3_000 {
+            let (table, request) = match round % 2 {
+                0 => draw_late::late(&mut random),
+                _ => draw_leaving::small(&mut random),
+            };
             assert_eq!(ask(&table, &request), ask_before_last_end(&table, &request));
+        }
+    }
+
+    /// R103 by the defined excess; R104: it is an end, and before the last one.
+    #[test]
+    fn ten_says_the_first_excess_above_zero_and_nothing_else_does() {
+        let mut random = Random::new(15);
+        let mut seen = 0;
+        for _ in 0..3_000 {
+            let (table, request) = draw_late::late(&mut random);
+            let Err(refusal) = ask(&table, &request) else {
+                continue;
+            };
+            if refusal.number != 10 {
+                assert_eq!((refusal.tick, refusal.excess), (0, 0));
+                continue;
+            }
+            let lines = stretched_lines(&table, &request);
+            let after = (refusal.tick - table.clock) as i64;
+            assert!((0..after).all(|t| alone(&lines, t) <= 0));
+            assert_eq!(alone(&lines, after), refusal.excess as i64);
+            let is_there = |end: &End| end.tick == refusal.tick;
+            assert!(ends_alone(&table, &request).iter().any(is_there));
+            seen += 1;
+        }
+        assert!(seen > 1_000, "{seen}");
+    }
+
+    /// R9 word by word: whether a tick, counted from t0, is an end of a line.
+    fn is_end(line: &Stretched, t: i64) -> bool {
+        let (period, first) = (i64::from(line.stretched), line.first_end() as i64);
+        t == first || t > first && !line.run.leaves() && (t - first) % period == 0
+    }
+
+    #[test]
+    fn every_end_before_the_last_with_its_excess() {
+        let mut random = Random::new(16);
+        for _ in 0..300 {
+            let (table, request) = draw_late::late(&mut random);
+            let lines = stretched_lines(&table, &request);
+            let last = lines.iter().map(Stretched::first_end).max().expect("lines");
+            let mut wanted = Vec::new();
+            for line in &lines {
+                for t in (0..last as i64).filter(|t| is_end(line, *t)) {
+                    wanted.push(End {
+                        slot: line.slot,
+                        tick: table.clock + t as u64,
+                        excess: alone(&lines, t),
+                    });
+                }
+            }
+            assert_eq!(ends_alone(&table, &request), wanted);
         }
     }
 

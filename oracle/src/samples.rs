@@ -1,8 +1,8 @@
-//! The sample cards: cases A to M, cards of the old order and with lines that leave, a broken card of each kind, and a card for
-//! each refusal of ask that no case has. Refusal 3 has none, as a card carries no waiting line.
+//! The sample cards: cases A to M, cards of the old order, with lines that leave and with lines that are late, a broken card of each
+//! kind, and a card for each refusal of ask that no case has. Refusal 3 has none, as a card carries no waiting line.
 
 use crate::card;
-use crate::cases::{letters, refused, row, Case, Line, CARD_A, LAST_CLOCK};
+use crate::cases::{self, letters, refused, row, Case, Line, CARD_A, LAST_CLOCK};
 use crate::orders;
 use crate::spoil::with_mark;
 use crate::types::Refusal;
@@ -69,6 +69,17 @@ fn leaving() -> Vec<Sample> {
         .into()
 }
 
+/// R103: at 103 the second line wants 5 ticks within 3, and at 107 both want 11 within 7: the first in time is said, though it is in the
+/// higher slot and the excess is greater later.
+fn late() -> Vec<Sample> {
+    let lines = [(6, 20, 20, 13, 6), (5, 20, 20, 17, 5), (15, 40, 40, 0, 0)];
+    vec![Sample {
+        name: "late",
+        bytes: card_of(100, &lines, (1, 40)),
+        answer: cases::late(103, 2),
+    }]
+}
+
 /// Equal lines with time to spare; R55: sixteen make the longest card.
 fn equal_lines(lines: usize) -> Vec<u8> {
     card_of(0, &[(1, 64, 64, 0, 1); 16][..lines], (1, 64))
@@ -125,10 +136,17 @@ fn one_fault() -> Vec<Sample> {
 
 /// Every sample card.
 pub fn all() -> Vec<Sample> {
-    [cases(), old_orders(), leaving(), broken(), one_fault()]
-        .into_iter()
-        .flatten()
-        .collect()
+    [
+        cases(),
+        old_orders(),
+        leaving(),
+        late(),
+        broken(),
+        one_fault(),
+    ]
+    .into_iter()
+    .flatten()
+    .collect()
 }
 
 #[cfg(test)]
@@ -160,6 +178,7 @@ mod tests {
                 ["broken", ..] => number == 11,
                 ["refused", said, ..] => said == number.to_string(),
                 ["leaving"] | [_, "order" | "marks"] => number == 0,
+                ["late"] => number == 10,
                 _ => sample.name.len() == 1,
             };
             assert!(said, "{}", sample.name);
@@ -185,6 +204,20 @@ mod tests {
         });
         let wanted = [[Ok(1), Ok(0)], [Ok(45), Ok(40)]];
         assert_eq!(answers.collect::<Vec<_>>(), wanted);
+    }
+
+    /// R103: what the sample says of either line without the other: the end that is left is the first, and at 107 the other line wants
+    /// all but a tick of the time.
+    #[test]
+    fn either_line_alone_says_its_own_end() {
+        let sample = late().pop().expect("a sample");
+        let without = |slot: usize| {
+            let at = 10 + 12 * slot;
+            let card = [&sample.bytes[..at], b"TF", &sample.bytes[at + 12..]].concat();
+            card::judge(&card)
+        };
+        assert_eq!(without(0), cases::late(103, 2));
+        assert_eq!(without(1), Ok(100));
     }
 
     /// R53: each mark of a slot's record stands on it, and the twin keeps all but TA.

@@ -4,6 +4,8 @@ use crate::card;
 use crate::cases;
 use crate::draw;
 #[cfg(any(test, feature = "house"))]
+use crate::draw_late;
+#[cfg(any(test, feature = "house"))]
 use crate::draw_leaving;
 use crate::orders;
 use crate::random::Random;
@@ -234,13 +236,14 @@ pub fn random_leaving_card(random: &mut Random) -> Vec<u8> {
     orders::some_leaving(random, &card)
 }
 
-/// A random card of one of the kinds of the histories: near full load, wide, damaged, any, broken; R99: of about half of them some
-/// lines leave.
+/// A random card of one of the kinds of the histories: near full load, late (R103), wide, damaged, any, broken; R99: of about half of
+/// them some lines leave.
 #[cfg(any(test, feature = "house"))]
 pub fn mixed_card(random: &mut Random) -> Vec<u8> {
     let of = |(table, request)| card::bytes(&table, &request);
     match random.below(100) {
-        0..=35 => of(draw::near_full(random)),
+        0..=29 => of(draw::near_full(random)),
+        30..=35 => of(draw_late::late(random)),
         36..=47 => of(draw_leaving::near_full(random)),
         48..=59 => of(draw_leaving::hurried(random)),
         60 => of(draw::wide(random)),

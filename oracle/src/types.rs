@@ -1,4 +1,4 @@
-//! Tables, lines, counts, requests and refusals (R2 to R8, R17, R95, R99) as types of this program's own.
+//! Tables, lines, counts, requests and refusals (R2 to R8, R17, R95, R99, R103) as types of this program's own.
 
 use std::fmt;
 
@@ -97,6 +97,18 @@ pub struct Request {
     pub period: u16,
 }
 
+#[cfg(any(test, feature = "house"))]
+impl Request {
+    /// The same with each running line's own period for its T'.
+    pub fn unstretched(&self, table: &Table) -> Request {
+        let mut own = *self;
+        for (slot, run) in table.running() {
+            own.stretched[slot] = run.period;
+        }
+        own
+    }
+}
+
 /// R56: the request that the reader hands out with a refusal.
 pub const ZEROS: Request = Request {
     stretched: [0; SLOTS],
@@ -104,27 +116,54 @@ pub const ZEROS: Request = Request {
     period: 0,
 };
 
-/// R17: which ground, and where.
+/// R17: which ground, and where. R103: of 10 the first tick that is short, and by how much; of any other 0 and 0.
 #[derive(Clone, Copy, Debug, PartialEq, Eq)]
 pub struct Refusal {
     pub number: u8,
     pub place: u64,
+    pub tick: u64,
+    pub excess: u64,
 }
 
 impl Refusal {
     /// R19, R31: the place is a slot or a byte offset.
     pub fn at(number: u8, place: usize) -> Refusal {
+        Refusal::named(number, place as u64)
+    }
+
+    /// R36: the place is a number as it was named.
+    pub fn named(number: u8, place: u64) -> Refusal {
         Refusal {
             number,
-            place: place as u64,
+            place,
+            tick: 0,
+            excess: 0,
         }
+    }
+
+    /// R30, R103: refusal 10.
+    pub fn late(tick: u64, excess: u64) -> Refusal {
+        Refusal {
+            tick,
+            excess,
+            ..Refusal::at(10, 0)
+        }
+    }
+}
+
+/// R61: what stands behind a refusal's place in a line: tick and excess, where they are not both 0.
+pub fn by_how_much(tick: u64, excess: u64) -> String {
+    match (tick, excess) {
+        (0, 0) => String::new(),
+        _ => format!(" {tick} {excess}"),
     }
 }
 
 /// R61: as it stands in a line.
 impl fmt::Display for Refusal {
     fn fmt(&self, f: &mut fmt::Formatter<'_>) -> fmt::Result {
-        write!(f, "refused {} {}", self.number, self.place)
+        let more = by_how_much(self.tick, self.excess);
+        write!(f, "refused {} {}{more}", self.number, self.place)
     }
 }
 

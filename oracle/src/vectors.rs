@@ -3,8 +3,10 @@
 use crate::card;
 use crate::cases;
 use crate::draw;
+use crate::draw_late;
 use crate::draw_leaving;
 use crate::edge_cards::{self, EdgeCard};
+use crate::edge_late;
 use crate::edge_leaving;
 use crate::edges;
 use crate::orders;
@@ -30,6 +32,7 @@ const LEAVING: usize = 300;
 const HURRIED: usize = 300;
 const LEAVING_DAMAGED: usize = 150;
 const LEAVING_BROKEN: usize = 100;
+const LATE: usize = 150;
 
 fn of(drawn: (Table, Request)) -> Vec<u8> {
     card::bytes(&drawn.0, &drawn.1)
@@ -183,6 +186,9 @@ fn cards() -> Vec<Vec<u8>> {
         repeat(HURRIED, || of(draw_leaving::hurried(random))),
         repeat(LEAVING_DAMAGED, || of(draw_leaving::damaged(random))),
         repeat(LEAVING_BROKEN, || spoil::random_leaving_card(random)),
+        of_rows(&edge_late::rows()),
+        of_edge_cards(edge_cards::late()),
+        repeat(LATE, || of(draw_late::late(random))),
     ]
     .concat()
 }

@@ -7,7 +7,7 @@ use std::fmt::Display;
 use std::fs::File;
 use std::io::{self, Read, Write};
 use std::process::ExitCode;
-use trimthuel::{Refusal, Rewritten, CARD_MAX, LINE_MAX};
+use trimthuel::{Late, Refusal, Rewritten, CARD_MAX, LINE_MAX};
 
 /// R55: one byte more than the longest card, so that a longer file is seen to be too long.
 fn card_of(path: &str) -> io::Result<Vec<u8>> {
@@ -20,11 +20,22 @@ fn card_of(path: &str) -> io::Result<Vec<u8>> {
 /// The ticks that the pump is run.
 const TICKS: u16 = 56;
 
-/// R63: what a call answered: its value, or `refused` with number and place.
+/// R103: the tick and the excess that refusal 10 says.
+fn shown_late(late: Option<Late>) -> String {
+    late.map_or_else(String::new, |Late { tick, excess }| {
+        format!(" {tick} {excess}")
+    })
+}
+
+/// R63: what a call answered: its value, or `refused` with number and place, and with 10 its tick and its excess.
 fn shown(told: Result<impl Display, Refusal>) -> String {
     match told {
         Ok(value) => value.to_string(),
-        Err(Refusal { number, place }) => format!("refused {number} {place}"),
+        Err(Refusal {
+            number,
+            place,
+            late,
+        }) => format!("refused {number} {place}{}", shown_late(late)),
     }
 }
 

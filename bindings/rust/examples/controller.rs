@@ -27,7 +27,7 @@ fn blink(times: u8) {
     eprint!("{}", "* ".repeat(times.into()));
 }
 
-/// R50: a refusal blinks, and says why.
+/// R50: a refusal blinks, and says why; R103: 10 also says when the lines are short first, and by how much.
 fn report(refusal: Refusal) {
     blink(refusal.blinks());
     eprintln!("{refusal}");

@@ -17,7 +17,7 @@ pub fn empty(table: &mut [u8]) -> Result<usize, Refusal> {
 /// R86: when the new line could start, and in which slot.
 ///
 /// # Errors
-/// Refusal 11, or the first of 1 to 10 that holds.
+/// Refusal 11, or the first of 1 to 10 that holds; 10 says by how much it is late.
 pub fn ask(table: &[u8], request: &Request) -> Result<Answer, Refusal> {
     numbers::ask(table, request.need, request.period, &request.stretched).granted(Numbers::answer)
 }

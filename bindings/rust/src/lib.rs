@@ -1,5 +1,5 @@
 //! A greenhouse pump's admission and scheduling core, proved down to the code: safe functions over `libhouse.a`, whose C
-//! side is `include/trimthuel.h`. The rules, R1 to R102, are those of docs/RULES.md.
+//! side is `include/trimthuel.h`. The rules, R1 to R104, are those of docs/RULES.md.
 //!
 //! ```
 //! use trimthuel::{Answer, Pump, Refusal};
@@ -53,11 +53,11 @@ pub use card::{answer, rewrite, run, Rewritten};
 pub use counts::Counts;
 pub use numbers::{lamp, version};
 pub use pump::Pump;
-pub use refusal::Refusal;
+pub use refusal::{Late, Refusal};
 pub use request::{Answer, Request};
 
 /// R93: of the boundary that this crate declares; the library's own is [`version()`].
-pub const VERSION: u32 = 4;
+pub const VERSION: u32 = 5;
 
 /// R81: of the layout of an image, its first byte. An image of version 1, which had no counts, or of version 2, which had no
 /// line that leaves, is refused with 11 at 0.
@@ -78,5 +78,5 @@ pub const REQUEST_SIZE: usize = 18;
 /// R55: bytes of the longest card.
 pub const CARD_MAX: usize = 208;
 
-/// R61: bytes of the longest answer line, its newline included.
-pub const LINE_MAX: usize = 40;
+/// R61: every answer line fits so many bytes, its newline included.
+pub const LINE_MAX: usize = 72;

@@ -1,4 +1,4 @@
-//! The functions of `include/trimthuel.h` with the three numbers of a result (R63) as they come, and all that is unsafe.
+//! The functions of `include/trimthuel.h` with the five numbers of a result (R63) as they come, and all that is unsafe.
 //!
 //! [`image`](crate::image), the functions on cards and [`Pump`](crate::Pump) stand on these and give them their meaning;
 //! what each function does is said there.
@@ -18,6 +18,10 @@ pub struct Numbers {
     pub place: u64,
     /// What was asked for; 0 with a refusal.
     pub value: u64,
+    /// R103: with refusal 10 the first tick at which the running lines alone come too late; else 0.
+    pub tick: u64,
+    /// R103: with refusal 10 by how many ticks, a number of 32 bits; else 0.
+    pub excess: u64,
 }
 
 /// R63: the slot that is none, as a value.

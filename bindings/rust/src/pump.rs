@@ -66,7 +66,7 @@ impl Pump {
     /// R41: when the new line could start, and in which slot.
     ///
     /// # Errors
-    /// The first of the refusals 1 to 10 that holds.
+    /// The first of the refusals 1 to 10 that holds; 10 says by how much it is late.
     pub fn ask(&self, request: &Request) -> Result<Answer, Refusal> {
         image::ask(&self.image, request)
     }

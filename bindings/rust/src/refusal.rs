@@ -1,4 +1,4 @@
-//! Refusals: a number, a place, and the words for it.
+//! Refusals: a number, a place, by how much it is late, and the words for it.
 
 use core::{error, fmt};
 
@@ -9,6 +9,18 @@ pub struct Refusal {
     pub number: u16,
     /// The slot, the number or the byte offset that it speaks of, or 0.
     pub place: u64,
+    /// What 10 says beside that; no other refusal has it.
+    pub late: Option<Late>,
+}
+
+/// R103: the first tick at which the running lines alone, at their stretched periods, want more than there is time for, and by how
+/// much.
+#[derive(Clone, Copy, Debug, PartialEq, Eq, Hash)]
+pub struct Late {
+    /// The tick, by the table's clock. Later ones may be short by more.
+    pub tick: u64,
+    /// By how many ticks they are short then.
+    pub excess: u32,
 }
 
 /// R21 to R36: why, by the refusal's number. The header has the same words. 12 is no longer given; its number stays
@@ -49,8 +61,21 @@ impl Refusal {
 
 impl fmt::Display for Refusal {
     fn fmt(&self, f: &mut fmt::Formatter<'_>) -> fmt::Result {
-        let Refusal { number, place } = self;
-        write!(f, "refusal {number} at {place}: {}", self.why())
+        let Refusal {
+            number,
+            place,
+            late,
+        } = self;
+        write!(f, "refusal {number} at {place}: {}", self.why())?;
+        late.map_or(Ok(()), |late| write!(f, ": {late}"))
+    }
+}
+
+impl fmt::Display for Late {
+    fn fmt(&self, f: &mut fmt::Formatter<'_>) -> fmt::Result {
+        let Late { tick, excess } = self;
+        let ticks = if *excess == 1 { "tick" } else { "ticks" };
+        write!(f, "{excess} {ticks} short at tick {tick}")
     }
 }
 

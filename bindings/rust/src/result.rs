@@ -1,7 +1,7 @@
-//! R63: what the three numbers of a result mean.
+//! R63: what the five numbers of a result mean.
 
 use crate::numbers::{Numbers, NO_SLOT};
-use crate::{Answer, Refusal, Rewritten};
+use crate::{Answer, Late, Refusal, Rewritten};
 
 impl Numbers {
     /// What is granted, or the refusal.
@@ -13,6 +13,18 @@ impl Numbers {
             // R17: it has 16 bits.
             number: self.number as u16,
             place: self.place,
+            late: self.late(),
+        })
+    }
+
+    /// R103: what 10 says; any other refusal has 0 for both.
+    fn late(self) -> Option<Late> {
+        let Numbers { tick, excess, .. } = self;
+        let is_said = tick != 0 || excess != 0;
+        is_said.then_some(Late {
+            tick,
+            // R103: it has 32 bits.
+            excess: excess as u32,
         })
     }
 

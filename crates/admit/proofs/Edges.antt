@@ -11,7 +11,7 @@ use Rattle.table.specs.Words.{emptyTable, refusal}
 use Rattle.line.specs.Streams.{due, every, endsBefore}
 use Rattle.line.specs.Demand.{lastEnd}
 use Rattle.line.specs.Shares.{periodsIn}
-use Rattle.line.specs.Ends.{endsOf, slack, bound, greatest, anyOf, start}
+use Rattle.line.specs.Ends.{endsOf, slack, bound, greatest, soonestOf, firstShort, start}
 use Rattle.table.specs.Ask.{askIn, askOf}
 use Rattle.table.specs.Cases.{running, tableOf}
 use Rattle.line.proofs.Search.{true-false}
@@ -31,10 +31,10 @@ refused-elsewhere a = omega (arith, ap (λ (x : Admitted). x .table .clock) (a .
 
 -- R42, R43: admitted to the empty table, the line runs in slot 0
 pub admits-first : Admits emptyTable (asking 0 0 0 3 5) (record { table = firstIn; answer = Start 0 })
-unfolding euclid gcdOf lcmOf frameFrom total lowest due lastEnd mapAt periodsIn every endsBefore endsOf slack bound greatest anyOf start askIn askOf
+unfolding euclid gcdOf lcmOf frameFrom total lowest due lastEnd mapAt periodsIn every endsBefore endsOf slack bound greatest soonestOf firstShort start askIn askOf
 admits-first = admits emptyTable (asking 0 0 0 3 5) (asked emptyTable (asking 0 0 0 3 5) refl) refl
 
 -- R42, R43: with the start, the table without the line is not allowed
 pub admits-nothing : Admits emptyTable (asking 0 0 0 3 5) (record { table = emptyTable; answer = Start 0 }) → ⊥
-unfolding euclid gcdOf lcmOf frameFrom total lowest due lastEnd mapAt periodsIn every endsBefore endsOf slack bound greatest anyOf start askIn askOf
+unfolding euclid gcdOf lcmOf frameFrom total lowest due lastEnd mapAt periodsIn every endsBefore endsOf slack bound greatest soonestOf firstShort start askIn askOf
 admits-nothing a = true-false refl (ap (λ (x : Admitted). isNothing (at (x .table .slots) 0)) (a .computed))

@@ -2,8 +2,8 @@
 ghost use Prim.Native.Nat.{_≤_};
 
 // R61: whether the first `len` bytes of the line were written.
-fn put(line: [u8; 40], len: usize) -> bool
-    requires { ⌜ len ≤ 40 ⌝ }
+fn put(line: [u8; 72], len: usize) -> bool
+    requires { ⌜ len ≤ 72 ⌝ }
 {
     io::write_all(libc::STDOUT_FILENO, &line[..len])
 }

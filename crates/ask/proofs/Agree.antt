@@ -21,7 +21,7 @@ use Rattle.line.specs.Demand.{lastEnd}
 use Rattle.table.specs.Grounds.{entry, asked}
 use Rattle.line.specs.Stretch.{stretch, stretched, barredRun, barred}
 use Rattle.line.specs.Shares.{periodsIn}
-use Rattle.line.specs.Ends.{endsOf, slack, bound, greatest, anyOf, start}
+use Rattle.line.specs.Ends.{endsOf, slack, bound, greatest, soonestOf, firstShort, start}
 use Rattle.table.specs.Ask.{askIn, askOf}
 use Rattle.table.specs.Admit.{admitWith, admitOf}
 use Rattle.line.proofs.Search.{lowest-congr}
@@ -75,5 +75,5 @@ module _ (t : Table) (q r : Request) (a : Agree t q r) where
 
 -- R6: on the empty table an entry of 65,521 changes nothing: the new line starts at once
 pub empty-starts : askOf emptyTable (requestWith (set (replicate 16 0) 3 65521) 3 5) ≡ Start 0
-unfolding euclid gcdOf lcmOf frameFrom total lowest due lastEnd mapAt periodsIn every endsBefore endsOf slack bound greatest anyOf start askIn askOf
+unfolding euclid gcdOf lcmOf frameFrom total lowest due lastEnd mapAt periodsIn every endsBefore endsOf slack bound greatest soonestOf firstShort start askIn askOf
 empty-starts = refl

@@ -3,6 +3,7 @@ use Prim.Native.Nat.{ℕ, suc, _+_, _-_, _*_, _/_, _≤_, _<_}
 use mathlib.Core.Path.{_≡_, refl, ap, sym, _∙_}
 use mathlib.Core.Bool.{Bool, true, false, not}
 use mathlib.Core.List.{List, [], _∷_, map}
+use mathlib.Core.Option.{Option, none, some}
 use native.Mathlib.Omega.{arith}
 use lib.Dec.{ltb, leb}
 use lib.ListN.{length, take, length-map}
@@ -15,9 +16,9 @@ use Rattle.line.specs.declared.Slot.{Slot}
 use Rattle.line.specs.declared.Stream.{Stream}
 use Rattle.line.specs.Slots.{pick, both, at, total, mapAt}
 use Rattle.line.specs.Streams.{stream, byStream}
-use Rattle.line.specs.Demand.{lastEnd}
+use Rattle.line.specs.Demand.{ticksShort}
 use Rattle.line.specs.Shares.{frame, share, claim, full}
-use Rattle.line.specs.Ends.{endsOf, anyOf, start, shortAt}
+use Rattle.line.specs.Ends.{greatest, soonestOf, start, excessAt, firstShort}
 use Rattle.line.specs.Stretch.{stretch, stretched}
 use Rattle.line.proofs.Search.{true-false}
 use Rattle.line.proofs.After.{by-follows}
@@ -25,21 +26,22 @@ use Rattle.line.proofs.Sound.{sound-says, barred-not, not-barred}
 use Rattle.table.specs.declared.Table.{Table}
 use Rattle.table.specs.declared.Request.{Request}
 use Rattle.table.specs.declared.Answer.{Answer}
-use Rattle.table.specs.declared.Answer.the-variants.{Start}
+use Rattle.table.specs.declared.Answer.the-variants.{Start, Refused}
+use Rattle.table.specs.Words.{shortRefusal}
 use Rattle.table.specs.Grounds.{entry, asked}
-use Rattle.table.specs.Ask.{refusedIf, askIn}
+use Rattle.table.specs.Ask.{refusedIf, refusedShort, askIn}
 use Rattle.sums.specs.Lines.{longest, Fit}
 use Rattle.sums.specs.Weighed.{fitting, weighedFit, weighed}
 use Rattle.sums.proofs.Along.{along-length}
 use Rattle.sums.proofs.Weighing.{says-fitting, fitting-says, none-weighs}
 use Rattle.pass.specs.declared.Pass.{Pass}
-use Rattle.pass.specs.Pass.{passIn, passOf}
+use Rattle.pass.specs.Pass.{demandOf, lastBy, endsBy, shortBy, boundBy, passBy, passOver, passIn, passOf}
 use Rattle.pass.proofs.Passing.{pass-fit}
 use Rattle.decide.specs.declared.Decision.{Decision}
 use Rattle.decide.specs.declared.Decision.the-variants as decision
 use Rattle.decide.specs.Lines.{Line, byPeriod, byGap, gatheredAt, lineOf, linesIn}
-use Rattle.decide.specs.Decided.{refusedBy, decided, decidedIn, Near}
-use Rattle.decide.proofs.Matching.{frame-lines, share-lines, claim-lines, full-lines, any-lines, start-lines}
+use Rattle.decide.specs.Decided.{refusedBy, decidedBy, decided, decidedIn, Near}
+use Rattle.decide.proofs.Matching.{frame-lines, share-lines, claim-lines, full-lines, short-lines, over-lines, start-lines}
 use Rattle.ask.specs.declared.gather.Gathered.{Gathered}
 use Rattle.ask.specs.Asked.{Within}
 use Rattle.ask.specs.Gathered.{gatheredLines, Room, Gathers, Allowed, AllAllowed, pastFive, answerFrom}
@@ -93,6 +95,7 @@ answer-refused clock false n d = refl
 answer-within : (clock : ℕ) (d : Decision) → Near d → Within clock (answerFrom clock d)
 answer-within clock (decision.Start r) h = (omega arith, omega arith)
 answer-within clock (decision.Refused n) h = tt
+answer-within clock (decision.Short x) h = tt
 
 -- what is decided of the slices of the arrays, as an answer: it is what is decided of the lines gathered, and as near
 pub fronts-answer : (g : Gathered) (clock Cn Tn : ℕ) {d : Decision} {r : Answer} → Room g
@@ -116,11 +119,8 @@ module _ (t : Table) (q : Request) (fp : fitting (map byPeriod (linesIn (asked t
   abbrev behind : Bool
   behind = ltb (total (full F) l) (total (claim F) l)
 
-  abbrev short : Bool
-  short = anyOf (shortAt (t .clock) l) (endsOf (t .clock) (lastEnd (t .clock) l) l)
-
   abbrev rest : Answer
-  rest = refusedIf short 10 (Start (start (t .clock) l (q .need) (q .period)))
+  rest = refusedShort (firstShort (t .clock) l) (λ d. ticksShort (excessAt (t .clock) l d)) (Start (start (t .clock) l (q .need) (q .period)))
 
   -- what the sums say, and what the pass says
   abbrev first : ℕ
@@ -146,29 +146,32 @@ module _ (t : Table) (q : Request) (fp : fitting (map byPeriod (linesIn (asked t
     pass-is : pass ≡ passIn (map byGap (linesIn l)) (q .need) (q .period)
     pass-is = pass-fit (map byGap (linesIn l)) (q .need) (q .period) fg need-some
 
-    short-is : pass .short ≡ short
-    short-is = ap (λ (y : Pass). y .short) pass-is ∙ any-lines l (fitting-says _ fg) (t .clock) (q .need) (q .period)
+    rest-is : answerFrom (t .clock) (decidedBy pass) ≡ rest
+    unfolding passOver
+    rest-is = rw pass-is (go (soonestOf (shortBy (demandOf spaced)) ends) refl)
+      where
+        spaced : List Stream
+        spaced = map byGap (linesIn l)
 
-    rest-is : (b : Bool) → pass .short ≡ b → refusedIf b 10 (Start (t .clock + pass .start)) ≡ rest
-    rest-is true e = rw (sym short-is ∙ e)
-    rest-is false e =
-        let k : passIn (map byGap (linesIn l)) (q .need) (q .period) .short ≡ false = ap (λ (y : Pass). y .short) (sym pass-is) ∙ e in
-        let z : t .clock + pass .start ≡ start (t .clock) l (q .need) (q .period) =
-        ap (λ (y : Pass). t .clock + y .start) pass-is ∙ start-lines l (fitting-says _ fg) (t .clock) (q .need) (q .period) need-some k in
-        rw (sym short-is ∙ e) (ap Start z)
+        ends : List ℕ
+        ends = endsBy (lastBy spaced) spaced
 
-  decided-is : answerFrom (t .clock) (decided (linesIn l) (q .need) (q .period)) ≡ refusedIf (ltb 0 first) first (refusedIf (pass .short) 10 (Start (t .clock + pass .start)))
-  unfolding decided
-  decided-is =
-      answer-refused (t .clock) (ltb 0 first) first (refusedBy (pass .short) 10 (decision.Start (pass .start)))
-      ∙ ap (refusedIf (ltb 0 first) first) (answer-refused (t .clock) (pass .short) 10 (decision.Start (pass .start)))
+        bounds : ℕ → ℕ
+        bounds = boundBy (q .need) (q .period) (lastBy spaced) (demandOf spaced)
+
+        go : (o : Option ℕ) → soonestOf (shortBy (demandOf spaced)) ends ≡ o → answerFrom (t .clock) (decidedBy (passBy (demandOf spaced) o (greatest bounds 0 ends))) ≡ rest
+        go none e = rw (short-lines l (fitting-says _ fg) (t .clock), e) (ap Start (start-lines l (fitting-says _ fg) (t .clock) (q .need) (q .period) need-some))
+        go (some d) e =
+            rw (short-lines l (fitting-says _ fg) (t .clock), e)
+            (ap (λ x. Refused (shortRefusal (t .clock + d) (ticksShort x))) (sym (over-lines l (fitting-says _ fg) (t .clock) d e)))
 
   lines-decide : answerFrom (t .clock) (decided (linesIn l) (q .need) (q .period)) ≡ pastFive t q
-  lines-decide = decided-is ∙ go (ltb 0 first) refl ∙ sym past-is
+  unfolding decided
+  lines-decide = answer-refused (t .clock) (ltb 0 first) first (decidedBy pass) ∙ go (ltb 0 first) refl ∙ sym past-is
     where
-      go : (b : Bool) → ltb 0 first ≡ b → refusedIf (ltb 0 first) first (refusedIf (pass .short) 10 (Start (t .clock + pass .start))) ≡ refusedIf (ltb 0 first) first rest
+      go : (b : Bool) → ltb 0 first ≡ b → refusedIf (ltb 0 first) first (answerFrom (t .clock) (decidedBy pass)) ≡ refusedIf (ltb 0 first) first rest
       go true e = rw e
-      go false e = rw e (rest-is (ltb-false 0 first e) (pass .short) refl)
+      go false e = rw e (rest-is (ltb-false 0 first e))
 
 -- R26 to R30, R14: what is decided of the lines gathered is the answer past the first five grounds
 pub gathered-decide : (t : Table) (q : Request) (g : Gathered) {r : Answer} → Gathers t q g → AllAllowed t q → r ≡ answerFrom (t .clock) (decided (gatheredLines g) (q .need) (q .period)) → r ≡ pastFive t q

@@ -14,7 +14,7 @@ use Rattle.table.specs.declared.Table.{Table}
 use Rattle.table.specs.declared.Request.{Request}
 use Rattle.table.specs.declared.Answer.{Answer}
 use Rattle.table.specs.declared.Answer.the-variants.{Start, Refused}
-use Rattle.table.specs.Words.{refusal}
+use Rattle.table.specs.Words.{refusal, shortRefusal}
 use Rattle.table.specs.Grounds.{entry, asked}
 use Rattle.table.specs.Ask.{refusedIf, askIn}
 use Rattle.sums.specs.Lines.{along}
@@ -53,7 +53,8 @@ pastFive t q =
     refusedIf (not (both (leb 1 (q .need)) (leb (q .need) (q .period)))) 6
     (askIn (t .clock) (frame (asked t q) (q .period)) (asked t q) (q .need) (q .period))
 
--- R17, R41: what was decided, as an answer: a start is counted from the clock on, and these grounds have place 0
+-- R17, R41, R103: what was decided, as an answer: a start and a short tick are counted from the clock on, and these grounds have place 0
 abbrev pub answerFrom : (clock : ℕ) → Decision → Answer
 answerFrom clock (decision.Start d) = Start (clock + d)
 answerFrom clock (decision.Refused n) = Refused (refusal n 0)
+answerFrom clock (decision.Short x) = Refused (shortRefusal (clock + x .after) (x .excess))

@@ -50,7 +50,7 @@ fn fits_period(need: u16, period: u16) -> bool
     need <= period
 }
 
-// R17, R41: what was decided, as an answer: a start is counted from the clock on, and these grounds have place 0
+// R17, R41, R103: what was decided, as an answer: a start and a short tick are counted from the clock on, and these grounds have place 0
 fn answered(clock: u64, d: decide::Decision) -> table::Answer
     requires { ⌜ clock ≤ 2 ^ 48 - 65536 ⌝ }
     ensures { λ r. ⌜ r ≡ answerFrom clock d ⌝ }
@@ -58,6 +58,9 @@ fn answered(clock: u64, d: decide::Decision) -> table::Answer
     match d {
         decide::Decision::Start(after) => table::Answer::Start(clock + after as u64),
         decide::Decision::Refused(n) => refused(n, 0),
+        decide::Decision::Short(x) => {
+            table::Answer::Refused(table::Refusal::short(clock + x.after as u64, x.excess))
+        }
     }
 }
 

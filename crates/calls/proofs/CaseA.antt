@@ -11,7 +11,7 @@ use Rattle.line.specs.Streams.{due, every, endsBefore}
 use Rattle.line.specs.Demand.{lastEnd}
 use Rattle.line.specs.Shares.{periodsIn}
 use Rattle.table.specs.Ask.{says, askIn, askOf}
-use Rattle.line.specs.Ends.{endsOf, slack, bound, greatest, anyOf, start}
+use Rattle.line.specs.Ends.{endsOf, slack, bound, greatest, soonestOf, firstShort, start}
 use Rattle.table.specs.Admit.{admitOf}
 use Rattle.table.specs.Counts.{settling}
 use Rattle.table.specs.Step.{chosen, advance, stepOf}
@@ -32,7 +32,7 @@ reads-A : readOf cardA ≡ gives (carrying (caseA .table) (caseA .request))
 reads-A = ap readOf case-A-written ∙ case-A-read
 
 asks-A : askOf (caseA .table) (caseA .request) ≡ Start 13
-unfolding euclid gcdOf lcmOf frameFrom total lowest due lastEnd mapAt periodsIn every endsBefore endsOf slack bound greatest anyOf start askIn askOf
+unfolding euclid gcdOf lcmOf frameFrom total lowest due lastEnd mapAt periodsIn every endsBefore endsOf slack bound greatest soonestOf firstShort start askIn askOf
 asks-A = refl
 
 -- R60, R61: the eleven bytes of case A's line
@@ -40,7 +40,7 @@ pub line-A : lineFor cardA ≡ 114 ∷ 101 ∷ 108 ∷ 101 ∷ 97 ∷ 115 ∷ 10
 line-A = ap (λ (a : Answer). answerLine (says a)) (ap answerFor reads-A ∙ asks-A) ∙ line-of-case-A
 
 runs-A : runAdmitted 26 (admitOf (caseA .table) (caseA .request)) ≡ gives 23
-unfolding euclid gcdOf lcmOf frameFrom total lowest due lastEnd mapAt periodsIn every endsBefore endsOf slack bound greatest anyOf start askIn askOf chosen settling advance stepOf ticksRun
+unfolding euclid gcdOf lcmOf frameFrom total lowest due lastEnd mapAt periodsIn every endsBefore endsOf slack bound greatest soonestOf firstShort start askIn askOf chosen settling advance stepOf ticksRun
 runs-A = refl
 
 -- R66: three of the 26 ticks run no line

@@ -8,11 +8,11 @@ use Rattle.periods.specs.Multiples.{euclid, gcdOf, lcmOf, frameFrom}
 use Rattle.table.specs.declared.Table.{Table}
 use Rattle.table.specs.declared.Answer.the-variants.{Start, Refused}
 use Rattle.line.specs.Slots.{total, lowest, mapAt}
-use Rattle.table.specs.Words.{refusal, gives, refuses}
+use Rattle.table.specs.Words.{refusal, shortRefusal, gives, refuses}
 use Rattle.line.specs.Streams.{due, every, endsBefore}
 use Rattle.line.specs.Demand.{lastEnd}
 use Rattle.line.specs.Shares.{periodsIn}
-use Rattle.line.specs.Ends.{endsOf, slack, bound, greatest, anyOf, start}
+use Rattle.line.specs.Ends.{endsOf, slack, bound, greatest, soonestOf, firstShort, start}
 use Rattle.table.specs.Ask.{askIn, askOf}
 use Rattle.table.specs.Counts.{settling}
 use Rattle.table.specs.Step.{chosen, advance, stepOf}
@@ -25,13 +25,18 @@ use Rattle.card.specs.Answers.{lengthOf}
 use Rattle.calls.specs.Results.{grantedAs, resultOf, slotNumber}
 use Rattle.calls.specs.Cards.{answerOf, saidPut, putOf, rewriteAs, rewrittenOf, counted, ticksRun, runAdmitted, runOf}
 
--- R63: what is given is the value, 0 too, and a refusal its number and place
-pub result-edges : map resultOf (gives 0 ∷ gives 208 ∷ refuses (refusal 1 0) ∷ refuses (refusal 14 7) ∷ [])
-    ≡ grantedAs 0 0 ∷ grantedAs 0 208 ∷ record { number = 1; place = 0; value = 0 } ∷ record { number = 14; place = 7; value = 0 } ∷ []
+-- R63, R103: what is given is the value, 0 too, and a refusal its number and place, and of refusal 10 the tick before the excess
+pub result-edges : map resultOf (gives 0 ∷ gives 208 ∷ refuses (refusal 1 0) ∷ refuses (refusal 14 7) ∷ refuses (shortRefusal 103 2) ∷ [])
+    ≡ grantedAs 0 0
+    ∷ grantedAs 0 208
+    ∷ record { number = 1; place = 0; value = 0; tick = 0; excess = 0 }
+    ∷ record { number = 14; place = 7; value = 0; tick = 0; excess = 0 }
+    ∷ record { number = 10; place = 0; value = 0; tick = 103; excess = 2 }
+    ∷ []
 result-edges = refl
 
 -- R63: number, place and value in this order, and none is no slot's number
-pub slot-edges : (grantedAs 3 5 ≡ record { number = 0; place = 3; value = 5 }) × (map slotNumber (none ∷ some 0 ∷ some 15 ∷ []) ≡ 255 ∷ 0 ∷ 15 ∷ [])
+pub slot-edges : (grantedAs 3 5 ≡ record { number = 0; place = 3; value = 5; tick = 0; excess = 0 }) × (map slotNumber (none ∷ some 0 ∷ some 15 ∷ []) ≡ 255 ∷ 0 ∷ 15 ∷ [])
 slot-edges = (refl, refl)
 
 -- R33: a line that was not put is refusal 13 at place 0
@@ -52,11 +57,11 @@ emptyCard n = 0x43 ∷ 0x4B ∷ 0 ∷ 0 ∷ 0 ∷ 0 ∷ 0 ∷ 0 ∷ 0 ∷ 0 ∷ 
 
 -- R60: no byte is the reader's refusal; a card that reads gets ask's, or the start
 pub answer-edges : map answerOf ([] ∷ emptyCard 0 ∷ emptyCard 3 ∷ []) ≡ Refused (refusal 11 0) ∷ Refused (refusal 6 0) ∷ Start 0 ∷ []
-unfolding readWith recordsOf recordOf marked euclid gcdOf lcmOf frameFrom total lowest due lastEnd mapAt periodsIn every endsBefore endsOf slack bound greatest anyOf start askIn askOf
+unfolding readWith recordsOf recordOf marked euclid gcdOf lcmOf frameFrom total lowest due lastEnd mapAt periodsIn every endsBefore endsOf slack bound greatest soonestOf firstShort start askIn askOf
 answer-edges = refl
 
 -- R65: a card that does not read is not written, and the buffer stays
-pub refused-rewrite-keeps : (rewriteAs [] 40 ≡ record { number = 11; place = 0; value = 0 }) × (rewrittenOf [] (7 ∷ 8 ∷ []) ≡ 7 ∷ 8 ∷ [])
+pub refused-rewrite-keeps : (rewriteAs [] 40 ≡ record { number = 11; place = 0; value = 0; tick = 0; excess = 0 }) × (rewrittenOf [] (7 ∷ 8 ∷ []) ≡ 7 ∷ 8 ∷ [])
 unfolding readWith
 refused-rewrite-keeps = (refl, refl)
 
@@ -68,13 +73,13 @@ abbrev newCard : List ℕ
 newCard = 0x43 ∷ 0x4B ∷ 0 ∷ 0 ∷ 0 ∷ 0 ∷ 0 ∷ 0 ∷ 0 ∷ 0 ∷ 0x54 ∷ 0x42 ∷ 5 ∷ 0 ∷ 9 ∷ 0 ∷ 9 ∷ 0 ∷ 4 ∷ 0 ∷ 4 ∷ 0 ∷ 0x52 ∷ 0x51 ∷ 3 ∷ 0 ∷ 5 ∷ 0 ∷ []
 
 -- R65: its slot is named where there is room for it, and a refusal, 13 or 11, names its place alone
-pub rewrite-edges : map (rewriteAs oldCard) (27 ∷ 28 ∷ 29 ∷ []) ≡ record { number = 13; place = 0; value = 0 } ∷ grantedAs 1 28 ∷ grantedAs 1 28 ∷ []
+pub rewrite-edges : map (rewriteAs oldCard) (27 ∷ 28 ∷ 29 ∷ []) ≡ record { number = 13; place = 0; value = 0; tick = 0; excess = 0 } ∷ grantedAs 1 28 ∷ grantedAs 1 28 ∷ []
 unfolding readWith turnedWith recordsOf recordOf marked lowest cardOf lengthOf
 rewrite-edges = refl
 
 -- R65: a card without TA names no slot; cut by a byte, either is refused where its last record begins
 pub rewrite-new-edges : map (λ (l : List ℕ). rewriteAs l 40) (newCard ∷ take 27 newCard ∷ take 27 oldCard ∷ take 21 oldCard ∷ [])
-    ≡ grantedAs 0 28 ∷ record { number = 11; place = 22; value = 0 } ∷ record { number = 11; place = 22; value = 0 } ∷ record { number = 11; place = 10; value = 0 } ∷ []
+    ≡ grantedAs 0 28 ∷ record { number = 11; place = 22; value = 0; tick = 0; excess = 0 } ∷ record { number = 11; place = 22; value = 0; tick = 0; excess = 0 } ∷ record { number = 11; place = 10; value = 0; tick = 0; excess = 0 } ∷ []
 unfolding readWith turnedWith recordsOf recordOf marked lowest cardOf lengthOf
 rewrite-new-edges = refl
 
@@ -85,7 +90,7 @@ rewritten-edges = (refl, refl)
 
 -- R66: no tick, one, a whole period, and two ticks of the next
 pub run-edges : map (runOf (emptyCard 3)) (0 ∷ 1 ∷ 5 ∷ 7 ∷ []) ≡ gives 0 ∷ gives 1 ∷ gives 3 ∷ gives 5 ∷ []
-unfolding readWith recordsOf recordOf marked euclid gcdOf lcmOf frameFrom total lowest due lastEnd mapAt periodsIn every endsBefore endsOf slack bound greatest anyOf start askIn askOf chosen settling advance stepOf ticksRun
+unfolding readWith recordsOf recordOf marked euclid gcdOf lcmOf frameFrom total lowest due lastEnd mapAt periodsIn every endsBefore endsOf slack bound greatest soonestOf firstShort start askIn askOf chosen settling advance stepOf ticksRun
 run-edges = refl
 
 -- R66: the reader's refusal, with no tick to run and with some

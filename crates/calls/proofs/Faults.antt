@@ -10,7 +10,7 @@ use Rattle.line.specs.Tick.{isOwed}
 use Rattle.line.specs.Streams.{due, every, endsBefore}
 use Rattle.line.specs.Demand.{lastEnd}
 use Rattle.line.specs.Shares.{periodsIn}
-use Rattle.line.specs.Ends.{endsOf, slack, bound, greatest, anyOf, start}
+use Rattle.line.specs.Ends.{endsOf, slack, bound, greatest, soonestOf, firstShort, start}
 use Rattle.table.specs.declared.Table.{Table}
 use Rattle.table.specs.Words.{tableWith, refusal, Said, gives, refuses}
 use Rattle.table.specs.Ask.{askIn, askOf}
@@ -44,7 +44,7 @@ pub ask-edges : (askFor (gives (caseA .table)) (caseA .request) ≡ grantedAs 2 
     × (askFor (gives (tableOf 0 (running 8 16 0 8 ∷ []))) (requestOf 9 16 (16 ∷ [])) ≡ refusedAs (refusal 8 0))
     × (askFor (gives (tableOf 0 (waiting 1 4 3 ∷ []))) (requestOf 0 0 []) ≡ refusedAs (refusal 3 0))
     × (askFor broken (caseA .request) ≡ refusedAs (refusal 11 9))
-unfolding euclid gcdOf lcmOf frameFrom total lowest due lastEnd mapAt periodsIn every endsBefore endsOf slack bound greatest anyOf start askIn askOf
+unfolding euclid gcdOf lcmOf frameFrom total lowest due lastEnd mapAt periodsIn every endsBefore endsOf slack bound greatest soonestOf firstShort start askIn askOf
 ask-edges = (refl, refl, refl, refl)
 
 -- R87: a refused admission and a refused image leave every byte

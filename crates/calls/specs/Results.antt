@@ -1,4 +1,4 @@
--- The three numbers that a call answers (R63).
+-- The five numbers that a call answers (R63, R103).
 use Prim.Native.Nat.{ℕ}
 use mathlib.Core.Option.{Option, none, some}
 use Rattle.table.specs.declared.Refusal.{Refusal}
@@ -7,11 +7,11 @@ use Rattle.calls.specs.declared.Result.{Result}
 
 -- R63: granted, with a place and a value
 abbrev pub grantedAs : (place value : ℕ) → Result
-grantedAs k v = record { number = 0; place = k; value = v }
+grantedAs k v = record { number = 0; place = k; value = v; tick = 0; excess = 0 }
 
--- R63: refused
+-- R63, R103: refused, with what the refusal says
 abbrev pub refusedAs : Refusal → Result
-refusedAs x = record { number = x .number; place = x .place; value = 0 }
+refusedAs x = record { number = x .number; place = x .place; value = 0; tick = x .tick; excess = x .excess }
 
 -- R63: what was asked for with a place, or the refusal
 abbrev pub resultAt : (place : ℕ) → Said ℕ → Result

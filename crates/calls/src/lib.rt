@@ -12,12 +12,14 @@ pub mod cards; // a card's answer and its line, and the run of its table
 pub mod moves; // a card's table and request, into lent bytes and numbers
 pub mod tables; // a table asked, admitted to and stepped
 
-// R63: what a call answers. Number 0: what was asked for is granted, and is the value.
+// R63: what a call answers. Number 0: what was asked for is granted, and is the value. R103: refusal 10 has a tick and an excess, all else 0 for both.
 #[repr(C)]
 pub struct Result {
     pub number: u64,
     pub place: u64,
     pub value: u64,
+    pub tick: u64,
+    pub excess: u64,
 }
 
 impl Result {
@@ -29,6 +31,8 @@ impl Result {
             number: 0,
             place: place,
             value: value,
+            tick: 0,
+            excess: 0,
         }
     }
 
@@ -40,6 +44,8 @@ impl Result {
             number: x.number as u64,
             place: x.place,
             value: 0,
+            tick: x.tick,
+            excess: x.excess as u64,
         }
     }
 }

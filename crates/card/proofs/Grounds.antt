@@ -1,12 +1,12 @@
 -- The reader refuses with 11 alone (R57); 12 is no longer given (R32).
-use mathlib.Core.Path.{_≡_, refl}
+use mathlib.Core.Path.{_≡_, refl, ap}
 use mathlib.Core.Bool.{Bool, true, false}
 use mathlib.Core.List.{List, [], _∷_}
 use Prim.Native.Nat.{ℕ, zero, suc, _+_}
 use lib.ListN.{length, drop}
 use lib.Dec.{leb, ltb, eqb}
 use Rattle.line.specs.Slots.{pick, both}
-use Rattle.table.specs.Words.{Said, gives, refuses}
+use Rattle.table.specs.Words.{refusal, Said, gives, refuses}
 use Rattle.card.specs.declared.Mark.{Mark}
 use Rattle.card.specs.declared.SlotRecord.{SlotRecord}
 use Rattle.card.specs.declared.Record.{Record}
@@ -16,10 +16,10 @@ use Rattle.card.specs.Layout.{CK, TB, TL, TF, TA, RQ, isFree, clockAt, c
 use Rattle.card.specs.Marked.{free, Records}
 use Rattle.card.specs.Reading.{lineRecordOf, lastOf, slotRecordOf, recordOf, broken, putInFront, step, recordsOf, meaning, readWith}
 
--- if it is a refusal, its number is 11
+-- R31: if it is a refusal, it is 11 at its place, and says no more
 abbrev pub Refuses : {A : Type 0} → Said A → Type 0
 Refuses (gives x) = Unit {0}
-Refuses (refuses r) = r .number ≡ 11
+Refuses (refuses r) = r ≡ refusal 11 (r .place)
 
 -- the same of a record
 abbrev Fails : Record → Type 0
@@ -57,7 +57,7 @@ one-step k left gap at l next (Slot r) f h =
     let w = recordLength (r .mark) in
     in-front (r ∷ []) (next (isFree (r .mark)) (at + w) (drop w l)) (h (isFree (r .mark)) (at + w) (drop w l))
 one-step k left gap at l next (Last c n) f h = closing-refuses gap (eqb (length l) lastLength) at _
-one-step k left gap at l next (Refused n) f h = f
+one-step k left gap at l next (Refused n) f h = ap (λ (m : ℕ). refusal m at) f
 
 records-refuse : (k left : ℕ) (gap : Bool) (at : ℕ) (l : List ℕ) → Refuses (recordsOf k left gap at l)
 unfolding recordsOf

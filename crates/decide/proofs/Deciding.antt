@@ -13,13 +13,15 @@ use Rattle.sums.specs.Lines.{linesOf, alike}
 use Rattle.sums.specs.Weighed.{weighed, weighedIn}
 use Rattle.sums.proofs.Along.{along-map}
 use Rattle.sums.proofs.Weighing.{none-weighs}
+use Rattle.pass.specs.declared.FirstExcess.{FirstExcess}
 use Rattle.pass.specs.declared.Pass.{Pass}
-use Rattle.pass.specs.Pass.{notPassed, passOf, passedIn}
+use Rattle.pass.specs.declared.Pass.the-variants as pass
+use Rattle.pass.specs.Pass.{passOf, passedIn}
 use Rattle.pass.proofs.Passing.{start-near}
 use Rattle.decide.specs.declared.Decision.{Decision}
-use Rattle.decide.specs.declared.Decision.the-variants.{Start, Refused}
+use Rattle.decide.specs.declared.Decision.the-variants.{Start, Refused, Short}
 use Rattle.decide.specs.Lines.{byPeriod, byGap, gatheredAt, gathered, allAlike}
-use Rattle.decide.specs.Decided.{refusedBy, decided, decidedIn}
+use Rattle.decide.specs.Decided.{refusedBy, decidedBy, decided, decidedIn}
 
 both-not : (a : Bool) → both a false ≡ false
 both-not true = refl
@@ -77,23 +79,27 @@ module _ (e c n p g : List ℕ) (Cn Tn : ℕ) where
         passed-is : x ≡ passOf (map byGap (gathered e c n p g)) Cn Tn
         passed-is =
             ex
-            ∙ ap (λ (b : Bool). pick b (passOf (linesOf e c n g) Cn Tn) notPassed) alike-gaps
+            ∙ ap (λ (b : Bool). pick b (passOf (linesOf e c n g) Cn Tn) pass.Unfit) alike-gaps
             ∙ ap (λ (l : List Stream). passOf l Cn Tn) (sym (along-map (gatheredAt e c n p g) byGap 0 (length e)))
 
-        past-sums : refusedBy (x .short) 10 (Start (x .start)) ≡ decidedIn e c n p g Cn Tn
+        past-sums : decidedBy x ≡ decidedIn e c n p g Cn Tn
         unfolding decidedIn decided
         past-sums = rw (alike-all, sums-none, ← passed-is)
 
-        -- R30: an end is short without the new line
-        pub decide-short : x .short ≡ true → Refused 10 ≡ decidedIn e c n p g Cn Tn
-        decide-short b = rw b at past-sums
-
         -- R14, R18: no ground holds, and the start is given
-        pub decide-starts : x .short ≡ false → Start (x .start) ≡ decidedIn e c n p g Cn Tn
+        pub decide-starts : {r : ℕ} → x ≡ pass.Start r → Start r ≡ decidedIn e c n p g Cn Tn
         decide-starts b = rw b at past-sums
 
-        -- R14, R3: and it is not farther than 65,535 ticks
-        pub start-within : x .start ≤ 65535
-        start-within =
+        -- R30, R103: an end is short without the new line, and the first is named
+        pub decide-short : {y : FirstExcess} → x ≡ pass.Short y → Short y ≡ decidedIn e c n p g Cn Tn
+        decide-short b = rw b at past-sums
+
+        -- R24: the gaps are not fit
+        pub decide-unfit : x ≡ pass.Unfit → Refused 4 ≡ decidedIn e c n p g Cn Tn
+        decide-unfit b = rw b at past-sums
+
+        -- R14, R3: a start is not farther than 65,535 ticks
+        pub start-within : {r : ℕ} → x ≡ pass.Start r → r ≤ 65535
+        start-within {r} b =
             let f = none-weighs (map byPeriod (gathered e c n p g)) Cn Tn sums-none in
-            rw passed-is (start-near (map byGap (gathered e c n p g)) Cn Tn (omega arith))
+            start-near (map byGap (gathered e c n p g)) Cn Tn r (omega arith) (sym passed-is ∙ b)

@@ -1,35 +1,26 @@
--- What is counted of the lines from the clock is what the rules count of the slots in absolute ticks: the frame, the sums, the ends and the start.
+-- What is counted of the lines from the clock is what the rules count of the slots in absolute ticks: the frame, the sums, the ends, the first short one and the start.
 use Prim.Native.Nat.{ℕ, _+_, _-_, _≤_, _<_, max}
 use mathlib.Core.Path.{_≡_, refl, ap, sym, _∙_}
-use mathlib.Core.Bool.{false}
+use mathlib.Core.Option.{some}
 use mathlib.Core.List.{List, _∷_, map}
-use native.Mathlib.Decide.{decLt}
 use native.Mathlib.Omega.{arith}
-use lib.Dec.{ltb}
-use borrow.Author.Tests.{lt-ltb, le-ltb}
+use lib.IntN.{pos, subℕ}
+use lib.Signed.{ltZ}
 use Rattle.periods.specs.Multiples.{All, frameOf}
 use Rattle.line.specs.declared.Slot.{Slot}
 use Rattle.line.specs.declared.Stream.{Stream}
 use Rattle.line.specs.Slots.{total}
 use Rattle.line.specs.Streams.{flow, shareOf, claimOf, fullOf}
-use Rattle.line.specs.Demand.{demands, lastEnd}
+use Rattle.line.specs.Demand.{demands}
 use Rattle.line.specs.Shares.{frame, share, claim, full}
-use Rattle.line.specs.Ends.{endsOf, slack, bound, greatest, anyOf, start, shortAt}
+use Rattle.line.specs.Ends.{endsOf, slack, bound, greatest, soonestOf, start, excessAt, shortAt, firstShort}
+use Rattle.line.proofs.Ends.{soonest-here}
 use Rattle.sums.specs.Lines.{sumOf, longest, Fit}
 use Rattle.sums.specs.Weighed.{periodsOf}
-use Rattle.pass.specs.Pass.{dueBy, demandOf, lastBy, endsBy, shortBy, boundBy, passIn}
+use Rattle.pass.specs.Pass.{dueBy, demandOf, lastBy, endsBy, excessBy, shortBy, boundBy}
 use Rattle.pass.proofs.LastEnd.{last-small}
-use Rattle.pass.proofs.Passing.{pass-any, pass-greatest}
 use Rattle.decide.specs.Lines.{byPeriod, byGap, linesIn, absolute}
-use Rattle.decide.proofs.Ticks.{total-lines, flow-shift, periods-lines, last-lines, ends-lines, ends-early, any-shift, bound-shift, greatest-shift}
-
--- by a tick d after the clock, with D the demand: an excess above 0 there
-short-by : (t0 d D E : ℕ) → D ≡ E → ltb 0 (D - (t0 + d - t0)) ≡ ltb d E
-short-by t0 d D E e =
-    elim (decLt d E) [
-      | yes l ↦ lt-ltb 0 (D - (t0 + d - t0)) (omega arith) ∙ sym (lt-ltb d E l)
-      | no l ↦ le-ltb 0 (D - (t0 + d - t0)) (omega arith) ∙ sym (le-ltb d E (omega arith))
-    ]
+use Rattle.decide.proofs.Ticks.{total-lines, flow-shift, periods-lines, last-lines, ends-lines, ends-early, shifted, soonest-shift, bound-shift, greatest-shift}
 
 module _ (l : List Slot) where
   -- R8: the frame of the lines is the slots'
@@ -63,29 +54,41 @@ module _ (l : List Slot) where
   demand-is : (t0 d : ℕ) → d < longest → demands t0 l (t0 + d) ≡ all d
   demand-is t0 d h = total-lines (λ s. flow t0 s (t0 + d)) (dueBy d) byGap (flow-shift t0 d h) l
 
-  -- R30: the pass is short where the lines have an excess at some end
-  pub any-lines : All Fit spaced → (t0 Cn Tn : ℕ) → passIn spaced Cn Tn .short ≡ anyOf (shortAt t0 l) (endsOf t0 (lastEnd t0 l) l)
-  any-lines fit t0 Cn Tn =
-      let near : last ≤ longest = last-small spaced fit in
-      pass-any (shortBy all) (boundBy Cn Tn last all) ends
-      ∙ sym (any-shift (shortAt t0 l) (shortBy all) t0 last (λ d b. short-by t0 d (demands t0 l (t0 + d)) (all d) (demand-is t0 d (omega arith))) ends (ends-early last spaced fit))
-      ∙ ap (anyOf (shortAt t0 l)) (sym (ends-lines t0 last l near))
-      ∙ ap (λ (x : ℕ). anyOf (shortAt t0 l) (endsOf t0 x l)) (sym (last-lines t0 l))
+  -- R12: the excess at a tick before every second end of a line that leaves
+  excess-lines : (t0 d : ℕ) → d < longest → excessAt t0 l (t0 + d) ≡ excessBy all d
+  excess-lines t0 d h =
+      let z : t0 + d - t0 ≡ d = omega arith in
+      ap (λ (x : ℕ). subℕ x (t0 + d - t0)) (demand-is t0 d h) ∙ ap (subℕ (all d)) z
+
+  module _ (fit : All Fit spaced) (t0 : ℕ) where
+    -- R30: the first short end
+    pub short-lines : firstShort t0 l ≡ shifted t0 (soonestOf (shortBy all) ends)
+    unfolding firstShort
+    short-lines =
+        let near : last ≤ longest = last-small spaced fit in
+        ap (λ (x : ℕ). soonestOf (shortAt t0 l) (endsOf t0 x l)) (last-lines t0 l)
+        ∙ ap (soonestOf (shortAt t0 l)) (ends-lines t0 last l near)
+        ∙ soonest-shift (shortAt t0 l) (shortBy all) t0 last (λ d b. ap (ltZ (pos 0)) (excess-lines t0 d (omega arith))) ends (ends-early last spaced fit)
+
+    -- R103: and the excess there
+    pub over-lines : (d : ℕ) → soonestOf (shortBy all) ends ≡ some d → excessAt t0 l (t0 + d) ≡ excessBy all d
+    over-lines d e =
+        let w = soonest-here (shortBy all) (λ u. u < last) d ends e (ends-early last spaced fit) in
+        excess-lines t0 d (omega (arith, w .1, last-small spaced fit))
 
   slack-is : (t0 d : ℕ) → d < longest → slack t0 l (t0 + d) ≡ d - all d
   unfolding slack
   slack-is t0 d h = let e = demand-is t0 d h in omega arith
 
-  -- R14: the pass gives the start
-  pub start-lines : All Fit spaced → (t0 Cn Tn : ℕ) → 1 ≤ Cn → passIn spaced Cn Tn .short ≡ false → t0 + passIn spaced Cn Tn .start ≡ start t0 l Cn Tn
+  -- R14: the greatest bound is the start
+  pub start-lines : All Fit spaced → (t0 Cn Tn : ℕ) → 1 ≤ Cn → t0 + greatest (boundBy Cn Tn last all) 0 ends ≡ start t0 l Cn Tn
   unfolding start
-  start-lines fit t0 Cn Tn h k =
+  start-lines fit t0 Cn Tn h =
       let near : last ≤ longest = last-small spaced fit in
       let f : ℕ → ℕ → ℕ = λ La d. bound Cn Tn La d (slack t0 l d) in
       let b = boundBy Cn Tn last all in
       let z : t0 ≡ t0 + 0 = omega arith in
-      ap (λ (x : ℕ). t0 + x) (pass-greatest (shortBy all) b ends k)
-      ∙ sym
+      sym
       (greatest-shift (f (t0 + last)) b t0 last
       (λ r d g. ap (λ (s : ℕ). max (t0 + r) (bound Cn Tn (t0 + last) (t0 + d) s)) (slack-is t0 d (omega arith)) ∙ bound-shift Cn Tn last t0 r d (d - all d) h)
       0 ends (ends-early last spaced fit)

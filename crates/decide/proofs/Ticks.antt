@@ -1,7 +1,7 @@
 -- From a list of slots to its lines as they are gathered, and from absolute ticks to ticks counted from the clock.
 use Prim.Native.Nat.{ℕ, zero, suc, _+_, _-_, _*_, _/_, _%_, _≤_, _<_, max, min}
 use mathlib.Core.Path.{_≡_, refl, ap, sym, _∙_}
-use mathlib.Core.Bool.{Bool}
+use mathlib.Core.Bool.{Bool, true, false}
 use mathlib.Core.List.{List, [], _∷_, _++_, map}
 use mathlib.Core.Option.{Option, none, some}
 use native.Mathlib.Nat.{mod-lt, div-eq-of-lt, div-eq-of-lt-le}
@@ -14,11 +14,11 @@ use Rattle.line.specs.declared.Follows.{Follows}
 use Rattle.line.specs.declared.Follows.the-variants.{Renews, Leaves}
 use Rattle.line.specs.declared.Slot.{Slot}
 use Rattle.line.specs.declared.Stream.{Stream}
-use Rattle.line.specs.Slots.{byFollows, total}
+use Rattle.line.specs.Slots.{pick, byFollows, total}
 use Rattle.line.specs.Streams.{asks, ofStream, byStream, due, endAt, flow, countBefore, every, endsBefore, onlyEnd, endsThen, endsAt}
 use Rattle.line.specs.Demand.{lastEnd}
 use Rattle.line.specs.Shares.{periodsIn}
-use Rattle.line.specs.Ends.{endsOf, bound, greatest, anyOf}
+use Rattle.line.specs.Ends.{endsOf, bound, greatest, orSooner, soonestOf}
 use Rattle.line.proofs.Due.{due-before, due-after, due-shift}
 use Rattle.line.proofs.Ends.{before-all}
 use Rattle.sums.specs.Lines.{sumOf, longest, Fit}
@@ -150,12 +150,23 @@ ends-early last (x ∷ l) f =
 
 -- ---- what is looked for and what is greatest over ticks counted from the clock
 
--- a test holds at some tick before `last`, counted from the clock
-pub any-shift : (test other : ℕ → Bool) (t0 last : ℕ) → ((d : ℕ) → d < last → test (t0 + d) ≡ other d) → (ds : List ℕ) → All (λ d. d < last) ds
-    → anyOf test (absolute t0 ds) ≡ anyOf other ds
-unfolding anyOf absolute
-any-shift test other t0 last e [] a = refl
-any-shift test other t0 last e (d ∷ ds) a = rw (e d (a .0), any-shift test other t0 last e ds (a .1))
+-- what was found, as an absolute tick
+abbrev pub shifted : (clock : ℕ) → Option ℕ → Option ℕ
+shifted t0 none = none
+shifted t0 (some d) = some (t0 + d)
+
+sooner-shift : (t0 d : ℕ) (b : Bool) (o : Option ℕ) → pick b (orSooner (t0 + d) (shifted t0 o)) (shifted t0 o) ≡ shifted t0 (pick b (orSooner d o) o)
+sooner-shift t0 d true none = refl
+sooner-shift t0 d true (some u) = ap some (omega arith)
+sooner-shift t0 d false o = refl
+
+-- the soonest tick before `last` at which a test holds, counted from the clock
+pub soonest-shift : (test other : ℕ → Bool) (t0 last : ℕ) → ((d : ℕ) → d < last → test (t0 + d) ≡ other d) → (ds : List ℕ) → All (λ d. d < last) ds
+    → soonestOf test (absolute t0 ds) ≡ shifted t0 (soonestOf other ds)
+unfolding soonestOf absolute
+soonest-shift test other t0 last e [] a = refl
+soonest-shift test other t0 last e (d ∷ ds) a =
+    rw (e d (a .0), soonest-shift test other t0 last e ds (a .1)) (sooner-shift t0 d (other d) (soonestOf other ds))
 
 -- a bound before the clock bounds nothing
 clipped : (t0 r a b last w : ℕ) → b ≡ t0 + a → max (t0 + r) (min b (t0 + last) - w) ≡ t0 + max r (min a last - w)

@@ -2,10 +2,11 @@
 ghost use mathlib.Core.Path.{_≡_};
 ghost use Rattle.decide.specs.Decided.{decidedIn, Near};
 
-// R14, R17: the start, counted from the clock, or the number of the ground.
+// R14, R17: the start, counted from the clock, or the number of the ground; R103: of ground 10 the first tick that is short, and its excess.
 pub enum Decision {
     Start(u32),
     Refused(u16),
+    Short(pass::FirstExcess),
 }
 
 // R18: the first ground that holds, or the start. Line k has the k-th number of each slice: its first end, counted from the clock, what remains
@@ -30,8 +31,9 @@ pub fn decide<'a>(
         return Decision::Refused(n);
     }
     let p = pass::over_ends(ends, remaining, needs, gaps, need, period);
-    if p.short {
-        return Decision::Refused(10);
+    match p {
+        pass::Pass::Start(after) => Decision::Start(after),
+        pass::Pass::Short(x) => Decision::Short(x),
+        pass::Pass::Unfit => Decision::Refused(4),
     }
-    Decision::Start(p.start)
 }

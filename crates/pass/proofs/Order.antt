@@ -4,23 +4,25 @@ use mathlib.Core.Path.{_≡_, refl, sym, ap, _∙_}
 use mathlib.Core.Bool.{Bool, true, false}
 use mathlib.Core.Logic.{⊎-elim}
 use mathlib.Core.List.{List}
+use mathlib.Core.Option.{Option, none, some}
 use native.Mathlib.Decide.{ℕ-discrete, decLt}
 use native.Mathlib.Omega.{arith}
 use lib.ListN.{length}
-use borrow.Author.Tests.{lt-ltb, le-ltb}
 use Rattle.periods.specs.Multiples.{All}
 use Rattle.periods.proofs.Lists.{all-appended, all-of-each}
 use Rattle.line.specs.declared.Stream.{Stream}
 use Rattle.line.specs.Streams.{endsBefore}
-use Rattle.line.specs.Ends.{bound, greatest, anyOf}
+use Rattle.line.specs.Demand.{ticksShort}
+use Rattle.line.specs.Ends.{bound, greatest, soonestOf}
 use Rattle.line.proofs.Search.{true-false}
 use Rattle.line.proofs.Due.{due-before}
-use Rattle.line.proofs.Ends.{before-all, all-before, any-none, none-any, greatest-above, greatest-least}
+use Rattle.line.proofs.Ends.{before-all, all-before, soonest-none, none-soonest, soonest-here, soonest-first, greatest-above, greatest-least}
+use Rattle.line.proofs.Excess.{excess-short, excess-fine, ticks-short}
 use Rattle.sums.specs.Lines.{along, sumOf, longest, Fit}
 use Rattle.sums.proofs.Adding.{sums-plus, sums-none}
-use Rattle.pass.specs.Pass.{dueBy, demandOf, endsBy, notPassed, passOver, shortBy, boundBy, passTo}
+use Rattle.pass.specs.declared.Pass.the-variants.{Start, Short}
+use Rattle.pass.specs.Pass.{dueBy, demandOf, endsBy, passOver, excessBy, shortBy, boundBy, passTo}
 use Rattle.pass.specs.Order.{nth, Soonest, dueNow, addedAt, Moved, Places}
-use Rattle.pass.proofs.Passing.{short-is, fine-is}
 use Rattle.pass.proofs.TakingEnds.{ends-now, ends-later}
 use Rattle.pass.proofs.NextEnd.{dueBefore, before-suc, NextEnd, next-start, next-end, next-least, next-small, next-on, before-on, due-none, due-taken, next-taken}
 
@@ -145,18 +147,40 @@ module _ (a : ℕ → Stream) (n Cn Tn last : ℕ) where
           sum-is e =
               omega (arith, e, v .before, sums-plus (dueBy d) a (dueBefore d) a (dueNow next owed d) (λ k. k) 0 n (λ k x y. falls-due k (omega arith)))
 
-          -- R30: the tick is short
-          pub order-short : {x : ℕ} → x ≡ addedAt next owed n d → d < sum + x → notPassed ≡ passTo last lines Cn Tn
+          -- R30, R103: the tick is short, and no end before it is: it is the soonest such end, and the excess there is what the demand has over it
+          pub order-short : {x : ℕ} → x ≡ addedAt next owed n d → d < sum + x → Short (record { after = d; excess = sum + x - d }) ≡ passTo last lines Cn Tn
           unfolding passOver
-          order-short e g = short-is _ _ (found (anyOf short (endsBy last lines)) refl)
+          order-short {x} e g = rw found (ap (λ (y : ℕ). Short (record { after = d; excess = y })) over)
             where
-              found : (b : Bool) → anyOf short (endsBy last lines) ≡ b → b ≡ true
-              found true _ = refl
-              found false none' =
+              here : short d ≡ true
+              here = excess-short (demandOf lines d) d (omega (arith, sum-is e))
+
+              over : sum + x - d ≡ ticksShort (excessBy (demandOf lines) d)
+              over = omega (arith, sum-is e, ticks-short (demandOf lines d) d)
+
+              at : (Q : ℕ → Type 0) → All Q (endsBy last lines) → Q d
+              at Q all =
                   let w = visit .2 in
-                  let all = all-lines (λ u. short u ≡ false) last a 0 n (λ k x y. p k (omega arith)) (any-none short (endsBy last lines) none') in
-                  let here = all (visit .0) (omega arith) (omega (arith, visit .1)) (w .0) (omega (arith, w .1)) in
-                  absurd (true-false (lt-ltb d (demandOf lines d) (omega (arith, sum-is e))) (rw (w .1) here))
+                  rw (w .1) (all-lines Q last a 0 n (λ k x y. p k (omega arith)) all (visit .0) (omega arith) (omega (arith, visit .1)) (w .0) (omega (arith, w .1)))
+
+              after-all : All (λ u. short u ≡ true → d ≤ u) (endsBy last lines)
+              after-all =
+                  lines-all (λ u. short u ≡ true → d ≤ u) last a 0 n (λ k x y. p k (omega arith))
+                  (λ k x y j h t.
+                  elim (decLt (a k .end + j * a k .period) d) [
+                    | yes l ↦ absurd (true-false t (all-lines (λ u. short u ≡ false) d a 0 n (λ k x y. p k (omega arith)) (v .fine) k x y j l))
+                    | no l ↦ omega arith
+                  ])
+
+              go : (o : Option ℕ) → soonestOf short (endsBy last lines) ≡ o → o ≡ some d
+              go none q = absurd (true-false here (at (λ u. short u ≡ false) (soonest-none short (endsBy last lines) q)))
+              go (some u) q =
+                  let w = soonest-here short (λ y. short y ≡ true → d ≤ y) u (endsBy last lines) q after-all in
+                  let f = at (λ y. short y ≡ true → u ≤ y) (soonest-first short u (endsBy last lines) q) here in
+                  ap some (omega (arith, w .1 (w .0), f))
+
+              found : soonestOf short (endsBy last lines) ≡ some d
+              found = go (soonestOf short (endsBy last lines)) refl
 
           module _ {d' : ℕ} (s : Soonest (nth next') n last d') where
             -- the next tick comes later
@@ -212,14 +236,14 @@ module _ (a : ℕ → Stream) (n Cn Tn last : ℕ) where
               stands = λ k l. next-on (past k l) d' (let q = tick-later in omega arith) (s .below k l);
               before = omega (arith, e, v .before, sums-plus (dueBefore d') a (dueBefore d) a (dueNow next owed d) (λ k. k) 0 n (λ k x y. before-past k (omega arith)));
               small = omega arith;
-              fine = ends-on (λ u. short u ≡ false) (v .fine) (le-ltb d (demandOf lines d) (omega (arith, sum-is e)));
+              fine = ends-on (λ u. short u ≡ false) (v .fine) (excess-fine (demandOf lines d) d (omega (arith, sum-is e)));
               best = t ∙ ap (max start) (b ∙ ap (λ (y : ℕ). bound Cn Tn last d (d - y)) (sum-is e)) ∙ most-on;
             }
 
       -- R30, R14: no tick is left
-      pub order-end : last ≤ d → record { short = false; start = start } ≡ passTo last lines Cn Tn
+      pub order-end : last ≤ d → Start start ≡ passTo last lines Cn Tn
       unfolding passOver
       order-end h =
           let z : d ≡ last = omega (arith, v .soon .within) in
           let m : start ≡ greatest bounds 0 (endsBy last lines) = v .best ∙ ap (λ (x : ℕ). greatest bounds 0 (endsBy x lines)) z in
-          rw m (fine-is _ _ (none-any short (endsBy last lines) (rw z at (v .fine))))
+          rw (none-soonest short (endsBy last lines) (rw z at (v .fine))) (ap Start m)

@@ -1,16 +1,22 @@
 -- The pass over the ends, counted from the clock: the demand at each end tells whether the running lines have excess there and what start
 -- the new line may have. The period of a line is here the time from one of its ends to the next.
 use Prim.Native.Nat.{ℕ, _-_, _≤_, max}
-use mathlib.Core.Bool.{Bool, true, false, not}
+use mathlib.Core.Bool.{Bool, not}
 use mathlib.Core.List.{List, [], _∷_, _++_, map}
+use mathlib.Core.Option.{Option, none, some}
 use lib.Dec.{ltb}
+use lib.IntN.{ℤ, pos, subℕ}
+use lib.Signed.{ltZ}
 use Rattle.line.specs.declared.Stream.{Stream}
 use Rattle.line.specs.Slots.{pick}
 use Rattle.line.specs.Streams.{due, endsBefore}
-use Rattle.line.specs.Ends.{bound, greatest, anyOf}
+use Rattle.line.specs.Demand.{ticksShort}
+use Rattle.line.specs.Ends.{bound, greatest, soonestOf}
 use Rattle.sums.specs.Lines.{sumOf, linesOf, alike, longest}
 use Rattle.sums.specs.Weighed.{fitting}
+use Rattle.pass.specs.declared.FirstExcess.{FirstExcess}
 use Rattle.pass.specs.declared.Pass.{Pass}
+use Rattle.pass.specs.declared.Pass.the-variants.{Start, Short, Unfit}
 use Rattle.pass.specs.declared.New.{New}
 
 -- R10: a line's demand d ticks after the clock
@@ -35,25 +41,34 @@ unfoldable pub endsBy : (last : ℕ) → List Stream → List ℕ
 endsBy last [] = []
 endsBy last (x ∷ l) = endsBefore (x .end) (x .period) last ++ endsBy last l
 
--- R30: with `all d` for the demand at d: more is demanded by d than time has gone by
+-- R12: with `all d` for the demand at d: the excess at d
+abbrev pub excessBy : (ℕ → ℕ) → ℕ → ℤ
+excessBy all d = subℕ (all d) d
+
+-- R30: it is above 0
 abbrev pub shortBy : (ℕ → ℕ) → ℕ → Bool
-shortBy all d = ltb d (all d)
+shortBy all d = ltZ (pos 0) (excessBy all d)
+
+-- R103: the tick d, and the excess there
+abbrev pub excessFrom : (ℕ → ℕ) → ℕ → FirstExcess
+excessFrom all d = record { after = d; excess = ticksShort (excessBy all d) }
 
 -- R14: the bound that the end d puts on the start
 abbrev pub boundBy : (Cn Tn last : ℕ) → (ℕ → ℕ) → ℕ → ℕ
 boundBy Cn Tn last all d = bound Cn Tn last d (d - all d)
 
--- short at the clock: what is said where an end is short, of lines that are not fit, and of a need of 0
-abbrev pub notPassed : Pass
-notPassed = record { short = true; start = 0 }
+-- R103, R14: what is said of the soonest short end, or else of the start r
+abbrev pub passBy : (ℕ → ℕ) → Option ℕ → (r : ℕ) → Pass
+passBy all (some d) r = Short (excessFrom all d)
+passBy all none r = Start r
 
--- R30, R14: short where one of the ends is, else the greatest of f at each end. The order of the ends is not looked at.
-unfoldable pub passOver : (ℕ → Bool) → (ℕ → ℕ) → List ℕ → Pass
-passOver short f ds = pick (anyOf short ds) notPassed (record { short = false; start = greatest f 0 ds })
+-- R30, R14: the soonest of the ends that is short, else the greatest of f at each end. The order of the ends is not looked at.
+unfoldable pub passOver : (all f : ℕ → ℕ) → List ℕ → Pass
+passOver all f ds = passBy all (soonestOf (shortBy all) ds) (greatest f 0 ds)
 
 -- R30, R14: the pass over the ends of the lines before `last`, from the clock on
 abbrev pub passTo : (last : ℕ) → List Stream → (Cn Tn : ℕ) → Pass
-passTo last l Cn Tn = passOver (shortBy (demandOf l)) (boundBy Cn Tn last (demandOf l)) (endsBy last l)
+passTo last l Cn Tn = passOver (demandOf l) (boundBy Cn Tn last (demandOf l)) (endsBy last l)
 
 -- R15: and over those before the last end
 abbrev pub passIn : List Stream → (Cn Tn : ℕ) → Pass
@@ -61,11 +76,11 @@ passIn l Cn Tn = passTo (lastBy l) l Cn Tn
 
 -- R30, R14: the pass of lines that are fit, with a need of at least 1
 unfoldable pub passOf : List Stream → (Cn Tn : ℕ) → Pass
-passOf l Cn Tn = pick (not (fitting l)) notPassed (pick (ltb Cn 1) notPassed (passIn l Cn Tn))
+passOf l Cn Tn = pick (not (fitting l)) Unfit (pick (ltb Cn 1) Unfit (passIn l Cn Tn))
 
--- the same of slices: short at the clock where they differ in length
+-- the same of slices: not fit where they differ in length
 abbrev pub passedIn : (e c n p : List ℕ) → (Cn Tn : ℕ) → Pass
-passedIn e c n p Cn Tn = pick (alike e c n p) (passOf (linesOf e c n p) Cn Tn) notPassed
+passedIn e c n p Cn Tn = pick (alike e c n p) (passOf (linesOf e c n p) Cn Tn) Unfit
 
 -- R26, R3: what is known of the new line, since its ground did not hold, and of the last end
 pub record FitNew (new : New) : Type 0 where

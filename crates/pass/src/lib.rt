@@ -1,24 +1,31 @@
-// The pass over the running lines' ends in time order, counted from the clock: the demand at each end gives refusal 10 (R30) or the start (R14).
+// The pass over the running lines' ends in time order, counted from the clock: the excess at each end gives refusal 10 (R30, R103) or the start (R14).
 ghost use mathlib.Core.Path.{_≡_};
 ghost use Prim.Native.Nat.{_≤_, min, max};
-ghost use lib.Dec.{leb};
+ghost use lib.IntN.{subℕ};
 ghost use lib.ListN.{length};
 ghost use Rattle.line.specs.Ends.{bound};
 ghost use Rattle.sums.specs.Lines.{linesOf, Packed};
-ghost use Rattle.pass.specs.Pass.{greatestEnd, notPassed, passTo, passIn, passedIn, FitNew};
+ghost use Rattle.pass.specs.Pass.{greatestEnd, passTo, passIn, passedIn, FitNew};
 ghost use Rattle.pass.specs.Order.{nth, StartsWith, Soonest, Moved, addedAt, Places, linesFrom, FitFrom};
 
-// R30, R14: whether an end is short, and if none is, the start that the ends leave, else 0.
-pub struct Pass {
-    pub short: bool,
-    pub start: u32,
+// R103: the first tick at which the running lines have an excess above 0, counted from the clock, and that excess.
+pub struct FirstExcess {
+    pub after: u32,
+    pub excess: u32,
 }
 
-// R30: no excess of the running lines at d, where `sum` is their demand
-fn passes(sum: u32, d: u32) -> bool
-    ensures { λ r. ⌜ r ≡ leb sum d ⌝ }
+// R14, R30: the start that the ends leave; where an end is short, the first such end; of lines that are not fit neither.
+pub enum Pass {
+    Start(u32),
+    Short(FirstExcess),
+    Unfit,
+}
+
+// R12, R30: the excess of the running lines at d, where `sum` is their demand: below 0 for time to spare, above 0 for ticks short
+fn excess_at(sum: u32, d: u32) -> i64
+    ensures { λ r. ⌜ r ≡ subℕ sum d ⌝ }
 {
-    sum <= d
+    sum as i64 - d as i64
 }
 
 // the lesser of two
@@ -68,16 +75,6 @@ struct New {
     need: u32,
     period: u32,
     last: u32,
-}
-
-// what is said where an end is short, and of lines that are not fit
-fn not_passed() -> Pass
-    ensures { λ r. ⌜ r ≡ notPassed ⌝ }
-{
-    Pass {
-        short: true,
-        start: 0,
-    }
 }
 
 // R9, R10: each line at its first end, where what remains of it falls due, in arrays of their own; and the soonest of these ends, or `last`.
@@ -143,7 +140,7 @@ fn take_ends<'a>(
     }
 }
 
-// R30, R14: the ends before the last one in time order, each tick once, with the demand carried along.
+// R30, R103, R14: the ends before the last one in time order, each tick once, with the demand carried along. The first short one ends it.
 fn in_order<'a>(
     next: &mut [u32],
     owed: &mut [u32],
@@ -163,17 +160,18 @@ fn in_order<'a>(
     while d < last {
         let taken = take_ends(next, owed, needs, gaps, d, last);
         sum = sum + taken.added;
-        if !passes(sum, d) {
-            return not_passed();
+        let x = excess_at(sum, d);
+        if x > 0 {
+            return Pass::Short(FirstExcess {
+                after: d,
+                excess: x as u32,
+            });
         }
         let b = bound_at(new.need, new.period, last, d, d - sum);
         start = greater(start, b);
         d = taken.soonest;
     }
-    Pass {
-        short: false,
-        start: start,
-    }
+    Pass::Start(start)
 }
 
 // R30, R14: the pass over lines that are fit.
@@ -200,7 +198,7 @@ fn pass_all<'a>(
     in_order(&mut next, &mut owed, needs, gaps, new, first)
 }
 
-// R30, R14: the pass over the ends. Slices that differ in length, lines that are not fit, and a need of 0, count as short at the clock.
+// R30, R14: the pass over the ends. Slices that differ in length, lines that are not fit, and a need of 0, are `Unfit`.
 pub fn over_ends<'a>(
     ends: &'a [u32],
     remaining: &'a [u32],
@@ -212,10 +210,10 @@ pub fn over_ends<'a>(
     ensures { λ r. ⌜ r ≡ passedIn (now (ends .entry)) (now (remaining .entry)) (now (needs .entry)) (now (gaps .entry)) need period ⌝ }
 {
     if !sums::fits(ends, remaining, needs, gaps) {
-        return not_passed();
+        return Pass::Unfit;
     }
     if need < 1 {
-        return not_passed();
+        return Pass::Unfit;
     }
     pass_all(ends, remaining, needs, gaps, need, period)
 }

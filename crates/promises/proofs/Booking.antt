@@ -129,22 +129,22 @@ booked-admitted t q r g b = record {
       ap (λ (l : List ℕ). getD l k 0) same
       ∙ elim (ℕ-discrete k j) [
         | yes z ↦ ap (hadBy t) z ∙ zero-there
-        | no n ↦ b .spare k (rw (length-admitted t q r) at h) (sym (nothing-admitted t q r j k (g .lowest-empty) n) ∙ e)
+        | no n ↦ b .spare k (rw (length-admitted t q r) at h) (sym (nothing-admitted t q r j k (g .cleared .lowest-empty) n) ∙ e)
       ];
   all = ap (λ (l : List ℕ). sum l + t .idle + t .departed) same ∙ b .all;
 }
   where
     j : ℕ
-    j = g .slot
+    j = g .cleared .slot
 
     zero-there : hadBy t j ≡ 0
     zero-there =
-        let w = lowest-is (λ i. isNothing (at (t .slots) i)) (length (t .slots)) (g .lowest-empty) in
+        let w = lowest-is (λ i. isNothing (at (t .slots) i)) (length (t .slots)) (g .cleared .lowest-empty) in
         b .spare j (w .inside) (w .here)
 
     same : admittedAt t q r .had ≡ t .had
     same =
-        ap (λ (o : Option ℕ). putAt o 0 (t .had)) (g .lowest-empty) ∙ ap (set (t .had) j) (sym zero-there) ∙ set-getD (t .had) j 0
+        ap (λ (o : Option ℕ). putAt o 0 (t .had)) (g .cleared .lowest-empty) ∙ ap (set (t .had) j) (sym zero-there) ∙ set-getD (t .had) j 0
 
 -- R97, R101: a tick is counted once, for a slot that holds a line or as idle, and who departs takes his count with him
 booked-ticked : (t : Table) → Booked t → Booked (ticked (choose (t .slots)) t .table)

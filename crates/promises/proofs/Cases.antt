@@ -9,7 +9,7 @@ use Rattle.line.specs.Slots.{total, mapAt, lowest}
 use Rattle.line.specs.Streams.{due, every, endsBefore}
 use Rattle.line.specs.Demand.{lastEnd}
 use Rattle.line.specs.Shares.{periodsIn}
-use Rattle.line.specs.Ends.{endsOf, slack, bound, greatest, anyOf, start}
+use Rattle.line.specs.Ends.{endsOf, slack, bound, greatest, soonestOf, firstShort, start}
 use Rattle.table.specs.declared.Table.{Table}
 use Rattle.table.specs.declared.Request.{Request}
 use Rattle.table.specs.Words.{requestWith, emptyTable, refusal}
@@ -124,13 +124,13 @@ imageCases =
 
 -- R78: the bytes after the acts over the boundary
 pub image-cases : map (λ (c : ImageCase). imageRun (c .acts) (imageOf (c .before))) imageCases ≡ map (λ (c : ImageCase). c .image) imageCases
-unfolding euclid gcdOf lcmOf frameFrom total lowest due lastEnd mapAt periodsIn every endsBefore endsOf slack bound greatest anyOf start askIn askOf chosen settling advance stepOf leaveOf imageOf blankFrom slotsWrong lengthWrong wrongIn heldIn loadWith storeOf
+unfolding euclid gcdOf lcmOf frameFrom total lowest due lastEnd mapAt periodsIn every endsBefore endsOf slack bound greatest soonestOf firstShort start askIn askOf chosen settling advance stepOf leaveOf imageOf blankFrom slotsWrong lengthWrong wrongIn heldIn loadWith storeOf
 image-cases = refl
 
 -- R78: they are the image of the table after the same acts
 pub table-cases : (map (λ (c : ImageCase). run (c .acts) (c .before)) imageCases ≡ map (λ (c : ImageCase). c .after) imageCases)
     × (map (λ (c : ImageCase). imageOf (c .after)) imageCases ≡ map (λ (c : ImageCase). c .image) imageCases)
-unfolding euclid gcdOf lcmOf frameFrom total lowest due lastEnd mapAt periodsIn every endsBefore endsOf slack bound greatest anyOf start askIn askOf chosen settling advance stepOf leaveOf imageOf
+unfolding euclid gcdOf lcmOf frameFrom total lowest due lastEnd mapAt periodsIn every endsBefore endsOf slack bound greatest soonestOf firstShort start askIn askOf chosen settling advance stepOf leaveOf imageOf
 table-cases = (refl, refl)
 
 -- ---- answers
@@ -149,7 +149,7 @@ pub answer-cases :
     ∷ stepAfter [] ∷ stepAfter one ∷ stepAfter (two ++ (third ∷ [])) ∷ stepAfter (one ++ (stepping ∷ stepping ∷ [])) ∷ [])
     ≡ (grantedAs 0 0 ∷ grantedAs 1 0 ∷ refusedAs (refusal 8 0) ∷ refusedAs (refusal 5 0)
     ∷ grantedAs 0 255 ∷ grantedAs 0 0 ∷ grantedAs 0 1 ∷ grantedAs 0 255 ∷ [])
-unfolding euclid gcdOf lcmOf frameFrom total lowest due lastEnd mapAt periodsIn every endsBefore endsOf slack bound greatest anyOf start askIn askOf chosen settling advance stepOf leaveOf imageOf blankFrom slotsWrong lengthWrong wrongIn heldIn loadWith storeOf
+unfolding euclid gcdOf lcmOf frameFrom total lowest due lastEnd mapAt periodsIn every endsBefore endsOf slack bound greatest soonestOf firstShort start askIn askOf chosen settling advance stepOf leaveOf imageOf blankFrom slotsWrong lengthWrong wrongIn heldIn loadWith storeOf
 answer-cases = refl
 
 -- R74, R35: the last tick that a step goes on from, and the one after it
@@ -204,5 +204,5 @@ tooWide = admitting (new [] 1 65536) ∷ stepping ∷ []
 
 -- R78: where a number is wider the bytes are not the image of the run's table: its period is lost and the step is refused
 pub wider-is-lost : imageRun tooWide (imageOf emptyTable) ≡ imageOf (run tooWide emptyTable) → ⊥
-unfolding euclid gcdOf lcmOf frameFrom total lowest due lastEnd mapAt periodsIn every endsBefore endsOf slack bound greatest anyOf start askIn askOf chosen settling advance stepOf leaveOf imageOf blankFrom slotsWrong lengthWrong wrongIn heldIn loadWith storeOf
+unfolding euclid gcdOf lcmOf frameFrom total lowest due lastEnd mapAt periodsIn every endsBefore endsOf slack bound greatest soonestOf firstShort start askIn askOf chosen settling advance stepOf leaveOf imageOf blankFrom slotsWrong lengthWrong wrongIn heldIn loadWith storeOf
 wider-is-lost e = let z : _≡_ {A = ℕ} 0 1 = ap (λ (l : List ℕ). getD l 1 0) e in omega arith

@@ -212,7 +212,7 @@ nothing-unplaced (admitting q) t k g n e = go (askOf t q) refl n
   where
     go : (a : Answer) → askOf t q ≡ a → names k (placedBy a t) ≡ false → isNothing (at (admitWith t q a .table .slots) k) ≡ true
     go (Start r) f m =
-        let w = granted t q r f in
+        let w = granted t q r f .cleared in
         let d : eqb (w .slot) k ≡ false = sym (ap (names k) (w .lowest-empty)) ∙ m in
         nothing-admitted t q r (w .slot) k (w .lowest-empty) (λ z. eqb-false (w .slot) k d (sym z)) ∙ e
     go (Refused x) f m = e

@@ -84,7 +84,7 @@ rewrites-as-twin card d l r m b e h w =
 
 -- R32, R57: the reader's refusal is 11
 pub read-refuses-broken : ReadRefusesBroken
-read-refuses-broken card x e = subst Refuses e (read-refuses 16 card)
+read-refuses-broken card x e = ap (λ (r : Refusal). r .number) (subst Refuses e (read-refuses 16 card))
 
 -- R82: a stored table loads back
 pub stored-loads-back : StoredLoadsBack

@@ -53,7 +53,7 @@ pub starts-by-last-end : StartsByLastEnd
 starts-by-last-end acts q r k a =
     let t = run acts emptyTable in
     let g = granted t q r (says-start (askOf t q) r (a .granted)) in
-    (g .least .smooth .from-clock, least-by-last _ (t .clock) _ (q .need) (q .period) r (g .given) (g .alone) (g .least))
+    (g .least .smooth .from-clock, least-by-last _ (t .clock) _ (q .need) (q .period) r (g .cleared .given) (g .alone) (g .least))
 
 -- the admitted table, slot k in it, and that it is good
 module _ (acts : List Act) (q : Request) (r k : ℕ) (a : Admission acts q r k) where
@@ -85,7 +85,7 @@ has-all-its-need acts q r k a more v u h =
     let g = granted (run acts emptyTable) q r (says-start (askOf (run acts emptyTable) q) r (a .granted)) in
     let z : r + q .period ≡ admitted-table acts q .clock + (r - run acts emptyTable .clock) + q .period = omega (arith, starts acts q r k a) in
     gets-need more (admitted-table acts q) k (q .need) (q .period) (r - run acts emptyTable .clock) (good acts q r k a) (inside acts q r k a)
-    (omega (arith, g .given .new-some, g .given .new-fits)) (stands acts q r k a) (rw (starts acts q r k a) v) (rw z at u) (rw z at h)
+    (omega (arith, g .cleared .given .new-some, g .cleared .given .new-fits)) (stands acts q r k a) (rw (starts acts q r k a) v) (rw z at u) (rw z at h)
 
 -- R77: at any earlier start some period ends short before the last end
 pub no-earlier-start : NoEarlierStart

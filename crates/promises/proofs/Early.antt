@@ -33,6 +33,7 @@ use Rattle.theory.proofs.Numbers.{split}
 use Rattle.theory.proofs.Tail.{last-within, no-excess-from-last-end}
 use Rattle.theory.proofs.Granted.{says-start, granted}
 use Rattle.line.proofs.Stretched.{length-stretched, at-stretched}
+use Rattle.line.proofs.Excess.{within-excess}
 use Rattle.theory.proofs.Pump.{sound-serve, sound-pass, earliest-may, demands-now, excess-kept}
 use Rattle.theory.proofs.Step.{short-none, sound-faultless, choose-earliest, advanced}
 use Rattle.theory.proofs.Admitted.{admitted-demands, admitted-sound}
@@ -116,7 +117,8 @@ end-near t0 p Nothing b n = omega arith
 end-near t0 p (Running r) b n = omega arith
 end-near t0 p (Waiting w) b n = absurd (n refl)
 
-last-near : (t : Table) (q : Request) → Sixteen q → Each (λ h. Waits h → ⊥) (t .slots) → lastEnd (t .clock) (asked t q) < t .clock + 2 ^ 16
+-- R15: so is the last end
+pub last-near : (t : Table) (q : Request) → Sixteen q → Each (λ h. Waits h → ⊥) (t .slots) → lastEnd (t .clock) (asked t q) < t .clock + 2 ^ 16
 last-near t q six n =
     last-within (t .clock) (2 ^ 16) (asked t q) (omega arith)
     (λ i b. let c : i < length (t .slots) = rw (← length-stretched (t .slots) (entry q)) b in
@@ -134,9 +136,10 @@ early-excess t q r r' g late less =
     (λ a. let s : Smooth t0 l (newDemand (q .need) (q .period)) r' = record {
       from-clock = late;
       no-excess = λ x h.
-          split last x
-          (λ b. omega (arith, no-excess-from-last-end (frame l (q .period)) t0 l (q .need) (q .period) r' (g .given) late x b))
-          (λ b. let z : t0 + (x - t0) ≡ x = omega arith in omega (arith, rw z at (a (x - t0) (omega arith))));
+          within-excess _ (x - t0)
+          (split last x
+          (λ b. omega (arith, no-excess-from-last-end (frame l (q .period)) t0 l (q .need) (q .period) r' (g .cleared .given) late x b))
+          (λ b. let z : t0 + (x - t0) ≡ x = omega arith in omega (arith, rw z at (a (x - t0) (omega arith)))));
     } in
     absurd (omega (arith, g .least .least r' s)))
     (λ w. (w .0, omega (arith, w .1), w .2))
@@ -147,15 +150,15 @@ pub no-earlier : (t : Table) (q : Request) (r r' : ℕ) → Sixteen q → says (
     → Misses (admittedAt t q r') (lastEnd (t .clock) (asked t q))
 no-earlier t q r r' six e late less =
     let g = granted t q r (says-start (askOf t q) r e) in
-    let d = g .given in
-    let k = slot-empty t q (g .slot) (g .lowest-empty) in
+    let d = g .cleared .given in
+    let k = slot-empty t q (g .cleared .slot) (g .cleared .lowest-empty) in
     let w = early-excess t q r r' g late less in
     let l = asked t q in
-    let s = admitted-slots t q r' (g .slot) (g .lowest-empty) in
-    let same = admitted-demands (t .clock) l (g .slot) (q .need) (q .period) r' (t .clock + w .0) (k .2) (k .3)
+    let s = admitted-slots t q r' (g .cleared .slot) (g .cleared .lowest-empty) in
+    let same = admitted-demands (t .clock) l (g .cleared .slot) (q .need) (q .period) r' (t .clock + w .0) (k .2) (k .3)
     (omega (arith, d .new-some, d .new-fits)) late in
     runs-short (w .0) (lastEnd (t .clock) l) (admittedAt t q r')
-    (rw s (admitted-sound l (g .slot) (q .need) (q .period) (r' - t .clock) (d .sound) (d .new-some) (d .new-fits)))
-    (omega (arith, g .within, put-within (lowestOf isNothing (t .slots)) (t .had)))
-    (w .1) (omega (arith, last-near t q six (g .none-waits), g .early))
+    (rw s (admitted-sound l (g .cleared .slot) (q .need) (q .period) (r' - t .clock) (d .sound) (d .new-some) (d .new-fits)))
+    (omega (arith, g .cleared .within, put-within (lowestOf isNothing (t .slots)) (t .had)))
+    (w .1) (omega (arith, last-near t q six (g .cleared .none-waits), g .cleared .early))
     (rw s (omega (arith, same, w .2)))

@@ -13,7 +13,7 @@ use Rattle.line.specs.Slots.{total, mapAt, lowest}
 use Rattle.line.specs.Streams.{due, every, endsBefore}
 use Rattle.line.specs.Demand.{lastEnd}
 use Rattle.line.specs.Shares.{periodsIn}
-use Rattle.line.specs.Ends.{endsOf, slack, bound, greatest, anyOf, start}
+use Rattle.line.specs.Ends.{endsOf, slack, bound, greatest, soonestOf, firstShort, start}
 use Rattle.line.proofs.Search.{true-false}
 use Rattle.table.specs.Words.{requestWith, emptyTable}
 use Rattle.table.specs.Ask.{askIn, askOf}
@@ -22,6 +22,7 @@ use Rattle.table.specs.Step.{chosen, advance, stepOf}
 use Rattle.table.specs.Leave.{leaveOf}
 use Rattle.table.specs.Runs.{Act, asking, admitting, stepping, leaving, run, trace, times, idles, since}
 use Rattle.table.specs.Cases.{running, tableOf, caseA}
+use Rattle.promises.specs.Demand1.{OnlyTen}
 use Rattle.promises.specs.Demand3.{admitted-table, Unstretched, Unremoved, Misses, Sixteen}
 use Rattle.promises.specs.Counted.{Unplaced, Occupied}
 use Rattle.promises.specs.Example.{toCaseA, onFromCaseA}
@@ -58,7 +59,7 @@ stretch-at-the-tick = ((λ h s. omega arith), tt)
 
 -- R76: it is before 6
 pub stretch-before-the-tick : Unstretched 0 6 (admitting (toPeriod 8) ∷ []) oneLine → ⊥
-unfolding euclid gcdOf lcmOf frameFrom total lowest due lastEnd mapAt periodsIn every endsBefore endsOf slack bound greatest anyOf start askIn askOf
+unfolding euclid gcdOf lcmOf frameFrom total lowest due lastEnd mapAt periodsIn every endsBefore endsOf slack bound greatest soonestOf firstShort start askIn askOf
 stretch-before-the-tick u = u .0 (omega arith) ((5, refl), omega arith)
 
 -- R76: an equal period is no stretch, nor is a longer one that is only asked for
@@ -73,7 +74,7 @@ twoLines = admitting (requestWith (replicate 16 0) 1 2) ∷ stepping ∷ steppin
 
 -- R76: in case A slot 2 waits five ticks, and of the four ticks from its start on it gets one
 pub trace-A : trace onFromCaseA (admitted-table toCaseA (caseA .request)) ≡ replicate 8 (some 1) ++ (some 2 ∷ [])
-unfolding euclid gcdOf lcmOf frameFrom total lowest due lastEnd mapAt periodsIn every endsBefore endsOf slack bound greatest anyOf start askIn askOf chosen settling advance stepOf
+unfolding euclid gcdOf lcmOf frameFrom total lowest due lastEnd mapAt periodsIn every endsBefore endsOf slack bound greatest soonestOf firstShort start askIn askOf chosen settling advance stepOf
 trace-A = refl
 
 -- R73, R76: a tick that goes to nobody names no slot, and a refused step is no tick
@@ -84,19 +85,19 @@ times-edges = (refl, refl, refl)
 
 -- R79: what ran before an admission counts for the slots that were there, and not for the new line's, nor for a slot that holds none
 pub since-edges : (since 1 twoLines ≡ some 0 ∷ some 1 ∷ []) × (since 0 twoLines ≡ some 0 ∷ none ∷ some 0 ∷ some 1 ∷ []) × (since 2 twoLines ≡ [])
-unfolding euclid gcdOf lcmOf frameFrom total lowest due lastEnd mapAt periodsIn every endsBefore endsOf slack bound greatest anyOf start askIn askOf chosen settling advance stepOf
+unfolding euclid gcdOf lcmOf frameFrom total lowest due lastEnd mapAt periodsIn every endsBefore endsOf slack bound greatest soonestOf firstShort start askIn askOf chosen settling advance stepOf
 since-edges = (refl, refl, refl)
 
 -- R79: who has had what then, and how many ticks were idle
 pub had-edges : (run twoLines emptyTable .had ≡ 2 ∷ 1 ∷ replicate 14 0) × (run twoLines emptyTable .idle ≡ 1) × (run twoLines emptyTable .clock ≡ 4)
     × (idles (some 1 ∷ none ∷ some 2 ∷ none ∷ none ∷ []) ≡ 3)
-unfolding euclid gcdOf lcmOf frameFrom total lowest due lastEnd mapAt periodsIn every endsBefore endsOf slack bound greatest anyOf start askIn askOf chosen settling advance stepOf
+unfolding euclid gcdOf lcmOf frameFrom total lowest due lastEnd mapAt periodsIn every endsBefore endsOf slack bound greatest soonestOf firstShort start askIn askOf chosen settling advance stepOf
 had-edges = (refl, refl, refl, refl)
 
 -- R79: the admission puts a line into slot 2 and into no other; an ask that is granted and a refused admission put none
 pub placed-edges : (Unplaced 2 (admitting (caseA .request) ∷ []) (caseA .table) → ⊥) × Unplaced 1 (admitting (caseA .request) ∷ []) (caseA .table)
     × Unplaced 2 (asking (caseA .request) ∷ admitting (requestWith (replicate 16 0) 1 4) ∷ []) (caseA .table)
-unfolding euclid gcdOf lcmOf frameFrom total lowest due lastEnd mapAt periodsIn every endsBefore endsOf slack bound greatest anyOf start askIn askOf chosen settling advance stepOf
+unfolding euclid gcdOf lcmOf frameFrom total lowest due lastEnd mapAt periodsIn every endsBefore endsOf slack bound greatest soonestOf firstShort start askIn askOf chosen settling advance stepOf
 placed-edges = ((λ u. true-false refl (u .0)), (refl, tt), (refl, (refl, tt)))
 
 -- nine ticks, and then at 17, when slot 2 has had its period, it is stretched
@@ -104,7 +105,7 @@ abbrev stretchedAfter : List Act
 stretchedAfter = onFromCaseA ++ (admitting (requestWith (replicate 16 32) 1 32) ∷ [])
 
 stretched-in-time : Unstretched 2 (13 + 4) stretchedAfter (admitted-table toCaseA (caseA .request))
-unfolding euclid gcdOf lcmOf frameFrom total lowest due lastEnd mapAt periodsIn every endsBefore endsOf slack bound greatest anyOf start askIn askOf chosen settling advance stepOf
+unfolding euclid gcdOf lcmOf frameFrom total lowest due lastEnd mapAt periodsIn every endsBefore endsOf slack bound greatest soonestOf firstShort start askIn askOf chosen settling advance stepOf
 stretched-in-time =
     ((λ h s. s), ((λ h s. s), ((λ h s. s), ((λ h s. s), ((λ h s. s), ((λ h s. s), ((λ h s. s), ((λ h s. s), ((λ h s. s), ((λ h s. omega arith), tt))))))))))
 
@@ -113,12 +114,12 @@ stretched-unremoved =
     ((λ h s. s), ((λ h s. s), ((λ h s. s), ((λ h s. s), ((λ h s. s), ((λ h s. s), ((λ h s. s), ((λ h s. s), ((λ h s. s), ((λ h s. s), tt))))))))))
 
 stretched-late : 13 + 4 ≤ run stretchedAfter (admitted-table toCaseA (caseA .request)) .clock
-unfolding euclid gcdOf lcmOf frameFrom total lowest due lastEnd mapAt periodsIn every endsBefore endsOf slack bound greatest anyOf start askIn askOf chosen settling advance stepOf
+unfolding euclid gcdOf lcmOf frameFrom total lowest due lastEnd mapAt periodsIn every endsBefore endsOf slack bound greatest soonestOf firstShort start askIn askOf chosen settling advance stepOf
 stretched-late = omega arith
 
 -- R76: a stretch at one period after the start comes too late to matter
 pub need-before-the-stretch : times 2 (take 4 (drop 5 (trace stretchedAfter (admitted-table toCaseA (caseA .request))))) ≡ 1
-unfolding euclid gcdOf lcmOf frameFrom total lowest due lastEnd mapAt periodsIn every endsBefore endsOf slack bound greatest anyOf start askIn askOf chosen settling advance stepOf
+unfolding euclid gcdOf lcmOf frameFrom total lowest due lastEnd mapAt periodsIn every endsBefore endsOf slack bound greatest soonestOf firstShort start askIn askOf chosen settling advance stepOf
 need-before-the-stretch = has-all-its-need toCaseA (caseA .request) 13 2 case-A-admitted stretchedAfter stretched-unremoved stretched-in-time stretched-late
 
 -- ---- lines that leave
@@ -132,12 +133,12 @@ pub departed-edges : (map (λ (n : ℕ). times 0 (since 0 (take n leavesAndComes
     × (map (λ (n : ℕ). run (take n leavesAndComes) emptyTable .departed) (3 ∷ 4 ∷ 6 ∷ []) ≡ 0 ∷ 1 ∷ 1 ∷ [])
     × (run leavesAndComes emptyTable .had ≡ 1 ∷ replicate 15 0) × (run leavesAndComes emptyTable .idle ≡ 1) × (run leavesAndComes emptyTable .clock ≡ 3)
     × (trace leavesAndComes emptyTable ≡ some 0 ∷ none ∷ some 0 ∷ [])
-unfolding euclid gcdOf lcmOf frameFrom total lowest due lastEnd mapAt periodsIn every endsBefore endsOf slack bound greatest anyOf start askIn askOf chosen settling advance stepOf leaveOf
+unfolding euclid gcdOf lcmOf frameFrom total lowest due lastEnd mapAt periodsIn every endsBefore endsOf slack bound greatest soonestOf firstShort start askIn askOf chosen settling advance stepOf leaveOf
 departed-edges = (refl, refl, refl, refl, refl, refl)
 
 -- R79: up to its end the line is there, and after it not
 pub occupied-edges : Occupied 0 (take 3 leavesAndComes) emptyTable × (Occupied 0 (take 4 leavesAndComes) emptyTable → ⊥)
-unfolding euclid gcdOf lcmOf frameFrom total lowest due lastEnd mapAt periodsIn every endsBefore endsOf slack bound greatest anyOf start askIn askOf chosen settling advance stepOf leaveOf
+unfolding euclid gcdOf lcmOf frameFrom total lowest due lastEnd mapAt periodsIn every endsBefore endsOf slack bound greatest soonestOf firstShort start askIn askOf chosen settling advance stepOf leaveOf
 occupied-edges = ((refl, (refl, (refl, tt))), λ u. true-false refl (u .1 .1 .1 .0))
 
 -- R75: at 8 slot 2 waits to 13: to ask it to leave removes it, before 9 and not before 8; to ask slot 1, which runs, or to ask slot 2 for another does not
@@ -146,7 +147,7 @@ pub removed-edges :
     × Unremoved 2 8 (leaving 2 ∷ []) (admitted-table toCaseA (caseA .request))
     × Unremoved 1 9 (leaving 1 ∷ []) (admitted-table toCaseA (caseA .request))
     × Unremoved 2 9 (leaving 1 ∷ []) (admitted-table toCaseA (caseA .request))
-unfolding euclid gcdOf lcmOf frameFrom total lowest due lastEnd mapAt periodsIn every endsBefore endsOf slack bound greatest anyOf start askIn askOf chosen settling advance stepOf
+unfolding euclid gcdOf lcmOf frameFrom total lowest due lastEnd mapAt periodsIn every endsBefore endsOf slack bound greatest soonestOf firstShort start askIn askOf chosen settling advance stepOf
 removed-edges = ((λ u. u .0 (omega arith) (refl, refl)), ((λ h. omega arith), tt), ((λ h s. true-false (s .1) refl), tt), ((λ h s. omega (arith, s .0)), tt))
 
 -- ---- sixteen bits
@@ -161,3 +162,23 @@ sixteen-edges = (low, λ s. omega (arith, s 0))
     low : Sixteen (withFirst 65535)
     low zero = omega arith
     low (suc i) = omega arith
+
+-- ---- who says a tick and an excess
+
+-- R103: with 10 an excess of 1 and of 0; with 9, and with 0, nothing, a tick alone and an excess alone
+pub only-ten-edges : OnlyTen 10 3 1
+    × (OnlyTen 10 3 0 → ⊥)
+    × OnlyTen 9 0 0
+    × (OnlyTen 9 3 0 → ⊥)
+    × (OnlyTen 9 0 1 → ⊥)
+    × OnlyTen 0 0 0
+    × (OnlyTen 0 0 1 → ⊥)
+only-ten-edges = (
+  record { ten = λ e. omega arith; others = λ h. absurd (h refl) },
+  (λ h. omega (arith, h .ten refl)),
+  record { ten = λ e. absurd (omega arith); others = λ h. (refl, refl) },
+  (λ h. omega (arith, h .others (λ e. omega arith) .0)),
+  (λ h. omega (arith, h .others (λ e. omega arith) .1)),
+  record { ten = λ e. absurd (omega arith); others = λ h. (refl, refl) },
+  (λ h. omega (arith, h .others (λ e. omega arith) .1)),
+)

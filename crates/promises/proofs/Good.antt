@@ -64,16 +64,16 @@ admitted-slots t q r k e = ap (λ (o : Option ℕ). putAt o (holding (newLine (q
 -- R42: a granted request makes a good table
 pub good-admitted : (t : Table) (q : Request) (r : ℕ) → Granted t q r → Good (admittedAt t q r)
 good-admitted t q r g =
-    let e = slot-empty t q (g .slot) (g .lowest-empty) in
-    let d = g .given in
+    let e = slot-empty t q (g .cleared .slot) (g .cleared .lowest-empty) in
+    let d = g .cleared .given in
     record {
       multiple = frame (asked t q) (q .period);
-      fine = subst (Fine (frame (asked t q) (q .period)) (t .clock)) (sym (admitted-slots t q r (g .slot) (g .lowest-empty)))
-          (admitted-fine (frame (asked t q) (q .period)) (t .clock) (asked t q) (g .slot) (q .need) (q .period) r (d .sound)
+      fine = subst (Fine (frame (asked t q) (q .period)) (t .clock)) (sym (admitted-slots t q r (g .cleared .slot) (g .cleared .lowest-empty)))
+          (admitted-fine (frame (asked t q) (q .period)) (t .clock) (asked t q) (g .cleared .slot) (q .need) (q .period) r (d .sound)
           (d .some-frame) (d .divides) (d .new-divides) (d .eight) (d .new-some) (d .new-fits)
           (e .2) (e .3) (g .least .smooth));
-      within = omega (arith, g .within, put-within (lowestOf isNothing (t .slots)) (t .had));
-      clock-in = omega (arith, g .early);
+      within = omega (arith, g .cleared .within, put-within (lowestOf isNothing (t .slots)) (t .had));
+      clock-in = omega (arith, g .cleared .early);
     }
 
 -- ---- each act

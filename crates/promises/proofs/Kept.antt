@@ -86,9 +86,9 @@ admitted-new t q r k e =
 pub admitted-stands : (t : Table) (q : Request) (r j C P a x : ℕ) → Granted t q r → RunsAs C P a x (at (t .slots) j)
     → at (admittedAt t q r .slots) j ≡ stretch (entry q j) (at (t .slots) j)
 admitted-stands t q r j C P a x g e =
-    let k = g .slot in
-    ap (λ (l : List Slot). at l j) (admitted-slots t q r k (g .lowest-empty))
-    ∙ ap (λ (s : Slot). s .held) (getD-set-other (asked t q) k j (holding (newLine (q .need) (q .period) (r - t .clock))) empty (other k (slot-empty t q k (g .lowest-empty) .1)))
+    let k = g .cleared .slot in
+    ap (λ (l : List Slot). at l j) (admitted-slots t q r k (g .cleared .lowest-empty))
+    ∙ ap (λ (s : Slot). s .held) (getD-set-other (asked t q) k j (holding (newLine (q .need) (q .period) (r - t .clock))) empty (other k (slot-empty t q k (g .cleared .lowest-empty) .1)))
     ∙ at-stretched (t .slots) (entry q) j
   where
     other : (k : ℕ) → at (t .slots) k ≡ Nothing → j ≡ k → ⊥
@@ -109,7 +109,7 @@ admit-running t q j C P a x e b = go (askOf t q) refl
         → (T : ℕ) × RunsAs C T a x (at (admitWith t q d .table .slots) j) × (P ≤ T) × ((Stretches j (admitting q) t → ⊥) → T ≡ P)
     go (Start r) h =
         let g = granted t q r h in
-        let up : P ≤ entry q j = omega (arith, not-barred (entry q j) (e .0) (λ v. g .unbarred j b (rw (e .1) v)), e .3) in (
+        let up : P ≤ entry q j = omega (arith, not-barred (entry q j) (e .0) (λ v. g .cleared .unbarred j b (rw (e .1) v)), e .3) in (
           entry q j,
           admitted-old t q r j C P a x g e,
           up,
@@ -127,7 +127,7 @@ pub admit-waiting : (t : Table) (q : Request) (j C P w : ℕ) → at (t .slots) 
 admit-waiting t q j C P w e b = go (askOf t q) refl
   where
     go : (b : Answer) → askOf t q ≡ b → admitWith t q b .table ≡ t
-    go (Start r) h = absurd (granted t q r h .none-waits j b (rw (e, lt-ltb 0 (suc w) (omega arith)) refl))
+    go (Start r) h = absurd (granted t q r h .cleared .none-waits j b (rw (e, lt-ltb 0 (suc w) (omega arith)) refl))
     go (Refused y) h = refl
 
 -- ---- a leave

@@ -4,6 +4,7 @@ pub mod Kept
 pub mod Gets
 pub mod Parting
 pub mod Early
+pub mod Late
 pub mod Booking
 pub mod Counted
 pub mod Numbered
@@ -16,5 +17,6 @@ pub mod Images
 pub mod Witnesses
 pub mod Example
 pub mod Excluded
+pub mod ExcludedLate
 pub mod Edges
 pub mod Cases

@@ -94,7 +94,7 @@ parting-barred p (Waiting w) e l = l
 parting-unstretched : (a : Act) (t : Table) (k : ℕ) → k < length (t .slots) → isParting (at (t .slots) k) ≡ true → Stretches k a t → ⊥
 parting-unstretched (asking q) t k b e s = s
 parting-unstretched (admitting q) t k b e s =
-    granted t q (s .0 .0) (says-start (askOf t q) (s .0 .0) (s .0 .1)) .unbarred k b (parting-barred (entry q k) (at (t .slots) k) e (s .1))
+    granted t q (s .0 .0) (says-start (askOf t q) (s .0 .0) (s .0 .1)) .cleared .unbarred k b (parting-barred (entry q k) (at (t .slots) k) e (s .1))
 parting-unstretched stepping t k b e s = s
 parting-unstretched (leaving n) t k b e s = s
 

@@ -171,7 +171,7 @@ last-near t0 l n = last-within t0 65536 l (omega arith) (λ i b. end-near t0 (at
 wait-near : (t : Table) (q : Request) (r : ℕ) → AllNarrow (asked t q) → askOf t q ≡ Start r → r - t .clock < 65536
 wait-near t q r n e =
     let g = granted t q r e in
-    omega (arith, least-by-last _ (t .clock) _ (q .need) (q .period) r (g .given) (g .alone) (g .least), last-near (t .clock) (asked t q) n)
+    omega (arith, least-by-last _ (t .clock) _ (q .need) (q .period) r (g .cleared .given) (g .alone) (g .least), last-near (t .clock) (asked t q) n)
 
 narrow-admitted : (t : Table) (q : Request) → NarrowRequest q → AllNarrow (t .slots) → AllNarrow (after (admitting q) t .slots)
 narrow-admitted t q f n = go (askOf t q) refl

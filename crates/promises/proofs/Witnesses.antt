@@ -8,7 +8,7 @@ use Rattle.line.specs.Streams.{due, every, endsBefore}
 use Rattle.line.specs.Demand.{lastEnd}
 use Rattle.line.specs.Shares.{periodsIn}
 use Rattle.table.specs.Ask.{says, askIn, askOf}
-use Rattle.line.specs.Ends.{endsOf, slack, bound, greatest, anyOf, start}
+use Rattle.line.specs.Ends.{endsOf, slack, bound, greatest, soonestOf, firstShort, start}
 use Rattle.table.specs.Counts.{settling}
 use Rattle.table.specs.Step.{saysRan, chosen, advance, stepOf}
 use Rattle.table.specs.Leave.{saysLeaving, leaveOf}
@@ -21,7 +21,7 @@ use Rattle.promises.specs.Witnesses.{askMeets, Meets, stepMeets, NoLeave
 
 -- R20, R21 to R30
 pub ask-meets : map (λ (c : Case). says (askOf (c .table) (c .request))) askMeets ≡ map (λ (c : Case). c .answer) askMeets
-unfolding euclid gcdOf lcmOf frameFrom total lowest due lastEnd mapAt periodsIn every endsBefore endsOf slack bound greatest anyOf start askIn askOf askMeets
+unfolding euclid gcdOf lcmOf frameFrom total lowest due lastEnd mapAt periodsIn every endsBefore endsOf slack bound greatest soonestOf firstShort start askIn askOf askMeets
 ask-meets = refl
 
 -- R20, R24, R34, R35

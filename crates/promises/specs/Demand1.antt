@@ -2,7 +2,7 @@
 use mathlib.Core.Path.{_≡_}
 use mathlib.Core.List.{List}
 use mathlib.Core.Option.{Option, none}
-use Prim.Native.Nat.{ℕ}
+use Prim.Native.Nat.{ℕ, _≤_}
 use lib.ListN.{length}
 use Rattle.table.specs.declared.Table.{Table}
 use Rattle.table.specs.declared.Request.{Request}
@@ -131,3 +131,30 @@ pub record ToldApart : Type 0 where
       → (n : ℕ) × (writeCardFor (loadOf l) q (length out) ≡ gives n)
   pub read-image : (card l ns : List ℕ) (r : Result) (m n : List ℕ) → ReadsImage card l ns r m n → r .number ≡ 0
       → (k : ℕ) × (readCardFor (readOf card) (length l) ≡ gives k)
+
+-- ---- who says a tick and an excess
+
+-- R103: a number, a tick and an excess: with 10 the excess is above 0, and with any other number, 0 too, both are 0
+pub record OnlyTen (number tick excess : ℕ) : Type 0 where
+  pub ten : number ≡ 10 → 1 ≤ excess
+  pub others : (number ≡ 10 → ⊥) → (tick ≡ 0) × (excess ≡ 0)
+
+-- R63, R103: those of a result
+abbrev pub TensOf : Result → Type 0
+TensOf r = OnlyTen (r .number) (r .tick) (r .excess)
+
+-- R103: operation by operation, of any result that the contract allows
+pub record TenAlone : Type 0 where
+  pub ask : (t : Table) (q : Request) (x : Refusal) → Answers t q (refuses x) → OnlyTen (x .number) (x .tick) (x .excess)
+  pub answer-card : (card l : List ℕ) (r : Result) (m : List ℕ) → AnswersCard card l r m → TensOf r
+  pub rewrite-card : (card l : List ℕ) (r : Result) (m : List ℕ) → Rewrites card l r m → TensOf r
+  pub run-card : (card : List ℕ) (ticks : ℕ) (r : Result) → RunsCard card ticks r → TensOf r
+  pub empty-image : (l : List ℕ) (r : Result) (m : List ℕ) → Empties l r m → TensOf r
+  pub ask-image : (l : List ℕ) (q : Request) (r : Result) → AsksImage l q r → TensOf r
+  pub admit-image : (l : List ℕ) (q : Request) (r : Result) (m : List ℕ) → AdmitsImage l q r m → TensOf r
+  pub step-image : (l : List ℕ) (r : Result) (m : List ℕ) → StepsImage l r m → TensOf r
+  pub leave-image : (l : List ℕ) (n : ℕ) (r : Result) (m : List ℕ) → LetsGoImage l n r m → TensOf r
+  pub ready-image : (l : List ℕ) (r : Result) → ReadiesImage l r → TensOf r
+  pub counts-image : (l ns : List ℕ) (r : Result) (m : List ℕ) → CountsImage l ns r m → TensOf r
+  pub write-image : (l : List ℕ) (q : Request) (out : List ℕ) (r : Result) (m : List ℕ) → WritesImage l q out r m → TensOf r
+  pub read-image : (card l ns : List ℕ) (r : Result) (m n : List ℕ) → ReadsImage card l ns r m n → TensOf r

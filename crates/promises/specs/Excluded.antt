@@ -1,9 +1,13 @@
 -- What meets a contract, and wrong programs that do not.
-use Prim.Native.Nat.{ℕ, _<_}
+use Prim.Native.Nat.{ℕ, _+_, _≤_, _<_}
 use mathlib.Core.Path.{_≡_}
-use mathlib.Core.List.{List}
+use mathlib.Core.Bool.{Bool}
+use mathlib.Core.List.{List, [], _∷_}
+use lib.IntN.{pos}
 use Rattle.line.specs.declared.Held.the-variants.{Nothing}
-use Rattle.line.specs.Slots.{at}
+use Rattle.line.specs.Slots.{pick, at}
+use Rattle.line.specs.Demand.{lastEnd, ticksShort}
+use Rattle.line.specs.Ends.{endsOf, excessAt, shortAt}
 use Rattle.table.specs.declared.Table.{Table}
 use Rattle.table.specs.declared.Request.{Request}
 use Rattle.table.specs.declared.Refusal.{Refusal}
@@ -11,7 +15,7 @@ use Rattle.table.specs.declared.Answer.{Answer}
 use Rattle.table.specs.declared.Stepped.{Stepped}
 use Rattle.table.specs.declared.Left.{Left}
 use Rattle.table.specs.Words.{laterWith, gives, refuses}
-use Rattle.table.specs.Grounds.{Answers}
+use Rattle.table.specs.Grounds.{asked, Answers}
 use Rattle.table.specs.Ask.{says}
 use Rattle.table.specs.Step.{stepOf}
 use Rattle.table.specs.Leave.{saysLeaving, leaveOf}
@@ -48,6 +52,35 @@ RefusesEverything f = (t : Table) (q : Request) → (x : Refusal) × (says (f t 
 -- R14, R41: it starts every line at once
 abbrev pub SaysTheClock : (Table → Request → Answer) → Type 0
 SaysTheClock f = (t : Table) (q : Request) → says (f t q) ≡ gives (t .clock)
+
+-- the first tick in the list at which the test holds, else 0
+abbrev pub firstListed : (ℕ → Bool) → List ℕ → ℕ
+firstListed test [] = 0
+firstListed test (d ∷ ds) = pick (test d) d (firstListed test ds)
+
+-- R103: refusal 10 of it says what P says of the table and the request
+abbrev pub TenOf : (Table → Request → Answer) → (Table → Request → Refusal → Type 0) → Type 0
+TenOf f P = (t : Table) (q : Request) (x : Refusal) → says (f t q) ≡ refuses x → x .number ≡ 10 → P t q x
+
+-- R103: of the short ends the first by slots, lowest first, and not by time
+abbrev pub FirstBySlot : Table → Request → Refusal → Type 0
+FirstBySlot t q x = x .tick ≡ firstListed (shortAt (t .clock) (asked t q)) (endsOf (t .clock) (lastEnd (t .clock) (asked t q)) (asked t q))
+
+-- R103: a tick with the greatest excess
+abbrev pub GreatestExcess : Table → Request → Refusal → Type 0
+GreatestExcess t q x = (d : ℕ) → t .clock ≤ d → ticksShort (excessAt (t .clock) (asked t q) d) ≤ x .excess
+
+-- R103: the tick counted from the clock
+abbrev pub FromTheClock : Table → Request → Refusal → Type 0
+FromTheClock t q x = excessAt (t .clock) (asked t q) (t .clock + x .tick) ≡ pos (x .excess)
+
+-- R103: an excess that is one too great
+abbrev pub OneTooGreat : Table → Request → Refusal → Type 0
+OneTooGreat t q x = x .excess ≡ 1 + ticksShort (excessAt (t .clock) (asked t q) (x .tick))
+
+-- R103: a refusal of another number says an excess too
+abbrev pub KeptInAnother : (Table → Request → Answer) → Type 0
+KeptInAnother f = (t : Table) (q : Request) (x : Refusal) → says (f t q) ≡ refuses x → 1 ≤ x .excess
 
 -- R45: it does nothing to the table
 abbrev pub LeavesTheTable : (Table → Stepped) → Type 0

@@ -3,6 +3,7 @@ pub mod Contracts
 pub mod Demand1
 pub mod Demand2
 pub mod Demand3
+pub mod Late
 pub mod Counted
 pub mod Images
 pub mod Witnesses

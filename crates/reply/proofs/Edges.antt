@@ -81,25 +81,48 @@ oldLine = 0x72 ∷ 0x65 ∷ 0x66 ∷ 0x75 ∷ 0x73 ∷ 0x65 ∷ 0x64 ∷ 0x20 �
 abbrev sumLine : List ℕ
 sumLine = 0x72 ∷ 0x65 ∷ 0x66 ∷ 0x75 ∷ 0x73 ∷ 0x65 ∷ 0x64 ∷ 0x20 ∷ 0x39 ∷ 0x20 ∷ 0x30 ∷ 0x0A ∷ []
 
+-- `refused 10 0 103 2`
+abbrev lateLine : List ℕ
+lateLine = 0x72 ∷ 0x65 ∷ 0x66 ∷ 0x75 ∷ 0x73 ∷ 0x65 ∷ 0x64 ∷ 0x20 ∷ 0x31 ∷ 0x30 ∷ 0x20 ∷ 0x30 ∷ 0x20 ∷ 0x31 ∷ 0x30 ∷ 0x33 ∷ 0x20 ∷ 0x32 ∷ 0x0A ∷ []
+
+-- R103: a refusal with these four numbers
+abbrev saying : (number place tick excess : ℕ) → List ℕ → LineEdge
+saying n k d x l = record { answer = Refused (record { number = n; place = k; tick = d; excess = x }); bytes = l }
+
+-- `refused 9 0 0 1` and `refused 9 0 1 0`
+abbrev sumLineWith : (tick excess : ℕ) → List ℕ
+sumLineWith d x = 0x72 ∷ 0x65 ∷ 0x66 ∷ 0x75 ∷ 0x73 ∷ 0x65 ∷ 0x64 ∷ 0x20 ∷ 0x39 ∷ 0x20 ∷ 0x30 ∷ 0x20 ∷ d ∷ 0x20 ∷ x ∷ 0x0A ∷ []
+
 -- `refused 4 15`
 abbrev slotLine : List ℕ
 slotLine = 0x72 ∷ 0x65 ∷ 0x66 ∷ 0x75 ∷ 0x73 ∷ 0x65 ∷ 0x64 ∷ 0x20 ∷ 0x34 ∷ 0x20 ∷ 0x31 ∷ 0x35 ∷ 0x0A ∷ []
 
--- R61: whole lines
+-- R61, R103: whole lines; a tick and an excess stand in them where either is not 0, whatever the number
 unfoldable pub lineEdges : List LineEdge
-lineEdges = released 0 zeroLine ∷ released 13 startLine ∷ refusedBy 12 345 oldLine ∷ refusedBy 9 0 sumLine ∷ refusedBy 4 15 slotLine ∷ []
+lineEdges =
+    released 0 zeroLine
+    ∷ released 13 startLine
+    ∷ refusedBy 12 345 oldLine
+    ∷ refusedBy 9 0 sumLine
+    ∷ refusedBy 4 15 slotLine
+    ∷ saying 10 0 103 2 lateLine
+    ∷ saying 9 0 0 0 sumLine
+    ∷ saying 9 0 0 1 (sumLineWith 0x30 0x31)
+    ∷ saying 9 0 1 0 (sumLineWith 0x31 0x30)
+    ∷ []
 
 -- R61: the line of each answer
 pub line-edges : map (λ (e : LineEdge). answerLine (says (e .answer))) lineEdges ≡ map (λ (e : LineEdge). e .bytes) lineEdges
 unfolding digitsIn digits answerLine lineEdges
 line-edges = refl
 
--- R61: the greatest numbers that an answer has are among those whose line is at most 40 bytes long
-pub widest : AnswerWidths (gives 18446744073709551615) × AnswerWidths (refuses (refusal 65535 18446744073709551615))
-widest = (omega arith, (omega arith, omega arith))
+-- R61: the greatest numbers that an answer has are among those whose line is at most 72 bytes long
+pub widest : AnswerWidths (gives 18446744073709551615)
+    × AnswerWidths (refuses (record { number = 65535; place = 18446744073709551615; tick = 18446744073709551615; excess = 4294967295 }))
+widest = (omega arith, (omega arith, omega arith, omega arith, omega arith))
 
--- R61: a line in an array of 40 bytes, and zeros after it
-pub replied-edge : Replied startLine (record { bytes = startLine ++ replicate 29 0x00; len = 11 })
+-- R61: a line in an array of 72 bytes, and zeros after it
+pub replied-edge : Replied startLine (record { bytes = startLine ++ replicate 61 0x00; len = 11 })
 replied-edge = record { within = omega arith; long = refl; first = refl; rest = refl }
 
 -- an answer, a lent buffer, what putting the answer's line into it says, and what it then holds

@@ -7,8 +7,8 @@ use mathlib.Core.Option.{none, some}
 use native.Mathlib.Numerals.{add-one}
 use native.Mathlib.Omega.{arith}
 use borrow.Author.Tests.{lt-leb, le-leb}
-use lib.ListN.{length, getD, take, drop, set, length-append, length-set, length-drop, drop-of-length-le, length-replicate, replicate-append-replicate}
-use lib.Seq.{take-all, take-length, drop-drop, drop-at, take-at}
+use lib.ListN.{length, getD, take, drop, set, length-append, length-set, length-drop, drop-of-length-le, length-replicate, replicate-append-replicate, take-append-drop}
+use lib.Seq.{length-take-le, take-all, take-length, drop-drop, drop-at, take-at}
 use Rattle.reply.specs.Line.{glyph, digits, laid, laidFrom, zeros, Replied, lengthFor, heldAfter}
 use Rattle.reply.proofs.Digits.{below-ten-or-not, digits-below, digits-more, digits-some, digits-short, length-below, length-more}
 
@@ -29,37 +29,44 @@ pub fitting : (line buffer : List ℕ) → length line ≤ length buffer → (so
 fitting line buffer h = (simp (le-leb _ _ h), simp (le-leb _ _ h))
 
 -- a line that is laid on zeros, and what is left of them
-pub replied : (line bytes : List ℕ) (len : ℕ) → len ≡ length line → len ≤ 40 → bytes ≡ laid line (zeros 40)
+pub replied : (line bytes : List ℕ) (len : ℕ) → len ≡ length line → len ≤ 72 → bytes ≡ laid line (zeros 72)
     → Replied line (record { bytes = bytes; len = len })
 replied line bytes len n h e =
-    let sum : len + (40 - len) ≡ 40 = omega arith in
-    let all : zeros len ++ zeros (40 - len) ≡ zeros 40 = replicate-append-replicate len (40 - len) 0 ∙ ap zeros sum in
-    let left : drop len (zeros 40) ≡ zeros (40 - len) =
-    ap (drop len) (sym all) ∙ drop-at (zeros len) (zeros (40 - len)) len (length-replicate len 0) in
+    let sum : len + (72 - len) ≡ 72 = omega arith in
+    let all : zeros len ++ zeros (72 - len) ≡ zeros 72 = replicate-append-replicate len (72 - len) 0 ∙ ap zeros sum in
+    let left : drop len (zeros 72) ≡ zeros (72 - len) =
+    ap (drop len) (sym all) ∙ drop-at (zeros len) (zeros (72 - len)) len (length-replicate len 0) in
     record {
       within = h;
       long = n;
-      first = ap (take len) e ∙ take-at line (drop (length line) (zeros 40)) len (sym n);
-      rest = ap (drop len) e ∙ drop-at line (drop (length line) (zeros 40)) len (sym n) ∙ rw (sym n) left;
+      first = ap (take len) e ∙ take-at line (drop (length line) (zeros 72)) len (sym n);
+      rest = ap (drop len) e ∙ drop-at line (drop (length line) (zeros 72)) len (sym n) ∙ rw (sym n) left;
     }
 
--- p has been laid, and ends at a
-pub record Laid (l₀ p l : List ℕ) (a : ℕ) : Type 0 where
-  pub ends : a ≡ length p
-  pub same : l ≡ laid p l₀
+-- p has been laid after the first s bytes, and ends at a
+pub record Laid (s : ℕ) (l₀ p l : List ℕ) (a : ℕ) : Type 0 where
+  pub room : s ≤ length l₀
+  pub ends : a ≡ s + length p
+  pub same : l ≡ laidFrom s p l₀
 
 -- nothing is laid yet
-pub lay-start : (l : List ℕ) → Laid l [] l 0
-lay-start l = record { ends = refl; same = refl }
+pub lay-start : (s : ℕ) (l : List ℕ) → s ≤ length l → Laid s l [] l s
+lay-start s l h = record { room = h; ends = omega arith; same = sym (take-append-drop s l) }
 
 -- R61: a piece more behind what was laid
-pub lay-on : {l₀ p l m : List ℕ} {a b : ℕ} (bs : List ℕ) → Laid l₀ p l a → (b ≡ a + length bs) × (m ≡ laidFrom a bs l) → Laid l₀ (p ++ bs) m b
-lay-on {l₀} {p} {l} {m} {a} {b} bs v e =
-    let d : drop a l ≡ drop a l₀ =
-    ap (drop a) (v .same) ∙ drop-at p (drop (length p) l₀) a (sym (v .ends)) ∙ ap (λ (k : ℕ). drop k l₀) (sym (v .ends)) in
-    let t : take a l ≡ p = ap (take a) (v .same) ∙ take-at p (drop (length p) l₀) a (sym (v .ends)) in
-    let k : a + length bs ≡ length (p ++ bs) = rw (length-append p bs) (omega arith) in
-    record { ends = e .0 ∙ k; same = e .1 ∙ rw (t, d, drop-drop (length bs) a l₀, k, append-assoc) }
+pub lay-on : {s : ℕ} {l₀ p l m : List ℕ} {a b : ℕ} (bs : List ℕ) → Laid s l₀ p l a → (b ≡ a + length bs) × (m ≡ laidFrom a bs l) → Laid s l₀ (p ++ bs) m b
+lay-on {s} {l₀} {p} {l} {m} {a} {b} bs v e =
+    let front : List ℕ = take s l₀ ++ p in
+    let long : length front ≡ a = length-append (take s l₀) p ∙ omega (arith, length-take-le s l₀ (v .room), v .ends) in
+    let whole : l ≡ front ++ drop (length p) (drop s l₀) = v .same ∙ sym (append-assoc (take s l₀) p (drop (length p) (drop s l₀))) in
+    let d : drop a l ≡ drop (length p) (drop s l₀) = ap (drop a) whole ∙ drop-at front (drop (length p) (drop s l₀)) a long in
+    let t : take a l ≡ front = ap (take a) whole ∙ take-at front (drop (length p) (drop s l₀)) a long in
+    let k : length p + length bs ≡ length (p ++ bs) = sym (length-append p bs) in
+    record {
+      room = v .room;
+      ends = e .0 ∙ omega (arith, v .ends, k);
+      same = e .1 ∙ rw (t, d, drop-drop (length bs) (length p) (drop s l₀), k) (simp append-assoc);
+    }
 
 copy-one : (s d : List ℕ) (i : ℕ) → i < length s → length s ≤ length d → set (take i s ++ drop i d) i (getD s i 0) ≡ take (suc i) s ++ drop (suc i) d
 copy-one [] d i h g = absurd (omega arith)

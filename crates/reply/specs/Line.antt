@@ -7,6 +7,7 @@ use mathlib.Core.Option.{Option, none, some}
 use lib.Dec.{ltb, leb}
 use lib.ListN.{length, take, drop, replicate}
 use Rattle.line.specs.Slots.{pick}
+use Rattle.table.specs.declared.Refusal.{Refusal}
 use Rattle.table.specs.Words.{Said, gives, refuses}
 use Rattle.reply.specs.declared.Reply.{Reply}
 use Rattle.reply.specs.declared.Written.{Written}
@@ -52,7 +53,7 @@ release = 114 ∷ 101 ∷ 108 ∷ 101 ∷ 97 ∷ 115 ∷ 101 ∷ 32 ∷ []
 abbrev pub refused : List ℕ
 refused = 114 ∷ 101 ∷ 102 ∷ 117 ∷ 115 ∷ 101 ∷ 100 ∷ 32 ∷ []
 
--- R61: between a refusal's number and its place
+-- R61: between a refusal's numbers
 abbrev pub space : List ℕ
 space = 32 ∷ []
 
@@ -60,15 +61,28 @@ space = 32 ∷ []
 abbrev pub lineFeed : List ℕ
 lineFeed = 10 ∷ []
 
+-- R103: the refusal says a tick and an excess: they are not both 0
+abbrev pub carries : Refusal → Bool
+carries x = pick (ltb 0 (x .excess)) true (ltb 0 (x .tick))
+
+-- R61, R103: what stands behind the place
+abbrev pub lateness : Bool → (tick excess : ℕ) → List ℕ
+lateness true d x = space ++ digits d ++ space ++ digits x
+lateness false d x = []
+
+-- R61, R103: of a refusal
+abbrev pub latenessOf : Refusal → List ℕ
+latenessOf x = lateness (carries x) (x .tick) (x .excess)
+
 -- R61: the whole line, newline included
 unfoldable pub answerLine : Said ℕ → List ℕ
 answerLine (gives r) = release ++ digits r ++ lineFeed
-answerLine (refuses x) = refused ++ digits (x .number) ++ space ++ digits (x .place) ++ lineFeed
+answerLine (refuses x) = refused ++ digits (x .number) ++ space ++ digits (x .place) ++ latenessOf x ++ lineFeed
 
--- R17, R61: the numbers are of the widths that an answer has: a start and a place of 64 bits, a refusal's number of 16
+-- R17, R61: the numbers are of the widths that an answer has: a start, a place and a tick of 64 bits, an excess of 32, a refusal's number of 16
 abbrev pub AnswerWidths : Said ℕ → Type 0
 AnswerWidths (gives r) = r < 2 ^ 64
-AnswerWidths (refuses x) = (x .number < 2 ^ 16) × (x .place < 2 ^ 64)
+AnswerWidths (refuses x) = (x .number < 2 ^ 16) × (x .place < 2 ^ 64) × (x .tick < 2 ^ 64) × (x .excess < 2 ^ 32)
 
 -- bytes that are 0
 abbrev pub zeros : ℕ → List ℕ
@@ -76,10 +90,10 @@ zeros n = replicate n 0
 
 -- R61: the line in the reply's array, which has room for every line, and 0 in every byte after it
 pub record Replied (line : List ℕ) (r : Reply) : Type 0 where
-  pub within : r .len ≤ 40
+  pub within : r .len ≤ 72
   pub long : r .len ≡ length line
   pub first : take (r .len) (r .bytes) ≡ line
-  pub rest : drop (r .len) (r .bytes) ≡ zeros (40 - r .len)
+  pub rest : drop (r .len) (r .bytes) ≡ zeros (72 - r .len)
 
 -- R62: the bytes at the start of the buffer, and after them the buffer's own
 abbrev pub laid : (bytes buffer : List ℕ) → List ℕ

@@ -4,13 +4,13 @@ ghost use Prim.Native.Nat.{_+_, _≤_, _<_};
 ghost use lib.ListN.{length};
 ghost use Rattle.table.specs.Words.{gives, refuses};
 ghost use Rattle.table.specs.Ask.{says};
-ghost use Rattle.reply.specs.Line.{digits, answerLine, laid, laidFrom, Replied, saidLength, lengthFor, heldAfter};
+ghost use Rattle.reply.specs.Line.{digits, carries, latenessOf, answerLine, laid, laidFrom, Replied, saidLength, lengthFor, heldAfter};
 use table::Answer;
 use table::Refusal;
 
 // R61: a line in an array that is long enough for every answer: its first `len` bytes are the line, and the rest are 0.
 pub struct Reply {
-    pub bytes: [u8; 40],
+    pub bytes: [u8; 72],
     pub len: usize,
 }
 
@@ -25,7 +25,7 @@ pub fn reply_to(a: Answer) -> Reply
     ensures { λ r. ⌜ Replied (answerLine (says a)) r ⌝ }
 {
     let len = line_len(a);
-    let mut bytes = [0u8; 40];
+    let mut bytes = [0u8; 72];
     put_line(&mut bytes, a);
     Reply { bytes, len }
 }
@@ -45,12 +45,32 @@ pub fn put_reply(a: Answer, out: &mut [u8]) -> Written
 
 // R61: the length of an answer's line.
 fn line_len(a: Answer) -> usize
-    ensures { λ r. ⌜ (r ≡ length (answerLine (says a))) × (r ≤ 40) ⌝ }
+    ensures { λ r. ⌜ (r ≡ length (answerLine (says a))) × (r ≤ 72) ⌝ }
 {
     match a {
         Answer::Start(start) => 9 + places(start),
-        Answer::Refused(x) => 10 + places(wide(x.number)) + places(x.place),
+        Answer::Refused(x) => 10 + places(wide(x.number)) + places(x.place) + lateness_len(x),
     }
+}
+
+// R103: a refusal says a tick and an excess where they are not both 0.
+fn carries(x: Refusal) -> bool
+    ensures { λ r. ⌜ r ≡ carries x ⌝ }
+{
+    if x.excess > 0 {
+        return true;
+    }
+    x.tick > 0
+}
+
+// R61, R103: how many bytes a refusal's tick and excess take.
+fn lateness_len(x: Refusal) -> usize
+    ensures { λ r. ⌜ (r ≡ length (latenessOf x)) × (r ≤ 32) ⌝ }
+{
+    if !carries(x) {
+        return 0;
+    }
+    2 + places(x.tick) + places(long(x.excess))
 }
 
 // R61: puts the line for an answer at the start of out.
@@ -74,7 +94,7 @@ fn put_release(out: &mut [u8], start: u64)
     add_bytes(out, end, b"\n");
 }
 
-// R61: `refused`, the refusal's number and its place.
+// R61, R103: `refused`, the refusal's number and its place, and the tick and the excess where it says them.
 fn put_refused(out: &mut [u8], x: Refusal)
     requires { ⌜ length (answerLine (refuses x)) ≤ length (now out) ⌝ }
     ensures { λ _. ⌜ now (out .exit) ≡ laid (answerLine (refuses x)) (now (out .entry)) ⌝ }
@@ -85,12 +105,36 @@ fn put_refused(out: &mut [u8], x: Refusal)
     let gap = add_number(out, at, number);
     let next = add_bytes(out, gap, b" ");
     let last = add_number(out, next, place);
-    add_bytes(out, last, b"\n");
+    let end = add_lateness(out, last, x);
+    add_bytes(out, end, b"\n");
+}
+
+// R61, R103: puts the tick and the excess of a refusal, each behind a space, after the first `at` bytes of out, and answers where they end.
+fn add_lateness(out: &mut [u8], at: usize, x: Refusal) -> usize
+    requires { ⌜ at + length (latenessOf x) ≤ length (now out) ⌝ }
+    ensures { λ r. ⌜ (r ≡ at + length (latenessOf x)) × (now (out .exit) ≡ laidFrom at (latenessOf x) (now (out .entry))) ⌝ }
+{
+    if !carries(x) {
+        return at;
+    }
+    let tick = x.tick;
+    let excess = long(x.excess);
+    let first = add_bytes(out, at, b" ");
+    let gap = add_number(out, first, tick);
+    let next = add_bytes(out, gap, b" ");
+    add_number(out, next, excess)
 }
 
 // A refusal's number, as wide as its place.
 fn wide(x: u16) -> u64
     ensures { λ r. ⌜ (r ≡ x) × (r < 65536) ⌝ }
+{
+    x as u64
+}
+
+// A refusal's excess, as wide as its tick.
+fn long(x: u32) -> u64
+    ensures { λ r. ⌜ (r ≡ x) × (r < 4294967296) ⌝ }
 {
     x as u64
 }

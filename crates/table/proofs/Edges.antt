@@ -9,18 +9,21 @@ use Rattle.line.specs.declared.Slot.{Slot}
 use Rattle.table.specs.declared.Table.{Table}
 use Rattle.table.specs.declared.Request.{Request}
 use Rattle.line.specs.Slots.{empty, total, mapAt, lowest}
-use Rattle.table.specs.Words.{requestWith, emptyTable, refusal, Said, gives, refuses}
+use Rattle.table.specs.Words.{requestWith, emptyTable, refusal, shortRefusal, Said, gives, refuses}
 use Rattle.line.specs.Streams.{due, every, endsBefore, onlyEnd}
 use Rattle.line.specs.Demand.{lastEnd}
 use Rattle.table.specs.Grounds.{asked}
 use Rattle.line.specs.Shares.{frame, periodsIn}
 use Rattle.table.specs.Ask.{says, askIn, askOf}
-use Rattle.line.specs.Ends.{endsOf, slack, bound, greatest, anyOf, start}
+use Rattle.line.specs.Ends.{endsOf, slack, bound, greatest, soonestOf, firstShort, start}
 use Rattle.table.specs.Admit.{admitOf}
 use Rattle.table.specs.Cases.{CaseLine, Case, line, running, parting, waiting, tableOf, tableFor, tallied, talliedWith, case, caseA, caseC, caseG, caseK, caseL}
 
 abbrev refused : (number place : ℕ) → Said ℕ
 refused n k = refuses (refusal n k)
+
+abbrev short : (tick excess : ℕ) → Said ℕ
+short d x = refuses (shortRefusal d x)
 
 -- every T' is p
 abbrev everyPeriod : (p Cn Tn : ℕ) → Request
@@ -86,7 +89,17 @@ loads =
     ∷ case 0 (line 4 7 8 2 3 ∷ []) 1 8 (gives 0)
     ∷ case 0 (line 4 7 7 2 3 ∷ []) 1 7 (refused 9 0)
     ∷ case 0 (line 3 20 20 17 3 ∷ line 10 20 20 0 0 ∷ []) 1 4 (gives 0)
-    ∷ case 0 (line 4 20 20 17 4 ∷ line 10 20 20 0 0 ∷ []) 1 4 (refused 10 0)
+    ∷ case 0 (line 4 20 20 17 4 ∷ line 10 20 20 0 0 ∷ []) 1 4 (short 3 1)
+    ∷ []
+
+-- R103: the tick is absolute; of two short ends it is the first in time, of the lower slot and of the higher, and not the one with the greater excess; an end comes by
+-- the T' and not by the T
+abbrev shortages : List Case
+shortages =
+    case 100 (line 4 20 20 17 4 ∷ line 10 20 20 0 0 ∷ []) 1 4 (short 103 1)
+    ∷ case 0 (line 6 20 20 13 6 ∷ line 5 20 20 17 5 ∷ line 15 40 40 0 0 ∷ []) 1 40 (short 3 2)
+    ∷ case 0 (line 5 20 20 17 5 ∷ line 6 20 20 13 6 ∷ line 15 40 40 0 0 ∷ []) 1 40 (short 3 2)
+    ∷ case 0 (line 8 20 24 17 8 ∷ line 10 20 20 0 0 ∷ []) 1 24 (short 7 1)
     ∷ []
 
 -- the lowest such slot, of two
@@ -173,7 +186,7 @@ leavingCounts =
     ∷ row (tableOf 0 (parting 4 8 4 2 ∷ [])) (everyPeriod 8 1 2) (gives 0)
     ∷ row (tableOf 0 (parting 4 8 4 3 ∷ [])) (everyPeriod 8 1 2) (refused 9 0)
     ∷ row (tableOf 0 (parting 3 20 17 3 ∷ running 10 20 0 0 ∷ [])) (everyPeriod 20 1 4) (gives 0)
-    ∷ row (tableOf 0 (parting 4 20 17 4 ∷ running 10 20 0 0 ∷ [])) (everyPeriod 20 1 4) (refused 10 0)
+    ∷ row (tableOf 0 (parting 4 20 17 4 ∷ running 10 20 0 0 ∷ [])) (everyPeriod 20 1 4) (short 3 1)
     ∷ row (tableOf 0 (parting 2 12 2 0 ∷ running 3 6 3 3 ∷ [])) (periodsOf (12 ∷ 6 ∷ []) 1 3) (gives 1)
     ∷ []
 
@@ -198,16 +211,16 @@ neighbours =
     ∷ case 0 (line 4 8 8 4 3 ∷ []) 5 8 (refused 8 0)
     ∷ case 0 (line 4 8 8 4 3 ∷ []) 4 8 (refused 9 0)
     ∷ case 0 (line 5 20 20 17 5 ∷ []) 1 4 (refused 9 0)
-    ∷ case 0 (line 5 20 20 17 5 ∷ line 10 20 20 0 0 ∷ []) 1 4 (refused 10 0)
+    ∷ case 0 (line 5 20 20 17 5 ∷ line 10 20 20 0 0 ∷ []) 1 4 (short 3 2)
     ∷ []
 
 -- all of them
 unfoldable pub askEdges : List Case
-askEdges = clocks ++ (slots ++ (soundness ++ (counts ++ (stretches ++ (newLines ++ (frames ++ (loads ++ (places ++ (countOrders ++ (neighbours ++ (departures ++ (leavingDemand ++ (leavingStretched ++ leavingCounts)))))))))))))
+askEdges = clocks ++ (slots ++ (soundness ++ (counts ++ (stretches ++ (newLines ++ (frames ++ (loads ++ (shortages ++ (places ++ (countOrders ++ (neighbours ++ (departures ++ (leavingDemand ++ (leavingStretched ++ leavingCounts))))))))))))))
 
 -- R18, R19, R21 to R30: each ground on both sides of its edge, its place, and its order with the next
 pub ask-edges : map (λ (c : Case). says (askOf (c .table) (c .request))) askEdges ≡ map (λ (c : Case). c .answer) askEdges
-unfolding euclid gcdOf lcmOf frameFrom total lowest due lastEnd mapAt periodsIn every endsBefore onlyEnd endsOf slack bound greatest anyOf start askIn askOf askEdges
+unfolding euclid gcdOf lcmOf frameFrom total lowest due lastEnd mapAt periodsIn every endsBefore onlyEnd endsOf slack bound greatest soonestOf firstShort start askIn askOf askEdges
 ask-edges = refl
 
 abbrev frameIn : Case → ℕ
@@ -257,5 +270,5 @@ admitEdges =
 -- R42, R43: the answer and the whole table
 pub admit-edges : map {B = Said ℕ × Table} (λ (e : AdmitEdge). (says (admitOf (e .asks .table) (e .asks .request) .answer), admitOf (e .asks .table) (e .asks .request) .table)) admitEdges
     ≡ map (λ (e : AdmitEdge). (e .asks .answer, e .leaves)) admitEdges
-unfolding euclid gcdOf lcmOf frameFrom total lowest due lastEnd mapAt periodsIn every endsBefore onlyEnd endsOf slack bound greatest anyOf start askIn askOf admitEdges
+unfolding euclid gcdOf lcmOf frameFrom total lowest due lastEnd mapAt periodsIn every endsBefore onlyEnd endsOf slack bound greatest soonestOf firstShort start askIn askOf admitEdges
 admit-edges = refl

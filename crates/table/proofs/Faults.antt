@@ -4,6 +4,8 @@ use mathlib.Core.Path.{_≡_, refl}
 use mathlib.Core.List.{List, [], _∷_}
 use native.Mathlib.Omega.{arith}
 use native.Mathlib.Decide.{decLe}
+use lib.IntN.{pos, subℕ}
+use lib.Signed.{_<ℤ_, leZ-yes, ltZ-yes, clashℤ}
 use borrow.Author.Tests.{le-ltb}
 use Rattle.line.specs.declared.Slot.{Slot}
 use Rattle.line.specs.Slots.{runWith, total, mapAt}
@@ -11,12 +13,13 @@ use Rattle.line.specs.Streams.{due, every, endsBefore}
 use Rattle.line.specs.Demand.{newDemand, Smooth, lastEnd}
 use Rattle.table.specs.Grounds.{asked}
 use Rattle.line.specs.Ends.{endsOf}
+use Rattle.line.proofs.Excess.{excess-within}
 use Rattle.table.specs.Cases.{caseA, caseD, caseM}
 use Rattle.table.specs.Faults.{closedStart, excessWith, floorStart, QuietAtEnds}
 
 -- R13: an excess anywhere: not smooth
-pub not-smooth : (t0 : ℕ) (l : List Slot) (Cn Tn r t : ℕ) → t0 ≤ t → 0 < excessWith t0 l Cn Tn r t → Smooth t0 l (newDemand Cn Tn) r → ⊥
-not-smooth t0 l Cn Tn r t h x s = omega (arith, s .no-excess t h)
+pub not-smooth : (t0 : ℕ) (l : List Slot) (Cn Tn r t : ℕ) → t0 ≤ t → pos 0 <ℤ excessWith t0 l Cn Tn r t → Smooth t0 l (newDemand Cn Tn) r → ⊥
+not-smooth t0 l Cn Tn r t h x s = clashℤ x (s .no-excess t h)
 
 -- R68: the closed formula gives 8 in case B
 pub closed-formula-B : closedStart 6 (runWith 8 16 6 2) 32 ≡ 8
@@ -42,13 +45,13 @@ pub floor-edges : (floorStart 8 (asked (caseA .table) (caseA .request)) 1 4 16 �
 unfolding floorStart total due mapAt
 floor-edges = (refl, refl, refl)
 
-floor-D-excess : excessWith 100 (asked (caseD .table) (caseD .request)) 2 4 103 108 ≡ 1
+floor-D-excess : excessWith 100 (asked (caseD .table) (caseD .request)) 2 4 103 108 ≡ pos 1
 unfolding total due mapAt
 floor-D-excess = refl
 
 -- R68, R13
 pub floor-D-not-smooth : Smooth 100 (asked (caseD .table) (caseD .request)) (newDemand 2 4) 103 → ⊥
-floor-D-not-smooth = not-smooth 100 (asked (caseD .table) (caseD .request)) 2 4 103 108 (omega arith) (omega (arith, floor-D-excess))
+floor-D-not-smooth = not-smooth 100 (asked (caseD .table) (caseD .request)) 2 4 103 108 (omega arith) (rw floor-D-excess (ltZ-yes tt))
 
 -- R68: the running lines' ends alone give 103 in case M: it is the least start with no excess there
 ends-M : endsOf 100 (lastEnd 100 (asked (caseM .table) (caseM .request))) (asked (caseM .table) (caseM .request)) ≡ 108 ∷ []
@@ -58,9 +61,9 @@ ends-M = refl
 -- R68: in case M a start at 103 is quiet at every end of a running line
 pub only-ends-M : QuietAtEnds 100 (asked (caseM .table) (caseM .request)) 3 6 103
 unfolding total due mapAt
-only-ends-M = rw ends-M (omega arith, tt)
+only-ends-M = rw ends-M (leZ-yes tt, tt)
 
-demand-M : (u : ℕ) → excessWith 100 (asked (caseM .table) (caseM .request)) 3 6 u 108 ≡ 7 + newDemand 3 6 u 108 - 8
+demand-M : (u : ℕ) → excessWith 100 (asked (caseM .table) (caseM .request)) 3 6 u 108 ≡ subℕ (7 + newDemand 3 6 u 108) 8
 unfolding total due mapAt
 demand-M u = refl
 
@@ -74,22 +77,22 @@ only-ends-M-least u h q = by (decLe 103 u)
     by (no b) =
         let e : newDemand 3 6 u 108 ≡ 0 + 3 * ((108 - u) / 6) = rw (le-ltb 108 u (omega arith)) in
         let a = rw ends-M at q in
-        omega (arith, a .0, demand-M u, e)
+        omega (arith, excess-within (7 + newDemand 3 6 u 108) 8 (rw (demand-M u) at (a .0)), e)
 
 -- R68: the new line's own first end would then be 109, with an excess of 1
-pub only-ends-M-excess : excessWith 100 (asked (caseM .table) (caseM .request)) 3 6 103 109 ≡ 1
+pub only-ends-M-excess : excessWith 100 (asked (caseM .table) (caseM .request)) 3 6 103 109 ≡ pos 1
 unfolding total due mapAt
 only-ends-M-excess = refl
 
 -- R68, R13
 pub only-ends-M-not-smooth : Smooth 100 (asked (caseM .table) (caseM .request)) (newDemand 3 6) 103 → ⊥
-only-ends-M-not-smooth = not-smooth 100 (asked (caseM .table) (caseM .request)) 3 6 103 109 (omega arith) (omega (arith, only-ends-M-excess))
+only-ends-M-not-smooth = not-smooth 100 (asked (caseM .table) (caseM .request)) 3 6 103 109 (omega arith) (rw only-ends-M-excess (ltZ-yes tt))
 
 -- started at once in case A there is an excess of 2 at 16
-at-once-A-excess : excessWith 8 (asked (caseA .table) (caseA .request)) 1 4 8 16 ≡ 2
+at-once-A-excess : excessWith 8 (asked (caseA .table) (caseA .request)) 1 4 8 16 ≡ pos 2
 unfolding total due mapAt
 at-once-A-excess = refl
 
 -- R68: the new line's share, 1/4, is below the others', and a start at once is not smooth
 pub at-once-A-not-smooth : (1 * 16 < 8 * 4) × (Smooth 8 (asked (caseA .table) (caseA .request)) (newDemand 1 4) 8 → ⊥)
-at-once-A-not-smooth = (omega arith, not-smooth 8 (asked (caseA .table) (caseA .request)) 1 4 8 16 (omega arith) (omega (arith, at-once-A-excess)))
+at-once-A-not-smooth = (omega arith, not-smooth 8 (asked (caseA .table) (caseA .request)) 1 4 8 16 (omega arith) (rw at-once-A-excess (ltZ-yes tt)))

@@ -8,7 +8,7 @@ use Rattle.line.specs.declared.Slot.{Slot}
 use Rattle.table.specs.declared.Table.{Table}
 use Rattle.table.specs.declared.Request.{Request}
 use Rattle.line.specs.Slots.{runThen, runWith, waitWith, holding, empty}
-use Rattle.table.specs.Words.{tableWith, withCounts, withDeparted, requestWith, refusal, Said, gives, refuses}
+use Rattle.table.specs.Words.{tableWith, withCounts, withDeparted, requestWith, refusal, shortRefusal, Said, gives, refuses}
 
 -- a line of a case: C, T, T', age, remaining
 pub record CaseLine : Type 0 where
@@ -96,7 +96,7 @@ abbrev pub caseI : Case
 caseI = case 0 (line 8 16 16 0 8 ∷ []) 9 16 (refuses (refusal 8 0))
 
 abbrev pub caseJ : Case
-caseJ = case 0 (line 5 20 20 17 5 ∷ line 10 20 20 0 0 ∷ []) 1 4 (refuses (refusal 10 0))
+caseJ = case 0 (line 5 20 20 17 5 ∷ line 10 20 20 0 0 ∷ []) 1 4 (refuses (shortRefusal 3 2))
 
 abbrev pub caseK : Case
 caseK = case 0 (line 1 64 64 0 1 ∷ []) 1 15625 (gives 0)

@@ -49,9 +49,13 @@ laterWith t l = record { clock = t .clock + 1; slots = l; had = t .had; idle = t
 abbrev pub requestWith : (stretched : List ℕ) → (Cn Tn : ℕ) → Request
 requestWith ts Cn Tn = record { stretched = ts; need = Cn; period = Tn }
 
--- R17: a number and a place
+-- R17: a number and a place, and no excess
 abbrev pub refusal : (number place : ℕ) → Refusal
-refusal n k = record { number = n; place = k }
+refusal n k = record { number = n; place = k; tick = 0; excess = 0 }
+
+-- R103: refusal 10, with the first tick that is short and its excess
+abbrev pub shortRefusal : (tick excess : ℕ) → Refusal
+shortRefusal d x = record { number = 10; place = 0; tick = d; excess = x }
 
 -- ----
 

@@ -2,7 +2,7 @@
 ghost use mathlib.Core.Path.{_≡_};
 ghost use Rattle.line.specs.Slots.{lowestOf};
 ghost use Rattle.line.specs.Tick.{is};
-ghost use Rattle.table.specs.Words.{tableWith, requestWith, refusal, emptyTable, slotOf};
+ghost use Rattle.table.specs.Words.{tableWith, requestWith, refusal, shortRefusal, emptyTable, slotOf};
 
 mod account; // what each line has had
 mod leave; // a line let go
@@ -24,10 +24,13 @@ pub struct Request {
     pub period: u16,
 }
 
-// R17: a number and a place. Tables, requests and refusals are made by the makers below alone, and changed field by field, so that they can grow.
+// R17: a number and a place; R103: of refusal 10 also the first tick that is short and its excess, which are 0 in every other. In this order it has 24
+// bytes, and not 32. Tables, requests and refusals are made by the makers below alone, and changed field by field, so that they can grow.
 pub struct Refusal {
     pub number: u16,
+    pub excess: u32,
     pub place: u64,
+    pub tick: u64,
 }
 
 // R41: what ask answers.
@@ -80,6 +83,20 @@ impl Refusal {
         Refusal {
             number: number,
             place: place,
+            tick: 0,
+            excess: 0,
+        }
+    }
+
+    // R103: refusal 10, with the first tick that is short and its excess.
+    pub fn short(tick: u64, excess: u32) -> Refusal
+        ensures { λ r. ⌜ r ≡ shortRefusal tick excess ⌝ }
+    {
+        Refusal {
+            number: 10,
+            place: 0,
+            tick: tick,
+            excess: excess,
         }
     }
 }

@@ -16,6 +16,7 @@ use Rattle.line.specs.Sound.{Sound}
 use Rattle.line.specs.Streams.{due}
 use Rattle.line.specs.Demand.{demand, newDemand, demands, Smooth}
 use Rattle.line.specs.Shares.{Divides, share, claim, full}
+use Rattle.line.proofs.Excess.{smooth-says}
 use Rattle.table.specs.Admit.{newLine, putAt}
 use Rattle.theory.specs.Fine.{Fine, Lag}
 use Rattle.theory.proofs.Numbers.{split, due-renew}
@@ -84,7 +85,7 @@ admitted-fine M k l j C P r a m d p x c q h e s =
                   ap (share M) e,
                 );
           };
-      no-excess = λ t b. omega (arith, admitted-demands k l j C P r t h e (omega arith) (s .from-clock), s .no-excess t b);
+      no-excess = λ t b. omega (arith, admitted-demands k l j C P r t h e (omega arith) (s .from-clock), smooth-says s t b);
     }
 
 -- R29: a new line does not lag

@@ -1,5 +1,5 @@
 -- The computed answer is a right answer: each test decides its ground, in the order of R18.
-use mathlib.Core.Path.{_≡_, refl, ap, _∙_}
+use mathlib.Core.Path.{_≡_, refl, sym, ap, _∙_}
 use mathlib.Core.Logic.{inl, inr}
 use mathlib.Core.Bool.{Bool, true, false, not}
 use mathlib.Core.List.{List, [], _∷_}
@@ -8,6 +8,7 @@ use Prim.Native.Nat.{ℕ, _+_, _*_, _-_, _/_, _^_, _≤_}
 use native.Mathlib.Omega.{arith}
 use borrow.Author.Tests.{not-true, not-false, ltb-true, ltb-false}
 use lib.Dec.{ltb, leb}
+use lib.IntN.{pos}
 use lib.ListN.{length}
 use Rattle.line.specs.declared.Slot.{Slot}
 use Rattle.table.specs.declared.Table.{Table}
@@ -17,19 +18,20 @@ use Rattle.table.specs.declared.Answer.{Answer}
 use Rattle.line.specs.Slots.{pick, both, at, Each, total, isNothing, isWaiting, Waits, orElse, lowest, lowestOf}
 use Rattle.table.specs.Words.{Said, gives, refuses}
 use Rattle.line.specs.Sound.{Sound, sound}
-use Rattle.line.specs.Demand.{lastEnd}
+use Rattle.line.specs.Demand.{demands, ticksShort}
 use Rattle.table.specs.Counts.{accounted, fault}
-use Rattle.table.specs.Grounds.{entry, asked, Late, Full, Waiters, Unsound, Misstretched, Misfit, Wide, Overload, Behind, Short, Row, row, AnswersBy, Answers}
+use Rattle.table.specs.Grounds.{entry, asked, Late, Full, Waiters, Unsound, Misstretched, Misfit, Wide, Overload, Behind, Short, Row, row, rowShort, AnswersBy, Answers}
 use Rattle.line.specs.Stretch.{Barred, barred}
 use Rattle.line.specs.Shares.{frame, share, claim, full}
-use Rattle.table.specs.Ask.{says, isNone, refusedAt, refusedIf, askIn, askOf}
-use Rattle.line.specs.Ends.{endsOf, anyOf, shortAt}
+use Rattle.table.specs.Ask.{says, isNone, refusedAt, refusedIf, refusedShort, askIn, askOf}
+use Rattle.line.specs.Ends.{excessAt, firstShort}
+use Rattle.line.proofs.Excess.{excess-over, excess-is, within-excess, ticks-short}
 use Rattle.line.proofs.Search.{true-false, lowest-is, lowest-none}
 use Rattle.line.proofs.Sound.{sound-says, unsound-says, barred-says, barred-not}
 use Rattle.table.proofs.Counts.{faultless}
 use Rattle.theory.specs.Fine.{Unbarred}
 use Rattle.theory.proofs.Start.{start-least}
-use Rattle.theory.proofs.Ten.{alone-without-short-end, found-short}
+use Rattle.theory.proofs.Ten.{alone-without-short-end, FirstShort, found-short}
 use Rattle.theory.proofs.Stretched.{sound-stretched}
 use Rattle.theory.proofs.Tests.{lowest-of, none-of, all-sound, nothing-says, some-of, none-is, fits-says, fits-not}
 use Rattle.theory.proofs.Granted.{given}
@@ -55,6 +57,28 @@ row-at : (n : ℕ) (H : Table → Request → ℕ → Type 0) (rs : List Row) (t
     → (o ≡ none → AnswersBy rs t q (says a)) → AnswersBy (row n H ∷ rs) t q (says (refusedAt o n a))
 row-at n H rs t q (some k) a holds fails rest = inl (k, holds k refl, refl)
 row-at n H rs t q none a holds fails rest = pass-row (row n H) rs t q (says a) (λ x h. fails refl (h .0) (h .1)) (rest refl)
+
+-- ---- ground 10, whose refusal says more
+
+-- R30, R103: the search that finds its tick
+row-short : (t : Table) (q : Request) (over : ℕ → ℕ) (o : Option ℕ) (a : Answer)
+    → ((d : ℕ) → o ≡ some d → Short t q d (over d)) → (o ≡ none → (d x : ℕ) → Short t q d x → ⊥)
+    → (o ≡ none → AnswersBy [] t q (says a)) → AnswersBy (rowShort ∷ []) t q (says (refusedShort o over a))
+row-short t q over (some d) a holds fails rest = inl (d, over d, holds d refl, refl)
+row-short t q over none a holds fails rest = pass-row rowShort [] t q (says a) (λ y h. fails refl (h .0) (h .1) (h .2)) (rest refl)
+
+-- R103: the first short end, in the rules' words
+pub first-is : (t : Table) (q : Request) (d : ℕ) → FirstShort (t .clock) (asked t q) d → Short t q d (ticksShort (excessAt (t .clock) (asked t q) d))
+first-is t q d w =
+    let t0 = t .clock in
+    let all = demands t0 (asked t q) d in
+    let above = w .short .above in
+    record {
+      from-clock = w .short .from-clock;
+      by = excess-over all (d - t0) (omega arith) ∙ ap pos (sym (ticks-short all (d - t0)));
+      above = omega (arith, ticks-short all (d - t0));
+      first = λ u h b. within-excess (demands t0 (asked t q) u) (u - t0) (w .none-before u h b);
+    }
 
 -- ---- ground 4, which has two parts
 
@@ -84,7 +108,7 @@ module _ (t : Table) (q : Request) (sound : Each Sound (asked t q))
   abbrev F : ℕ
   F = frame (asked t q) (q .period)
 
-  from-seven : AnswersBy (row 7 Wide ∷ row 8 Overload ∷ row 9 Behind ∷ row 10 Short ∷ []) t q
+  from-seven : AnswersBy (row 7 Wide ∷ row 8 Overload ∷ row 9 Behind ∷ rowShort ∷ []) t q
       (says (askIn (t .clock) F (asked t q) (q .need) (q .period)))
   unfolding askIn
   from-seven =
@@ -92,9 +116,15 @@ module _ (t : Table) (q : Request) (sound : Each Sound (asked t q))
       (λ e7. row-if 8 Overload _ t q (ltb F all-shares) _ (λ e. (ltb-true F all-shares e, refl)) (λ e k h. omega (arith, ltb-false F all-shares e, h .0))
       (λ e8. row-if 9 Behind _ t q (ltb need due) _ (λ e. (ltb-true need due e, refl)) (λ e k h. omega (arith, ltb-false need due e, h .0))
       (λ e9. let g = given t q sound some fits (ltb-false F all-shares e8) (ltb-false need due e9) in
-      row-if 10 Short _ t q short _
-      (λ e. let w = found-short (t .clock) (asked t q) sound e in ((w .0, w .1 .from-clock, w .1 .above), refl))
-      (λ e k h. omega (arith, h .0 .2, alone-without-short-end F (t .clock) (asked t q) (q .need) (q .period) g e (h .0 .0) (h .0 .1)))
+      row-short t q _ (firstShort (t .clock) (asked t q)) _
+      (λ d e. first-is t q d (found-short F (t .clock) (asked t q) (q .need) (q .period) d g e))
+      (λ e d x h.
+      omega (
+        arith,
+        h .above,
+        excess-is (demands (t .clock) (asked t q) d) (d - t .clock) x (h .by),
+        alone-without-short-end F (t .clock) (asked t q) (q .need) (q .period) g e d (h .from-clock),
+      ))
       (λ e10. (tt, start-least F (t .clock) (asked t q) (q .need) (q .period) g (alone-without-short-end F (t .clock) (asked t q) (q .need) (q .period) g e10))))))
     where
       all-shares : ℕ
@@ -105,9 +135,6 @@ module _ (t : Table) (q : Request) (sound : Each Sound (asked t q))
 
       due : ℕ
       due = total (claim F) (asked t q)
-
-      short : Bool
-      short = anyOf (shortAt (t .clock) (asked t q)) (endsOf (t .clock) (lastEnd (t .clock) (asked t q)) (asked t q))
 
 -- ---- grounds 1 to 6, and the whole
 

@@ -12,6 +12,7 @@ use Rattle.line.specs.Demand.{newDemand, demands, Smooth, Least, lastEnd}
 use Rattle.line.specs.Ends.{slack, bound, greatest, start, endsOf}
 use Rattle.line.proofs.Due.{due-before, due-after}
 use Rattle.line.proofs.Ends.{greatest-from, greatest-above, greatest-least}
+use Rattle.line.proofs.Excess.{within-excess, smooth-says}
 use Rattle.theory.specs.Given.{Given, Alone, AnyEnd}
 use Rattle.theory.proofs.Numbers.{split}
 use Rattle.theory.proofs.Tail.{last-late, no-excess-from-last-end}
@@ -86,7 +87,7 @@ pub smooth-keeps-bounds : (F t0 : ℕ) (l : List Slot) (Cn Tn r : ℕ) → Given
     → (d : ℕ) → t0 ≤ d → d < lastEnd t0 l → bound Cn Tn (lastEnd t0 l) d (slack t0 l d) ≤ r
 smooth-keeps-bounds F t0 l Cn Tn r g a sm d h b =
     bound-needed Cn Tn (lastEnd t0 l) r d (slack t0 l d) (g .new-some) (omega (arith, g .new-some, g .new-fits)) b
-    (λ t p q. omega (arith, slack-is t0 l d a h, demands-mono t0 l d t (g .sound) p, sm .no-excess t (omega arith), new-is Cn Tn r t))
+    (λ t p q. omega (arith, slack-is t0 l d a h, demands-mono t0 l d t (g .sound) p, smooth-says sm t (omega arith), new-is Cn Tn r t))
 
 -- ---- sufficiency
 
@@ -116,7 +117,7 @@ pub bounds-make-smooth : (F t0 : ℕ) (l : List Slot) (Cn Tn r : ℕ) → Given 
 bounds-make-smooth F t0 l Cn Tn r g a late b = record {
   from-clock = late;
   no-excess = λ t h.
-      split (lastEnd t0 l) t (λ e. omega (arith, no-excess-from-last-end F t0 l Cn Tn r g late t e)) (λ e. omega (arith, before F t0 l Cn Tn r g a late b t h e));
+      within-excess _ (t - t0) (split (lastEnd t0 l) t (λ e. no-excess-from-last-end F t0 l Cn Tn r g late t e) (λ e. before F t0 l Cn Tn r g a late b t h e));
 }
 
 -- ---- the least smooth start
@@ -144,9 +145,10 @@ pub last-smooth : (F t0 : ℕ) (l : List Slot) (Cn Tn : ℕ) → Given F l Cn Tn
 last-smooth F t0 l Cn Tn g a = record {
   from-clock = last-late t0 l;
   no-excess = λ t h.
-      split (lastEnd t0 l) t
-      (λ e. omega (arith, no-excess-from-last-end F t0 l Cn Tn (lastEnd t0 l) g (last-late t0 l) t e))
-      (λ e. omega (arith, a t h, due-before (lastEnd t0 l) 0 Cn Tn t e));
+      within-excess _ (t - t0)
+      (split (lastEnd t0 l) t
+      (λ e. no-excess-from-last-end F t0 l Cn Tn (lastEnd t0 l) g (last-late t0 l) t e)
+      (λ e. omega (arith, a t h, due-before (lastEnd t0 l) 0 Cn Tn t e)));
 }
 
 -- R75, R15: the least one comes by the last end

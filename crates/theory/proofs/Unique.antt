@@ -2,17 +2,20 @@
 use mathlib.Core.Path.{_≡_, sym, ap, _∙_}
 use mathlib.Core.Logic.{inl, inr}
 use mathlib.Core.List.{List, [], _∷_}
-use Prim.Native.Nat.{ℕ}
+use Prim.Native.Nat.{ℕ, _+_, _-_, _<_}
 use native.Mathlib.Omega.{arith}
+use lib.IntN.{pos}
 use Rattle.table.specs.declared.Table.{Table}
 use Rattle.table.specs.declared.Request.{Request}
 use Rattle.table.specs.declared.Refusal.{Refusal}
 use Rattle.table.specs.declared.Answer.{Answer}
 use Rattle.table.specs.declared.Answer.the-variants.{Start, Refused}
 use Rattle.line.specs.Slots.{Lowest}
-use Rattle.table.specs.Words.{refusal, Said, gives, refuses}
-use Rattle.line.specs.Demand.{newDemand}
-use Rattle.table.specs.Grounds.{asked, Late, Full, Waiters, Unsound, Misstretched, Misfit, Wide, Overload, Behind, Short, Row, row, grounds, FirstOf, NoneOf, Answers}
+use Rattle.table.specs.Words.{refusal, shortRefusal, Said, gives, refuses}
+use Rattle.line.specs.Demand.{demands, newDemand}
+use Rattle.line.specs.Ends.{excessAt}
+use Rattle.line.proofs.Excess.{excess-is, excess-within}
+use Rattle.table.specs.Grounds.{asked, Late, Full, Waiters, Unsound, Misstretched, Misfit, Wide, Overload, Behind, Short, Row, row, rowShort, grounds, FirstOf, NoneOf, Answers}
 use Rattle.table.specs.Ask.{says, askOf}
 use Rattle.theory.proofs.Numbers.{split}
 use Rattle.theory.proofs.Start.{least-unique}
@@ -44,6 +47,23 @@ unsound-one t q j k (inl p) (inr r) = absurd (p .here (r .0 j (p .inside)))
 unsound-one t q j k (inr p) (inl r) = absurd (r .here (p .0 k (r .inside)))
 unsound-one t q j k (inr p) (inr r) = p .2 ∙ sym (r .2)
 
+-- R103: there is one first tick, and one excess at it
+short-one : (t : Table) (q : Request) → One rowShort t q
+short-one t q x y (d, n, p, e) (u, m, r, f) =
+    let same : d ≡ u = split d u (λ a. split u d (λ b. omega arith) (λ b. absurd (earlier u m d n r p b))) (λ a. absurd (earlier d n u m p r a)) in
+    let over : n ≡ m = omega (arith, wanted d n (p .by), wanted u m (r .by), same, ap all same) in
+    e ∙ ap (λ (k : ℕ). shortRefusal k n) same ∙ ap (shortRefusal u) over ∙ sym f
+  where
+    all : ℕ → ℕ
+    all k = demands (t .clock) (asked t q) k
+
+    wanted : (d x : ℕ) → excessAt (t .clock) (asked t q) d ≡ pos x → all d ≡ d - t .clock + x
+    wanted d x e = excess-is (all d) (d - t .clock) x e
+
+    earlier : (d n u m : ℕ) → Short t q d n → Short t q u m → u < d → ⊥
+    earlier d n u m p r b =
+        omega (arith, r .above, wanted u m (r .by), excess-within (all u) (u - t .clock) (p .first u (r .from-clock) b))
+
 all-one : (t : Table) (q : Request) → AllOne grounds t q
 all-one t q = (
   row-one 1 Late t q (zero-one _),
@@ -61,7 +81,7 @@ all-one t q = (
               row-one 7 Wide t q (zero-one _),
               (
                 row-one 8 Overload t q (zero-one _),
-                (row-one 9 Behind t q (zero-one _), (row-one 10 Short t q (zero-one _), tt)),
+                (row-one 9 Behind t q (zero-one _), (short-one t q, tt)),
               ),
             ),
           ),

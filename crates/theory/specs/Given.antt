@@ -40,8 +40,8 @@ IsEnd t0 h d = byStream ⊥ (λ s. EndAt t0 s d) h
 abbrev pub AnyEnd : ℕ → List Slot → ℕ → Type 0
 AnyEnd t0 l d = (i : ℕ) × (i < length l) × IsEnd t0 (at l i) d
 
--- R18, R14: what is known of a request that is granted the start r: no ground holds, and r is the least smooth start
-pub record Granted (t : Table) (q : Request) (r : ℕ) : Type 0 where
+-- R18: what is known of a request of which none of the grounds 1 to 9 holds
+pub record Cleared (t : Table) (q : Request) : Type 0 where
   pub early : t .clock ≤ 2 ^ 48 - 65536
   pub slot : ℕ
   pub lowest-empty : lowestOf isNothing (t .slots) ≡ some slot
@@ -50,5 +50,9 @@ pub record Granted (t : Table) (q : Request) (r : ℕ) : Type 0 where
   pub within : accounted t ≤ t .clock
   pub unbarred : Unbarred (t .slots) (entry q)
   pub given : Given (frame (asked t q) (q .period)) (asked t q) (q .need) (q .period)
+
+-- R18, R14: what is known of a request that is granted the start r: no ground holds, and r is the least smooth start
+pub record Granted (t : Table) (q : Request) (r : ℕ) : Type 0 where
+  pub cleared : Cleared t q
   pub alone : Alone (t .clock) (asked t q)
   pub least : Least (t .clock) (asked t q) (newDemand (q .need) (q .period)) r

@@ -30,8 +30,8 @@ fn fill(card: &mut [u8], n: usize) -> bool
 }
 
 // Puts a line's bytes after the first `at` of out, and answers where they end.
-fn put(out: &mut [u8], at: usize, line: [u8; 40], n: usize) -> usize
-    requires { ⌜ (at + n ≤ length (now out)) × (n ≤ 40) ⌝ }
+fn put(out: &mut [u8], at: usize, line: [u8; 72], n: usize) -> usize
+    requires { ⌜ (at + n ≤ length (now out)) × (n ≤ 72) ⌝ }
     ensures { λ r. ⌜ r ≡ at + n ⌝ }
 {
     let mut i = 0;
@@ -44,10 +44,10 @@ fn put(out: &mut [u8], at: usize, line: [u8; 40], n: usize) -> usize
 
 // Where the longest line would not fit any more, what stands in out is written first.
 fn room(out: &[u8], at: usize) -> usize
-    requires { ⌜ (at ≤ length (now out)) × (40 ≤ length (now out)) ⌝ }
-    ensures { λ r. ⌜ r + 40 ≤ length (now (out .entry)) ⌝ }
+    requires { ⌜ (at ≤ length (now out)) × (72 ≤ length (now out)) ⌝ }
+    ensures { λ r. ⌜ r + 72 ≤ length (now (out .entry)) ⌝ }
 {
-    if out.len() - at >= 40 {
+    if out.len() - at >= 72 {
         return at;
     }
     io::write_all(libc::STDOUT_FILENO, &out[..at]);
@@ -55,7 +55,7 @@ fn room(out: &[u8], at: usize) -> usize
 }
 
 fn add(out: &mut [u8], at: usize, a: Answer) -> usize
-    requires { ⌜ (at ≤ length (now out)) × (40 ≤ length (now out)) ⌝ }
+    requires { ⌜ (at ≤ length (now out)) × (72 ≤ length (now out)) ⌝ }
     ensures { λ r. ⌜ r ≤ length (now (out .exit)) ⌝ }
 {
     let start = room(out, at);
@@ -67,7 +67,7 @@ fn add(out: &mut [u8], at: usize, a: Answer) -> usize
 // The answers of the set. No set has an end that a proof knows of, so the cards are counted; a card that is longer than any
 // of the stored ones ends the set as the mark does.
 fn answer_all(out: &mut [u8]) -> usize
-    requires { ⌜ 40 ≤ length (now out) ⌝ }
+    requires { ⌜ 72 ≤ length (now out) ⌝ }
     ensures { λ r. ⌜ (r ≤ length (now (out .exit))) × (r ≡ length (take r (now (out .exit)))) ⌝ }
 {
     let mut card = [0u8; 256];

@@ -3,11 +3,11 @@
 use super::desk::Desk;
 use super::{cards, images};
 use crate::rules;
-use crate::types::{Refusal, Request};
+use crate::types::{by_how_much, Refusal, Request};
 use std::fmt;
 
 /// R93: the version of the boundary.
-const VERSION: u64 = 4;
+const VERSION: u64 = 5;
 
 /// R63: the slot of a result that is none.
 pub const NO_SLOT: u64 = 255;
@@ -114,6 +114,8 @@ pub struct Told {
     pub number: u64,
     pub place: u64,
     pub value: u64,
+    pub tick: u64,
+    pub excess: u64,
 }
 
 impl Told {
@@ -128,6 +130,8 @@ impl Told {
             number: 0,
             place: place as u64,
             value,
+            tick: 0,
+            excess: 0,
         }
     }
 
@@ -141,12 +145,21 @@ impl Told {
         Told::value(slot.map_or(NO_SLOT, |slot| slot as u64))
     }
 
+    /// R103: no refusal but 10 says by how much it is late.
     pub fn refused(number: impl Into<u64>, place: u64) -> Told {
         Told {
             number: number.into(),
             place,
             value: 0,
+            tick: 0,
+            excess: 0,
         }
+    }
+
+    /// R61: a refusal in words.
+    pub fn refusal(&self) -> String {
+        let more = by_how_much(self.tick, self.excess);
+        format!("refused {} {}{more}", self.number, self.place)
     }
 }
 
@@ -156,14 +169,21 @@ impl fmt::Display for Told {
             number,
             place,
             value,
+            tick,
+            excess,
         } = self;
-        write!(f, "number {number} place {place} value {value}")
+        write!(f, "number {number} place {place} value {value}")?;
+        write!(f, " tick {tick} excess {excess}")
     }
 }
 
 impl From<Refusal> for Told {
     fn from(refusal: Refusal) -> Told {
-        Told::refused(refusal.number, refusal.place)
+        Told {
+            tick: refusal.tick,
+            excess: refusal.excess,
+            ..Told::refused(refusal.number, refusal.place)
+        }
     }
 }
 
@@ -256,7 +276,7 @@ mod tests {
     #[test]
     fn numbers_alone() {
         let desk = on_table(&EMPTY);
-        changes_nothing(Act::Version, &desk, Told::value(4));
+        changes_nothing(Act::Version, &desk, Told::value(5));
         for (number, blinks) in [(0, 0), (3, 1), (4, 2), (15, 5), (16, 0), (1 << 32 | 1, 0)] {
             changes_nothing(Act::Lamp(number), &desk, Told::value(blinks));
         }
@@ -293,6 +313,29 @@ mod tests {
         let mut counts = [0; 18];
         counts[1] = 8;
         assert_eq!(now.counts.part(), counts);
+    }
+
+    /// R103: ask, admit and run say by how much it is late; the line of the card says so too.
+    #[test]
+    fn case_j_is_late() {
+        let j = cases::all().into_iter().find(|case| case.name == "J");
+        let j = j.expect("case J");
+        let mut now = on_table(&j.table);
+        now.stretched = Lent::new(&j.request.stretched, GUARD.into());
+        now.card = Lent::new(&card::bytes(&j.table, &j.request), GUARD);
+        let told = Told {
+            number: 10,
+            place: 0,
+            value: 0,
+            tick: 3,
+            excess: 2,
+        };
+        changes_nothing(Act::Ask(j.request.into()), &now, told);
+        changes_nothing(Act::Admit(j.request.into()), &now, told);
+        changes_nothing(Act::Run(0), &now, told);
+        assert_eq!(told.refusal(), "refused 10 0 3 2");
+        assert_eq!(should(&Act::Answer, &mut now), Told::value(17));
+        assert_eq!(&now.out.part()[..18], b"refused 10 0 3 2\n\x07");
     }
 
     /// R100 to R102: a running line goes at its end, with what it has had; a waiting one at once.

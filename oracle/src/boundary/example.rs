@@ -66,9 +66,18 @@ mod tests {
         let asked =
             "refused 6 0\nshort refused 13 0\nrewritten 16 the same\nran refused 6 0 of 56\n";
         assert_eq!(example(zeros), asked);
-        let g = cases::all().into_iter().find(|case| case.name == "G");
-        let g = g.expect("case G");
-        let lines = example(&card::bytes(&g.table, &g.request));
-        assert!(lines.ends_with("\nran refused 9 0 of 56\n"), "{lines}");
+    }
+
+    #[test]
+    fn the_example_on_cases_that_are_refused() {
+        for (name, refused) in [("G", "refused 9 0"), ("J", "refused 10 0 3 2")] {
+            let case = cases::all().into_iter().find(|case| case.name == name);
+            let case = case.expect(name);
+            let wanted = format!("{refused}\nshort refused 13 0\nrewritten ");
+            let lines = example(&card::bytes(&case.table, &case.request));
+            assert!(lines.starts_with(&wanted), "{lines}");
+            let ran = format!(" the same\nran {refused} of 56\n");
+            assert!(lines.ends_with(&ran), "{lines}");
+        }
     }
 }

@@ -9,6 +9,8 @@ impl From<Numbers> for Told {
             number: numbers.number,
             place: numbers.place,
             value: numbers.value,
+            tick: numbers.tick,
+            excess: numbers.excess,
         }
     }
 }

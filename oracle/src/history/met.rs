@@ -1,6 +1,7 @@
 //! What the calls of a comparison can meet. One that does not meet all of it has looked at less than it says.
 
 mod counts;
+mod late;
 mod leaving;
 
 use crate::boundary::{Act, Desk, NewLine, Told};
@@ -45,5 +46,6 @@ pub type Meeting = (&'static str, fn(&Call) -> bool);
 
 /// Each of them.
 pub fn all() -> impl Iterator<Item = Meeting> {
-    counts::ALL.into_iter().chain(leaving::ALL)
+    let lines = leaving::ALL.into_iter().chain(late::ALL);
+    counts::ALL.into_iter().chain(lines)
 }

@@ -1,6 +1,7 @@
 //! The comparison finds what it should find, and its histories are short and can be done again.
 
 mod counts;
+mod late;
 mod leaving;
 
 use super::beside::{Beside, Doer};
@@ -214,6 +215,7 @@ fn each_fault_is_found_and_made_a_short_history_that_can_be_done_again() {
         ("lowest named", lowest_named, 2),
     ];
     let others = counts::FAULTS.into_iter().chain(leaving::FAULTS);
+    let others = others.chain(late::FAULTS);
     for (name, library, most) in faults.into_iter().chain(others) {
         let mut tally = Tally::default();
         let text = compared(library, CALLS, SEED, &mut tally).expect(name);
@@ -322,6 +324,18 @@ fn a_difference_among_steps_says_which() {
     let (said, same) = replay::replayed(step_stands, text).expect("a history");
     let wanted = "step 4\n# steps before it: 1\n# table clock 1, ";
     assert!(!same && said.contains(wanted), "{said}");
+}
+
+/// R103: by how much it is late stands behind the place, and what differs in it is shown.
+#[test]
+fn a_history_says_by_how_much_it_is_late() {
+    let text = "slot 0 runs 5 20 17 5\nslot 1 runs 10 20 0 0\nstretched 20 20\nask 1 4";
+    let said = format!("{text}: refused 10 0 3 2\nadmit 1 4: refused 10 0 3 2\n");
+    assert_eq!(replay::replayed(should, &said), Ok((said.clone(), true)));
+    let explained = "\n# told number 10 place 0 value 0 tick 2 excess 3\n\
+                     # by the rules number 10 place 0 value 0 tick 3 excess 2\n";
+    let wrong = replay::replayed(late::exchanged, &said);
+    assert_eq!(wrong, Ok((format!("{text}{explained}"), false)));
 }
 
 #[test]

@@ -7,6 +7,7 @@ use crate::boundary::Act;
 use crate::card;
 use crate::draw;
 use crate::draw_counts;
+use crate::draw_late;
 use crate::draw_leaving;
 use crate::image;
 use crate::orders;
@@ -58,7 +59,7 @@ impl Drawn<'_> {
     }
 
     pub fn turn(&mut self) -> Done {
-        match self.random.below(68) {
+        match self.random.below(70) {
             0..=22 => {
                 let request = self.draw_request();
                 self.ask(&request)
@@ -84,6 +85,7 @@ impl Drawn<'_> {
                 self.call(Act::Lamp(number)).map(|_| ())
             }
             63 => self.call(Act::Version).map(|_| ()),
+            64 | 65 => self.late_table(),
             _ => self.leave(),
         }
     }
@@ -241,6 +243,17 @@ impl Drawn<'_> {
                 self.call(Act::Leave(number))?;
             }
         }
+        self.lay(&before)
+    }
+
+    /// R103: a table whose lines alone are late or just in time is asked and admitted to, and then the table stands as it stood.
+    fn late_table(&mut self) -> Done {
+        let before = self.image();
+        let (mut table, request) = draw_late::late(self.random);
+        draw_counts::fitting(self.random, &mut table);
+        self.lay(&image::bytes(&table))?;
+        self.ask(&request)?;
+        self.admit(&request)?;
         self.lay(&before)
     }
 

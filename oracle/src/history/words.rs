@@ -23,15 +23,11 @@ pub fn line(operation: &Operation, all: &[Told], desk: &Desk) -> String {
     }
 }
 
-fn refused(told: &Told) -> String {
-    format!("refused {} {}", told.number, told.place)
-}
-
 /// What a call was told, or what it wrote.
 fn one(act: &Act, told: &Told, desk: &Desk) -> String {
     let (value, place) = (told.value, told.place);
     if told.number != 0 {
-        return refused(told);
+        return told.refusal();
     }
     let out = || desk.out.part().get(..value as usize).unwrap_or(&[]);
     match act {
@@ -62,7 +58,7 @@ fn steps(all: &[Told]) -> String {
     if let Some(told) = all.last().filter(|told| told.number != 0) {
         let space = if words.is_empty() { "" } else { " " };
         words += space;
-        words += &refused(told);
+        words += &told.refusal();
     }
     words
 }

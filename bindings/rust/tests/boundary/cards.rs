@@ -1,7 +1,9 @@
 //! Cards that go over the boundary whole (R64 to R66).
 
 use crate::lent::{writes, Lent, FILL};
-use crate::samples::{refused, CARD_A, CARD_A_MIXED, CARD_A_OLD, CARD_LEAVING, CARD_LEAVING_TWIN};
+use crate::samples::{
+    late, refused, CARD_A, CARD_A_MIXED, CARD_A_OLD, CARD_J, CARD_LEAVING, CARD_LEAVING_TWIN,
+};
 use trimthuel::{answer, rewrite, run, Refusal, Rewritten, CARD_MAX, LINE_MAX};
 
 /// The function on a card that is lent too, and stays.
@@ -35,6 +37,21 @@ fn r64_the_line() {
     let late = b"CK\xFF\xFF\xFF\xFF\xFF\xFF\xFF\xFFRQ\x01\0\x04\0";
     writes(of(answer, late), b"refused 1 0\n");
     assert_eq!(answer(CARD_A, &mut [0; LINE_MAX]), Ok(11));
+}
+
+/// R61, R103: the line of 10 has the tick and the excess behind the place. At the last clock at which a card can be asked, with the
+/// greatest excess there is, it is as long as it gets.
+#[test]
+fn r64_the_line_of_a_card_that_is_late() {
+    writes(of(answer, CARD_J), b"refused 10 0 3 2\n");
+    let greatest: &[u8] = b"CK\0\0\xFF\xFF\xFF\xFF\0\0\
+        TB\xFF\x7F\xFF\xFF\xFF\xFF\xFE\xFF\xFF\x7F\
+        TB\xFF\x7F\xFF\xFF\xFF\xFF\0\0\0\0\
+        RQ\x01\0\xFF\xFF";
+    writes(
+        of(answer, greatest),
+        b"refused 10 0 281474976645121 32766\n",
+    );
 }
 
 fn rewritten_length(card: &[u8], out: &mut [u8]) -> Result<usize, Refusal> {
@@ -93,6 +110,7 @@ fn r66_the_pump_runs() {
     assert_eq!(run(CARD_LEAVING_TWIN, 56), Ok(42));
     assert_eq!(run(b"CK", 1), refused(11, 0));
     assert_eq!(run(b"CK\0\0\0\0\0\0\0\0RQ\0\0\0\0", 1), refused(6, 0));
+    assert_eq!(run(CARD_J, 56), late(3, 2));
     // R35: the last ask is 65,536 ticks before the last tick, so that no run gets there.
     let late = b"CK\0\0\xFF\xFF\xFF\xFF\0\0RQ\x01\0\x01\0";
     assert_eq!(run(late, u16::MAX), Ok(65_535));

@@ -1,13 +1,19 @@
 //! The crate's words and constants are the header's.
 
-use crate::samples::refused;
+use crate::samples::{late, refused};
 use std::error::Error;
+use std::mem::{offset_of, size_of};
+use trimthuel::numbers::Numbers;
 use trimthuel::Refusal;
 
 const HEADER: &str = include_str!("../../../../include/trimthuel.h");
 
 fn refusal(number: u16) -> Refusal {
-    Refusal { number, place: 0 }
+    Refusal {
+        number,
+        place: 0,
+        late: None,
+    }
 }
 
 #[test]
@@ -44,6 +50,26 @@ fn the_same_constants() {
     assert_eq!(Vec::from_iter(defined), ours);
 }
 
+/// R63: the words of a result, each of 64 bits, in their order.
+#[test]
+fn the_same_result() {
+    let (_, behind) = HEADER
+        .split_once("struct trimthuel_result {\n")
+        .expect("the struct");
+    let (inside, _) = behind.split_once("};").expect("its end");
+    let name = |line: &'static str| line.trim().strip_prefix("uint64_t ")?.strip_suffix(';');
+    let names = inside.lines().map(|line| name(line).expect("a word"));
+    let ours = [
+        ("number", offset_of!(Numbers, number)),
+        ("place", offset_of!(Numbers, place)),
+        ("value", offset_of!(Numbers, value)),
+        ("tick", offset_of!(Numbers, tick)),
+        ("excess", offset_of!(Numbers, excess)),
+    ];
+    assert_eq!(Vec::from_iter(names.zip((0..).step_by(8))), ours);
+    assert_eq!(size_of::<Numbers>(), 8 * ours.len());
+}
+
 #[test]
 fn r50_the_lamp() {
     let blinks = Vec::from_iter((0..=17).map(|number| refusal(number).blinks()));
@@ -55,9 +81,28 @@ fn r50_the_lamp() {
     }
 }
 
+/// The words of an error.
+fn said(refusal: Result<(), Refusal>) -> String {
+    let told = || -> Result<(), Box<dyn Error>> { Ok(refusal?) };
+    told().map_or_else(|error| error.to_string(), |()| String::new())
+}
+
 #[test]
 fn a_refusal_is_an_error() {
-    let told = || -> Result<(), Box<dyn Error>> { Ok(refused(11, 22)?) };
-    let words = "refusal 11 at 22: a broken card or image";
-    assert_eq!(told().map_err(|error| error.to_string()), Err(words.into()));
+    assert_eq!(
+        said(refused(11, 22)),
+        "refusal 11 at 22: a broken card or image"
+    );
+}
+
+/// R103: the words of refusal 10 say when and by how much.
+#[test]
+fn a_refusal_says_by_how_much_it_is_late() {
+    let why = "refusal 10 at 0: the running lines alone come too late";
+    assert_eq!(said(refused(10, 0)), why);
+    assert_eq!(said(late(3, 2)), format!("{why}: 2 ticks short at tick 3"));
+    assert_eq!(
+        said(late(103, 1)),
+        format!("{why}: 1 tick short at tick 103")
+    );
 }

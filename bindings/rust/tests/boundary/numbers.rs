@@ -1,17 +1,30 @@
-//! R63: all three numbers of a result, those too that the rest of the crate leaves out.
+//! R63: all five numbers of a result, those too that the rest of the crate leaves out.
 
 use crate::lent::Lent;
 use crate::samples::{
-    admitted, case_a, counted, image, leaving, BENCH, CARD_A, CARD_A_OLD, CARD_LEAVING, DEPARTED,
-    IDLE, LAST_TICK,
+    admitted, case_a, case_j, counted, image, leaving, BENCH, BENCH_J, CARD_A, CARD_A_OLD, CARD_J,
+    CARD_LEAVING, DEPARTED, IDLE, LAST_TICK,
 };
 use trimthuel::numbers::{self, Numbers, NO_SLOT};
 use trimthuel::{Request, CARD_MAX, COUNTS, LINE_MAX, REQUEST_SIZE, SLOTS, TABLE_SIZE};
 
-/// Number, place, value.
+/// Number, place, value, tick, excess.
 #[track_caller]
-fn is(told: Numbers, wanted: [u64; 3]) {
-    assert_eq!([told.number, told.place, told.value], wanted);
+fn is_late(told: Numbers, wanted: [u64; 5]) {
+    let Numbers {
+        number,
+        place,
+        value,
+        tick,
+        excess,
+    } = told;
+    assert_eq!([number, place, value, tick, excess], wanted);
+}
+
+/// Number, place, value; R103: tick and excess are 0 wherever the number is not 10.
+#[track_caller]
+fn is(told: Numbers, [number, place, value]: [u64; 3]) {
+    is_late(told, [number, place, value, 0, 0]);
 }
 
 /// A call with a request's numbers; the stretched periods are lent, and stay.
@@ -36,6 +49,25 @@ fn ask_and_admit() {
             wanted,
         );
     }
+}
+
+/// R103: what 10 says; of a card the line is what was asked for, and the call is granted.
+#[test]
+fn late() {
+    let (mut table, wanted) = (case_j(), [10, 0, 0, 3, 2]);
+    is_late(
+        with(BENCH_J, |c, t, all| numbers::ask(&table, c, t, all)),
+        wanted,
+    );
+    is_late(
+        with(BENCH_J, |c, t, all| numbers::admit(&mut table, c, t, all)),
+        wanted,
+    );
+    assert_eq!(table, case_j());
+    is_late(numbers::run(CARD_J, 0), wanted);
+    is(numbers::answer(CARD_J, &mut [0; LINE_MAX]), [0, 0, 17]);
+    is(numbers::answer(CARD_J, &mut [0; 16]), [13, 0, 0]);
+    is(numbers::rewrite(CARD_J, &mut [0; CARD_MAX]), [0, 0, 40]);
 }
 
 #[test]

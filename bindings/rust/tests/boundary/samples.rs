@@ -1,6 +1,6 @@
-//! Tables as images, written from R81 alone, and the card of case A.
+//! Tables as images, written from R81 alone, and cards.
 
-use trimthuel::{Refusal, Request, TABLE_SIZE};
+use trimthuel::{Late, Refusal, Request, TABLE_SIZE};
 
 pub type Image = [u8; TABLE_SIZE];
 
@@ -121,7 +121,33 @@ pub fn case_e_leaving() -> Image {
     image(40, &lines)
 }
 
+/// R67: the table of case J, its request and its card.
+pub fn case_j() -> Image {
+    image(0, &[(0, running(5, 20, 17, 5)), (1, running(10, 20, 0, 0))])
+}
+pub const BENCH_J: Request = Request::new(1, 4).stretch(0, 20).stretch(1, 20);
+pub const CARD_J: &[u8] = b"CK\0\0\0\0\0\0\0\0\
+    TB\x05\0\x14\0\x14\0\x11\0\x05\0\
+    TB\x0A\0\x14\0\x14\0\0\0\0\0\
+    RQ\x01\0\x04\0";
+
+/// R103: no refusal but 10 says by how much it is late.
 pub fn refused<T>(number: u16, place: usize) -> Result<T, Refusal> {
-    let place = place as u64;
-    Err(Refusal { number, place })
+    let (place, late) = (place as u64, None);
+    Err(Refusal {
+        number,
+        place,
+        late,
+    })
+}
+
+/// R103: refusal 10, and what it says.
+pub fn late<T>(tick: u64, excess: u32) -> Result<T, Refusal> {
+    let late = Some(Late { tick, excess });
+    let (number, place) = (10, 0);
+    Err(Refusal {
+        number,
+        place,
+        late,
+    })
 }

@@ -1,4 +1,4 @@
--- `answer::put` is safe: the array has 40 bytes, so that its first `len` are `len`.
+-- `answer::put` is safe: the array has 72 bytes, so that its first `len` are `len`.
 use native.Mathlib.Omega.{arith}
 use lib.ListN.{length-take}
 use borrow.Author.Needs.{needs}

@@ -11,5 +11,4 @@ pass-all-requires c κs = (fit-test-says _ _ _ _ (c .before .before .fits2 .ensu
 pub over-ends-spec : {M : Type 1} → statement M
 over-ends-spec =
     tie.close
-    (tie.spec (λ c κs. search needs) (λ c. search needs) (λ c. search ends-unfit) (λ c. search needs) (λ c. search ends-needless) pass-all-requires
-    (λ c. search ends-passed))
+    (tie.spec (λ c κs. search needs) (λ c. search ends-unfit) (λ c. search ends-needless) pass-all-requires (λ c. search ends-passed))

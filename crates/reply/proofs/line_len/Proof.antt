@@ -13,13 +13,16 @@ returns c =
 
 returns-2 : tie.Need-returns-2
 returns-2 c =
-    let w = c .before .before in
+    let w = c .before .before .before in
     let b = w .before .before .a2 .given in
-    let m = c .before .places2 .ensures .0 in
-    (refused-length (b .0 .0) _ _ _ (b .1) (w .wide .ensures .0) m (c .places3 .ensures .0), omega (arith, digits-short 4 (w .wide .result) (omega arith)))
+    let m = c .before .before .places2 .ensures .0 in
+    let p = c .before .places3 .ensures in (
+      refused-length (b .0 .0) _ _ _ _ (b .1) (w .wide .ensures .0) m (p .0) (c .lateness-len .ensures .0),
+      omega (arith, p .2, c .lateness-len .ensures .1, digits-short 4 (w .wide .result) (omega arith)),
+    )
 
 pub line-len-spec : {M : Type 1} → statement M
 line-len-spec =
     tie.close
     (tie.spec (λ c. search needs) (λ c κs. search needs) (λ c. search needs) (λ c. search needs) (λ c κs. search needs) (λ c κs. search needs)
-    (λ c. search needs) (λ c κs. search needs) (λ c. search needs) returns returns-2)
+    (λ c. search needs) (λ c κs. search needs) (λ c. search needs) (λ c κs. search needs) (λ c. search needs) returns returns-2)

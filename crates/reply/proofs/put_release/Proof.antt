@@ -14,7 +14,7 @@ returns c =
     let e2 = e3 .before .before .before .before .before in
     let e1 = e2 .before .before .before .before in
     let a = e1 .before .before .before .before .args in
-    let word = lay-on release (lay-start (a .out .now)) (e1 .add-bytes .ensures) in
+    let word = lay-on release (lay-start 0 (a .out .now) (omega arith)) (e1 .add-bytes .ensures) in
     let start = lay-on (digits (a .start)) word (e2 .add-number .ensures) in
     lay-on lineFeed start (e3 .add-bytes2 .ensures) .same
 

@@ -1,4 +1,4 @@
--- `reply::reply_to` meets its contract: the line is laid on 40 bytes that are 0.
+-- `reply::reply_to` meets its contract: the line is laid on 72 bytes that are 0.
 use Rattle.table.specs.Ask.{says}
 use Rattle.reply.specs.Line.{answerLine}
 use Rattle.reply.proofs.Laid.{replied}

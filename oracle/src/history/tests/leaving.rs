@@ -16,7 +16,7 @@ pub const FAULTS: [Fault; 17] = [
     ("16 before 4", sixteen_before_4, 2),
     ("15 tested", fifteen_tested, 2),
     ("renews all the same", renews_all_the_same, 2),
-    ("a count stays", count_stays, 2),
+    ("a count stays", count_stays, 4),
     ("last tick lost", last_tick_lost, 2),
     ("empty slots depart", empty_slots_depart, 4),
     ("asked as if it renewed", asked_as_renewing, 6),
