@@ -34,7 +34,7 @@ use Rattle.theory.proofs.Unique.{answers-unique}
 use Rattle.promises.specs.Excluded.{MeetsAsk, MeetsStep, MeetsLeave, RefusesEverything, SaysTheClock, LeavesTheTable, OnlyMovesTheClock, OnlySaysSo, DropsAtOnce, MeetsRead, MeetsWrite, OneRequest, WritesNothing}
 
 -- whatever meets ask's contract gives each case its answer
-right-in : (f : Table → Request → Answer) → MeetsAsk f → (c : Case) → Answers (c .table) (c .request) (c .answer)
+pub right-in : (f : Table → Request → Answer) → MeetsAsk f → (c : Case) → Answers (c .table) (c .request) (c .answer)
     → says (f (c .table) (c .request)) ≡ c .answer
 right-in f m c h = answers-unique (c .table) (c .request) (says (f (c .table) (c .request))) (c .answer) (m (c .table) (c .request)) h
 

@@ -16,9 +16,10 @@ use Rattle.table.specs.declared.Answer.{Answer}
 use Rattle.table.specs.Words.{refusal, shortRefusal, refuses}
 use Rattle.table.specs.Grounds.{asked}
 use Rattle.table.specs.Ask.{says, askIn, askOf}
-use Rattle.table.specs.Cases.{Case, line, case, caseG}
+use Rattle.table.specs.Cases.{Case, line, case, cases, caseG}
 use Rattle.theory.proofs.Answers.{ask-answers}
-use Rattle.theory.proofs.Unique.{answers-unique}
+use Rattle.theory.proofs.Cases.{cases-answer}
+use Rattle.promises.proofs.Excluded.{right-in}
 use Rattle.promises.specs.Excluded.{MeetsAsk, firstListed, TenOf, FirstBySlot, GreatestExcess, FromTheClock, OneTooGreat, KeptInAnother}
 
 -- at clock 100 slot 1 ends at 103, two ticks short, and slot 0 at 107, four ticks short
@@ -29,13 +30,9 @@ late-asked : says (askOf (late .table) (late .request)) ≡ late .answer
 unfolding euclid gcdOf lcmOf frameFrom total lowest due lastEnd mapAt periodsIn every endsBefore endsOf slack bound greatest soonestOf firstShort start askIn askOf
 late-asked = refl
 
--- whatever meets ask's contract says what is computed
-says-so : (f : Table → Request → Answer) → MeetsAsk f → (t : Table) (q : Request) → says (f t q) ≡ says (askOf t q)
-says-so f m t q = answers-unique t q (says (f t q)) (says (askOf t q)) (m t q) (ask-answers t q)
-
 module _ (f : Table → Request → Answer) (m : MeetsAsk f) where
   says-late : says (f (late .table) (late .request)) ≡ refuses (shortRefusal 103 2)
-  says-late = says-so f m (late .table) (late .request) ∙ late-asked
+  says-late = right-in f m late (rw late-asked at (ask-answers (late .table) (late .request)))
 
   slot-order : firstListed (shortAt 100 (asked (late .table) (late .request))) (endsOf 100 (lastEnd 100 (asked (late .table) (late .request))) (asked (late .table) (late .request))) ≡ 107
   unfolding total due lastEnd mapAt every endsBefore endsOf
@@ -73,12 +70,12 @@ module _ (f : Table → Request → Answer) (m : MeetsAsk f) where
       let h : 2 ≡ 1 + 2 = rw first-excess at (w (late .table) (late .request) _ says-late refl) in
       omega arith
 
-  nine-asked : says (askOf (caseG .table) (caseG .request)) ≡ refuses (refusal 9 0)
-  unfolding euclid gcdOf lcmOf frameFrom total lowest due lastEnd mapAt periodsIn every endsBefore endsOf slack bound greatest soonestOf firstShort start askIn askOf
-  nine-asked = refl
+  says-nine : says (f (caseG .table) (caseG .request)) ≡ refuses (refusal 9 0)
+  unfolding cases
+  says-nine = right-in f m caseG (cases-answer .1 .1 .1 .1 .1 .1 .0)
 
   -- R103: no other refusal says an excess
   pub no-ask-keeps-an-excess : KeptInAnother f → ⊥
   no-ask-keeps-an-excess w =
-      let h : 1 ≤ 0 = w (caseG .table) (caseG .request) _ (says-so f m (caseG .table) (caseG .request) ∙ nine-asked) in
+      let h : 1 ≤ 0 = w (caseG .table) (caseG .request) _ says-nine in
       omega arith

@@ -1,6 +1,6 @@
 -- Refusal 10 names the first short end, and a pump that goes on from the table misses a period by then: with its own periods more is wanted, not less.
 use mathlib.Core.Path.{_≡_, sym, ap, subst, _∙_}
-use Prim.Native.Nat.{ℕ, _+_, _-_, _<_}
+use Prim.Native.Nat.{ℕ, _+_, _-_, _≤_, _<_}
 use native.Mathlib.Omega.{arith}
 use lib.ListN.{length}
 use Rattle.line.specs.Demand.{demands, ticksShort}
@@ -54,3 +54,7 @@ ten-tells t q x six a ten =
       subst (λ (y : Refusal). Short t q (y .tick) (y .excess)) (sym e) short,
       subst (λ (y : Refusal). Tells t q (y .tick)) (sym e) told,
     )
+
+-- R104: by that tick at the latest: the period that ends short ends there or before
+pub short-by : (t : Table) (q : Request) (d : ℕ) (w : Tells t q d) → t .clock + w .ends-short .steps + 1 ≤ d
+short-by t q d w = omega (arith, w .ends-short .before)
