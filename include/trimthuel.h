@@ -1,12 +1,12 @@
 /*
- * The pump's boundary for C and C++: numbers and byte buffers only. The rules, R1 to R104, are those of
+ * The pump's boundary for C and C++: numbers and byte buffers only. The rules, R1 to R107, are those of
  * docs/RULES.md.
  *
- * A table stands in 297 bytes that the caller keeps, its image (R81): the lines, and counts of what each
- * has had (R95). A card is a table and a request as bytes (R52 to R55); it carries no count. A request is
- * the need and the period of a new line, and a stretched period for each slot: not below the present one,
- * and equal to it where the line leaves (R25); the entry of a slot that holds no running line is never
- * looked at (R6).
+ * A table stands in 298 bytes that the caller keeps, its image (R81): the lines, counts of what each has
+ * had (R95), and the slot that got the last tick (R105). A card is a table and a request as bytes (R52 to
+ * R55); it carries no count and no last slot. A request is the need and the period of a new line, and a
+ * stretched period for each slot: not below the present one, and equal to it where the line leaves (R25);
+ * the entry of a slot that holds no running line is never looked at (R6).
  *
  * Any bytes of any length may be handed in as an image or a card: what is broken is refused. Every call
  * answers a result, or a plain number where nothing can be refused. A refusal leaves every lent byte as
@@ -33,19 +33,19 @@ extern "C" {
 #endif
 
 /* R93: of the boundary that this header declares. The library's own is trimthuel_version(). */
-#define TRIMTHUEL_VERSION 5
+#define TRIMTHUEL_VERSION 6
 
 /*
- * R81: of the layout of an image, its first byte. An image of version 1, which had no counts, or of version 2,
- * which had no line that leaves, is refused with 11 at 0.
+ * R81: of the layout of an image, its first byte. An image of version 1, which had no counts, of version 2, which
+ * had no line that leaves, or of version 3, which had no last slot, is refused with 11 at 0.
  */
-#define TRIMTHUEL_IMAGE_VERSION 3
+#define TRIMTHUEL_IMAGE_VERSION 4
 
 /* R2: slots of a table. */
 #define TRIMTHUEL_SLOTS 16
 
 /* R81: bytes of an image. */
-#define TRIMTHUEL_TABLE_SIZE 297
+#define TRIMTHUEL_TABLE_SIZE 298
 
 /* R95: counts of a table: one for each slot, then the idle count, then the departed count. */
 #define TRIMTHUEL_COUNTS 18
@@ -59,7 +59,7 @@ extern "C" {
 /* R61: every answer line fits so many bytes, its newline included. */
 #define TRIMTHUEL_LINE_MAX 72
 
-/* R63: the slot in a result that is none. */
+/* R63, R105: the slot that is none, in a result and as an image's last byte. */
 #define TRIMTHUEL_NO_SLOT 255
 
 /*
@@ -110,7 +110,7 @@ uint8_t trimthuel_lamp(uint64_t number);
 
 /* The pump. `table` is an image, and refusal 11 comes before any other (R83). */
 
-/* R85: writes the image of the empty table, with which a pump begins. The value is 297. Refuses with 13. */
+/* R85: writes the image of the empty table, with which a pump begins. The value is 298. Refuses with 13. */
 struct trimthuel_result trimthuel_empty(uint8_t *table, size_t table_len);
 
 /*
@@ -131,8 +131,10 @@ struct trimthuel_result trimthuel_admit(uint8_t *table, size_t table_len, uint16
                                         const uint16_t stretched[TRIMTHUEL_SLOTS]);
 
 /*
- * R88: one tick. The value is the slot that got it, or TRIMTHUEL_NO_SLOT. Refuses with 11, 15, 4 or 14;
- * on a table that came from the empty one by these calls alone, with 15 only (R74).
+ * R88: one tick. The value is the slot that got it, or TRIMTHUEL_NO_SLOT. Of the lines that are owed ticks it goes
+ * to one whose period ends first: where several end so, to the one that got the last tick, whose valve stays open,
+ * else to the lowest slot (R44). Refuses with 11, 15, 4 or 14; on a table that came from the empty one by these
+ * calls alone, with 15 only (R74).
  */
 struct trimthuel_result trimthuel_step(uint8_t *table, size_t table_len);
 
@@ -168,7 +170,7 @@ struct trimthuel_result trimthuel_write_card(const uint8_t *table, size_t table_
 
 /*
  * R92: reads a card into an image and a request: the sixteen stretched periods, then need and period. The
- * value is 297. Refuses with 11 at a byte offset of the card, then with 13 where `table` is too short.
+ * value is 298. Refuses with 11 at a byte offset of the card, then with 13 where `table` is too short.
  */
 struct trimthuel_result trimthuel_read_card(const uint8_t *card, size_t card_len, uint8_t *table, size_t table_len,
                                             uint16_t request[TRIMTHUEL_REQUEST_SIZE]);

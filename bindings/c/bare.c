@@ -55,11 +55,12 @@ static int is(struct trimthuel_result result, uint64_t number, uint64_t place, u
 static uint8_t pump[TRIMTHUEL_TABLE_SIZE];
 static uint64_t counts[TRIMTHUEL_COUNTS];
 
+/* The stretched periods where no line runs, and where one of period 2 keeps it in slot 0. */
+static const uint16_t none[TRIMTHUEL_SLOTS] = {0}, kept[TRIMTHUEL_SLOTS] = {2};
+
 /* A line with 1 tick in every 2 runs at once; one that wants the whole pump beside it is refused (R28). Both ticks are counted (R97). */
 static int pump_is_right(void)
 {
-    static const uint16_t none[TRIMTHUEL_SLOTS] = {0}, kept[TRIMTHUEL_SLOTS] = {2};
-
     return trimthuel_version() == TRIMTHUEL_VERSION && is(trimthuel_step(pump, sizeof pump), 11, 0, 0) &&
            is(trimthuel_empty(pump, sizeof pump), 0, 0, TRIMTHUEL_TABLE_SIZE) &&
            is(trimthuel_admit(pump, sizeof pump, 1, 2, none), 0, 0, 0) &&
@@ -82,10 +83,20 @@ static int line_goes(void)
            counts[TRIMTHUEL_SLOTS + 1] == 2;
 }
 
+/* When slot 1 has had its first tick both lines' periods end two ticks later: it goes on, and slot 0 is last (R44, R105). */
+static int valve_stays_open(void)
+{
+    return is(trimthuel_admit(pump, sizeof pump, 1, 2, none), 0, 0, 4) &&
+           is(trimthuel_admit(pump, sizeof pump, 2, 4, kept), 0, 1, 4) &&
+           pump[TRIMTHUEL_TABLE_SIZE - 1] == TRIMTHUEL_NO_SLOT && is(trimthuel_step(pump, sizeof pump), 0, 0, 0) &&
+           is(trimthuel_step(pump, sizeof pump), 0, 0, 1) && is(trimthuel_step(pump, sizeof pump), 0, 0, 1) &&
+           is(trimthuel_step(pump, sizeof pump), 0, 0, 0) && pump[TRIMTHUEL_TABLE_SIZE - 1] == 0;
+}
+
 /* Linux enters here with the stack as no caller leaves it, and is left by its call 60. */
 __attribute__((force_align_arg_pointer, noreturn)) void _start(void)
 {
-    long status = pump_is_right() && line_goes() ? 0 : 1;
+    long status = pump_is_right() && line_goes() && valve_stays_open() ? 0 : 1;
 
     for (;;)
         __asm__ volatile("syscall" : : "a"(60L), "D"(status) : "rcx", "r11", "memory");

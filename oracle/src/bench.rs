@@ -11,19 +11,19 @@ mod figures;
 mod steps;
 
 use crate::card;
+use crate::digits::grouped;
+use crate::published;
 use crate::random::Random;
 use asks::{best, many_ends, ours, paper, Asks};
 use figures::{Part, Row};
 use std::hint::black_box;
 use std::panic;
 
-/// The periods T0 whose sets are asked.
-const SETS: [u64; 6] = [60, 90, 125, 150, 181, 200];
 const SEED: u64 = 3;
 
 fn published_sets(fine: &mut bool) -> Part {
     let mut random = Random::new(SEED);
-    let rows = SETS.map(|first_period| {
+    let rows = published::SHOWN.map(|first_period| {
         let asks = Asks::published(&mut random, first_period);
         *fine &= asks.agree();
         let times = vec![
@@ -51,7 +51,7 @@ fn worst(fine: &mut bool) -> Part {
         let asks = Asks::new(vec![many_ends(count, last, apart)]);
         *fine &= asks.agree();
         let shared = if apart { "" } else { ", ends shared by all" };
-        let ends = figures::grouped((count * (usize::from(last) - 1) / 15) as f64);
+        let ends = grouped((count * (usize::from(last) - 1) / 15) as u64);
         let times = vec![
             asks.ours(),
             asks.paper(),

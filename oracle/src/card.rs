@@ -38,7 +38,7 @@ pub struct Parsed {
     pub turned: u16,
 }
 
-/// R56: what the reader hands out; beside a refusal nothing but zeros, and no count in any case.
+/// R56: what the reader hands out; beside a refusal nothing but zeros, and no count and no last slot in any case.
 #[derive(Clone, Copy, Debug, PartialEq, Eq)]
 pub struct Reading {
     pub refusal: Option<Refusal>,
@@ -253,6 +253,7 @@ mod tests {
     use crate::cases::{self, CARD_A};
     use crate::draw;
     use crate::draw_counts;
+    use crate::draw_last;
     use crate::draw_leaving;
     use crate::orders;
     use crate::random::Random;
@@ -458,7 +459,7 @@ mod tests {
     }
 
     #[test]
-    fn a_written_card_reads_back_with_zeros_in_empty_slots_and_counts() {
+    fn a_written_card_reads_back_with_zeros_in_empty_slots_and_counts_and_no_last_slot() {
         let mut random = Random::new(31);
         for round in 0..5_000 {
             let (mut table, mut request) = drawn(&mut random, round);
@@ -468,8 +469,9 @@ mod tests {
                 }
             }
             draw_counts::any(&mut random, &mut table);
+            draw_last::any(&mut random, &mut table);
             let reading = read(&bytes(&table, &request));
-            table.counts = NO_COUNTS;
+            (table.counts, table.last) = (NO_COUNTS, 255);
             for slot in 0..SLOTS {
                 if table.slots[slot] == Content::Nothing {
                     request.stretched[slot] = 0;

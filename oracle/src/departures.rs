@@ -1,12 +1,11 @@
 //! Lines that are let go (R100), their last period (R46, R99) and what is counted of them (R101). The answers are worked out by hand
 //! from docs/RULES.md.
 
+use crate::by_hand::{leaves, refused, runs, stepped, table, waits};
 use crate::cases::LAST_CLOCK;
 use crate::edges;
 use crate::rules::{admit, ask, leave, ready, step};
-use crate::types::{
-    Content, Follows, Refusal, Request, Run, Table, Wait, COUNTS, EMPTY, SLOTS, ZEROS,
-};
+use crate::types::{Content, Request, Table, COUNTS, EMPTY, SLOTS, ZEROS};
 
 /// R81: the places of the idle count and of the departed one.
 const IDLE: usize = 16;
@@ -14,46 +13,6 @@ const DEPARTED: usize = 17;
 
 /// R7: 2^48 in digits of its own, as `LAST_CLOCK`.
 const LAST: u64 = 281_474_976_710_656;
-
-/// R3: a running line by C, T, age and remaining.
-fn line([need, period, age, remaining]: [u16; 4], follows: Follows) -> Content {
-    Content::Running(Run {
-        need,
-        period,
-        age,
-        remaining,
-        follows,
-    })
-}
-
-fn runs(numbers: [u16; 4]) -> Content {
-    line(numbers, Follows::Renews)
-}
-
-fn leaves(numbers: [u16; 4]) -> Content {
-    line(numbers, Follows::Leaves)
-}
-
-/// R3: a waiting line by C, T and wait.
-fn waits([need, period, wait]: [u16; 3]) -> Content {
-    Content::Waiting(Wait { need, period, wait })
-}
-
-/// A table by its clock, some slots, and some counts by their places.
-fn table(clock: u64, slots: &[(usize, Content)], counts: &[(usize, u64)]) -> Table {
-    let mut table = Table { clock, ..EMPTY };
-    for (slot, content) in slots {
-        table.slots[*slot] = *content;
-    }
-    for (place, ticks) in counts {
-        *table.counts.at_mut(*place) = *ticks;
-    }
-    table
-}
-
-fn refused<T>(number: u8, place: u64) -> Result<T, Refusal> {
-    Err(Refusal::named(number, place))
-}
 
 /// R100: from then on it leaves, and nothing else of it or beside it changes.
 #[test]
@@ -152,17 +111,6 @@ fn at_any_clock() {
         assert_eq!(leave(&table, 6).map(|(ticks, _)| ticks), Ok(0));
         assert_eq!(leave(&table, 16), refused(16, 16));
     }
-}
-
-/// The slots that ran, and the table after.
-fn stepped(mut table: Table, times: usize) -> (Vec<Option<usize>>, Table) {
-    let mut ran = Vec::new();
-    for _ in 0..times {
-        let (next, slot) = step(&table).expect("in order");
-        ran.push(slot);
-        table = next;
-    }
-    (ran, table)
 }
 
 /// R46, R100, R101: asked at age 0 it has that whole period, all its need in it, and then its slot holds nothing.

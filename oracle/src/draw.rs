@@ -1,5 +1,5 @@
-//! Tables and requests drawn from the generator, for tests, vectors and histories. They have no counts and no line that leaves:
-//! `draw_counts.rs` and `draw_leaving.rs` draw those.
+//! Tables and requests drawn from the generator, for tests, vectors and histories. They have no counts, no line that leaves and no last
+//! slot: `draw_counts.rs`, `draw_leaving.rs` and `draw_last.rs` draw those.
 
 use crate::random::Random;
 use crate::rules;
@@ -79,8 +79,8 @@ fn lay(random: &mut Random, drawn: &[Run]) -> Table {
     table
 }
 
-/// Runs the table for some ticks, as the published task sets are run before the request. What they count is left out: the
-/// clock is drawn after them, and a card carries no count.
+/// Runs the table for some ticks, as the published task sets are run before the request. What the ticks count, and who got the last, is
+/// left out: the clock is drawn after them, and a card carries neither.
 fn run_for(table: Table, ticks: u64) -> Table {
     let mut now = table;
     for _ in 0..ticks {
@@ -90,7 +90,7 @@ fn run_for(table: Table, ticks: u64) -> Table {
         }
     }
     now.counts = NO_COUNTS;
-    now
+    now.without_last()
 }
 
 /// Stretched periods that divide `base`, between T and five times T.
@@ -356,6 +356,16 @@ fn content(random: &mut Random) -> Content {
         }),
         _ => Content::Nothing,
     }
+}
+
+/// One of the slots whose content answers yes, or any slot where none does.
+#[cfg(any(test, feature = "house"))]
+pub fn slot(random: &mut Random, table: &Table, question: impl Fn(&Content) -> bool) -> usize {
+    let slots = (0..SLOTS).filter(|slot| question(&table.slots[*slot]));
+    let slots: Vec<usize> = slots.collect();
+    let any = random.below(SLOTS as u64) as usize;
+    let drawn = random.below(slots.len() as u64) as usize;
+    slots.get(drawn).copied().unwrap_or(any)
 }
 
 /// R7: a clock at the limits, or any.

@@ -44,7 +44,7 @@ fn compared(library: Doer, calls: u64, seed: u64, tally: &mut Tally) -> Option<S
 }
 
 /// Compares at least so many calls; true when none differs, each refusal was met that is given at all, and so was all that can be
-/// met of the counts, of lines that leave and of lines that are late.
+/// met of the counts, of lines that leave, of lines that are late and of the last slot.
 #[cfg(feature = "house")]
 pub fn compare(calls: u64, seed: u64) -> bool {
     let begun = std::time::Instant::now();

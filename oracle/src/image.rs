@@ -4,10 +4,10 @@ use crate::card;
 use crate::types::{Content, Follows, Refusal, Run, Table, Wait, COUNTS, EMPTY, SLOTS};
 
 /// R81: bytes of every image.
-pub const LENGTH: usize = 297;
+pub const LENGTH: usize = 298;
 
 /// R81: the only version there is.
-pub const VERSION: u8 = 3;
+pub const VERSION: u8 = 4;
 
 /// R81: where the clock and slot 0 stand, and the bytes of a slot.
 pub const CLOCK: usize = 1;
@@ -17,6 +17,9 @@ pub const SLOT_LENGTH: usize = 9;
 /// R81: where the count of slot 0 stands, behind the last slot, and the bytes of a count.
 pub const FIRST_COUNT: usize = 153;
 pub const COUNT_LENGTH: usize = 8;
+
+/// R81: where the last slot stands, behind the counts.
+pub const LAST: usize = 297;
 
 /// R81: the kinds of a slot.
 const NOTHING: u8 = 0;
@@ -126,6 +129,7 @@ pub fn read(image: &[u8]) -> Result<Table, Refusal> {
     for place in 0..COUNTS {
         *table.counts.at_mut(place) = count(image, place);
     }
+    table.last = image[LAST];
     Ok(table)
 }
 
@@ -153,6 +157,7 @@ pub fn bytes(table: &Table) -> Vec<u8> {
     image.extend(table.clock.to_le_bytes());
     image.extend(table.slots.iter().flat_map(slot_bytes));
     image.extend(table.counts.all().iter().flat_map(|n| n.to_le_bytes()));
+    image.push(table.last);
     image
 }
 
@@ -167,10 +172,11 @@ mod tests {
     use crate::cases;
     use crate::draw;
     use crate::draw_counts;
+    use crate::draw_last;
     use crate::draw_leaving;
     use crate::random::Random;
 
-    /// Slots of each kind, and no byte of their numbers and of the counts is 0 or, among the counts, like another.
+    /// Slots of each kind, and no byte of their numbers, of the counts and of the last slot is 0 or, behind the slots, like another.
     fn all_kinds() -> Table {
         let run = |follows| {
             Content::Running(Run {
@@ -195,6 +201,7 @@ mod tests {
             let above = 0x0808_0808_0808_0808 * place as u64;
             *table.counts.at_mut(place) = 0x2726_2524_2322_2120 + above;
         }
+        table.last = 0xB0;
         table
     }
 
@@ -213,7 +220,7 @@ mod tests {
     #[test]
     fn the_layout_byte_by_byte() {
         let mut wanted = vec![
-            3, 0x11, 0x12, 0x13, 0x14, 0x15, 0x16, 0x17, 0x18, // version, clock
+            4, 0x11, 0x12, 0x13, 0x14, 0x15, 0x16, 0x17, 0x18, // version, clock
             1, 1, 2, 3, 4, 5, 6, 7, 8, // slot 0 runs and renews
             0, 0, 0, 0, 0, 0, 0, 0, 0, // slot 1
             2, 9, 10, 11, 12, 13, 14, 0, 0, // slot 2 waits
@@ -225,15 +232,16 @@ mod tests {
         wanted.extend([3, 1, 2, 3, 4, 5, 6, 7, 8]);
         assert_eq!(wanted.len(), 153);
         wanted.extend(0x20..0x20 + 18 * 8);
-        assert_eq!(bytes(&all_kinds()), wanted);
         assert_eq!(wanted.len(), 297);
+        wanted.push(0xB0);
+        assert_eq!(bytes(&all_kinds()), wanted);
         assert_eq!(read(&wanted), Ok(all_kinds()));
     }
 
     #[test]
     fn the_empty_table() {
-        let mut wanted = [0; 297];
-        wanted[0] = 3;
+        let mut wanted = [0; 298];
+        (wanted[0], wanted[297]) = (4, 255);
         assert_eq!(bytes(&EMPTY), wanted);
         assert_eq!(read(&wanted), Ok(EMPTY));
     }
@@ -251,11 +259,25 @@ mod tests {
         }
     }
 
+    /// R105: each of the 256 values is a last slot.
     #[test]
-    fn version_3_alone() {
+    fn any_last_slot() {
+        let image = bytes(&all_kinds());
+        for last in 0..=255 {
+            let table = Table {
+                last,
+                ..all_kinds()
+            };
+            assert_eq!(read(&with(&image, 297, last)), Ok(table));
+            assert_eq!(bytes(&table), with(&image, 297, last));
+        }
+    }
+
+    #[test]
+    fn version_4_alone() {
         let image = bytes(&all_kinds());
         for version in 0..=255 {
-            let wanted = (version != 3).then_some(0);
+            let wanted = (version != 4).then_some(0);
             assert_eq!(refused(&with(&image, 0, version)), wanted, "{version}");
         }
     }
@@ -300,15 +322,15 @@ mod tests {
         long.extend([0; 20]);
         for length in 0..long.len() {
             let wanted = match length {
-                297 => None,
-                0..=296 => Some(length),
-                _ => Some(297),
+                298 => None,
+                0..=297 => Some(length),
+                _ => Some(298),
             };
             assert_eq!(refused(&long[..length]), wanted, "{length}");
         }
         // The length is wrong at its own offset, whatever the last byte that is there belongs to.
-        for length in [0, 1, 8, 9, 152, 153, 281, 289, 296, 298] {
-            assert_eq!(refused(&long[..length]), Some(length.min(297)));
+        for length in [0, 1, 8, 9, 152, 153, 281, 289, 297, 299] {
+            assert_eq!(refused(&long[..length]), Some(length.min(298)));
         }
     }
 
@@ -318,8 +340,8 @@ mod tests {
         long.push(0);
         // The kinds of slots 0, 5 and 15, two blank bytes, and the version.
         for offset in [0, 9, 18 + 1, 27 + 7, 27 + 8, 54, 144] {
-            let broken = with(&long, offset, 4);
-            for length in 0..=298 {
+            let broken = with(&long, offset, 5);
+            for length in 0..=299 {
                 let wanted = offset.min(length);
                 assert_eq!(
                     refused(&broken[..length]),
@@ -343,20 +365,20 @@ mod tests {
     }
 
     #[test]
-    fn a_buffer_of_297_bytes_against_296() {
+    fn a_buffer_of_298_bytes_against_297() {
         let table = all_kinds();
         let mut buffer = [7; 304];
-        let short = write(&table, &mut buffer[..296]);
+        let short = write(&table, &mut buffer[..297]);
         assert_eq!((short, buffer), (Err(Refusal::at(13, 0)), [7; 304]));
         assert_eq!(write(&table, &mut []), Err(Refusal::at(13, 0)));
-        assert_eq!(write(&table, &mut buffer[..297]), Ok(297));
+        assert_eq!(write(&table, &mut buffer[..298]), Ok(298));
         assert_eq!(
-            (&buffer[..297], &buffer[297..]),
-            (&bytes(&table)[..], &[7; 7][..])
+            (&buffer[..298], &buffer[298..]),
+            (&bytes(&table)[..], &[7; 6][..])
         );
         buffer = [8; 304];
-        assert_eq!(write(&table, &mut buffer), Ok(297));
-        assert_eq!(&buffer[297..], [8; 7]);
+        assert_eq!(write(&table, &mut buffer), Ok(298));
+        assert_eq!(&buffer[298..], [8; 6]);
     }
 
     #[test]
@@ -369,6 +391,7 @@ mod tests {
             };
             draw_leaving::any(&mut random, &mut table);
             draw_counts::any(&mut random, &mut table);
+            draw_last::any(&mut random, &mut table);
             assert_eq!(read(&bytes(&table)), Ok(table));
         }
         for case in cases::all() {
@@ -396,8 +419,8 @@ mod tests {
                     reading += usize::from(reads);
                 }
             }
-            // R83: each byte of the counts may be any.
-            assert!((36_864 + 2_000..76_032).contains(&reading), "{reading}");
+            // R83: each byte of the counts and the last slot may be any.
+            assert!((37_120 + 2_000..76_288).contains(&reading), "{reading}");
         }
     }
 
@@ -408,7 +431,7 @@ mod tests {
         for _ in 0..5_000 {
             let mut image = bytes(&draw::any(&mut random).0);
             for _ in 0..1 + random.below(3) {
-                let offset = random.below(297) as usize;
+                let offset = random.below(298) as usize;
                 let kind = offset < 153 && offset % 9 == 0;
                 image[offset] = random.below(if kind { 5 } else { 256 }) as u8;
             }

@@ -3,23 +3,31 @@
 #[cfg(feature = "house")]
 mod bench;
 mod boundary;
+#[cfg(test)]
+mod by_hand;
 mod card;
 mod cases;
 #[cfg(test)]
 mod departures;
 mod digest;
+mod digits;
 mod draw;
 #[cfg(any(test, feature = "house"))]
 mod draw_counts;
+#[cfg(any(test, feature = "house"))]
+mod draw_last;
 mod draw_late;
 mod draw_leaving;
 mod edge_cards;
 #[cfg(test)]
 mod edge_counts;
+#[cfg(test)]
+mod edge_last;
 mod edge_late;
 mod edge_leaving;
 mod edges;
 mod esit;
+mod handovers;
 #[cfg(any(test, feature = "house"))]
 mod history;
 #[cfg(any(test, feature = "house"))]
@@ -47,6 +55,7 @@ oracle rewrite < CARD
 oracle example < CARD
 oracle stored OUT_DIR
 oracle sweep [FROM TO]
+oracle handovers
 oracle bench [RUNS]             (feature house)
 oracle count WAY [T0] TIMES     (feature house)
 oracle compare CALLS SEED|new   (feature house)
@@ -146,6 +155,7 @@ fn command(words: &[&str]) -> io::Result<bool> {
             }
             _ => usage(),
         },
+        ["handovers"] => say(handovers::figure()),
         _ => beside_the_house(words),
     }
 }

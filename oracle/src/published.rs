@@ -7,13 +7,13 @@
 //! (72, 180), stretched to 720; T3 is the least common multiple of T0, 120 and 180, and
 //! C3 = (1 − (C0/T0 + C1/T1 + C2/T2)) × T3; the new line is (3, 5). All start at time 0. Sets
 //! with T3 above 65,535 do not fit sixteen bits: of the 201 sets 184 can be rebuilt. Equal ends
-//! go to the lowest slot (R44), and the order τ3, τ2, τ1, τ0 in the slots gives the published answers.
+//! go to the lowest slot, whoever ran before, and the order τ3, τ2, τ1, τ0 in the slots gives the published answers.
 
 use crate::cases;
 use crate::digest::Digest;
 use crate::esit;
 use crate::rules;
-use crate::types::{Request, Table};
+use crate::types::{Refusal, Request, Table};
 use std::time::Instant;
 
 /// (T0, request tick t_r, earliest smooth release time).
@@ -31,6 +31,9 @@ pub const ANSWERS: [(u64, u64, u64); 9] = [
 
 /// The periods T0 of table 1.
 pub const FIRST_PERIODS: std::ops::RangeInclusive<u64> = 50..=250;
+
+/// The periods T0 whose sets have a row of their own in a figure.
+pub const SHOWN: [u64; 6] = [60, 90, 125, 150, 181, 200];
 
 /// T3, the least common multiple of T0, 120 and 180, and so of all periods before compression.
 pub fn round(first_period: u64) -> u64 {
@@ -57,11 +60,17 @@ pub fn set(first_period: u64) -> Option<(Table, Request)> {
     Some(cases::row(0, &lines, (3, 5)))
 }
 
+/// A step by the paper's rule for equal ends: its tables and answers belong to that, and R44 would come to other tables. With no last
+/// slot R44 says the same; so that is forgotten before each step, and no second rule is needed.
+pub fn step(table: &Table) -> Result<(Table, Option<usize>), Refusal> {
+    rules::step(&table.without_last())
+}
+
 /// The table at the request tick: stepped on from time 0, with no request before.
 pub fn at(start: &Table, tick: u64) -> Table {
     let mut now = *start;
     while now.clock < tick {
-        match rules::step(&now) {
+        match step(&now) {
             Ok((next, _)) => now = next,
             Err(_) => break,
         }

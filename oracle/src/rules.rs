@@ -1,5 +1,5 @@
-//! The rules of docs/RULES.md: refusals 1 to 10 in their order (R18), by how much 10 is late (R103), ask, admit, step,
-//! leave, what is counted (R97, R101), lamp, ready word.
+//! The rules of docs/RULES.md: refusals 1 to 10 in their order (R18), by how much 10 is late (R103), ask and admit; in `step.rs`
+//! what the pump does from tick to tick.
 //!
 //! Nothing here computes a start by a formula. The excess is summed from its definition for one
 //! tick after the other, and the starts are tried one after the other. Times are counted from
@@ -28,9 +28,16 @@
 //! 0 (R29), the rest to at most t × load ≤ t (R28). The search does not use this; it only ends because of
 //! it, and the answer fits sixteen bits as T' − a does.
 
+mod step;
+
+pub use step::step;
+#[cfg(test)]
+pub use step::ticked;
+#[cfg(any(test, feature = "house"))]
+pub use step::{first_to_end, lamp, leave, ready};
+
 use crate::types::{
-    Content, Counts, Follows, Refusal, Request, Run, Table, Wait, FRAME_LIMIT, LAST_ASK, LAST_TICK,
-    SLOTS,
+    Content, Follows, Refusal, Request, Run, Table, Wait, FRAME_LIMIT, LAST_ASK, SLOTS,
 };
 
 /// A running line under a request: the line with its T'.
@@ -350,132 +357,17 @@ fn begin(need: u16, period: u16) -> Content {
     })
 }
 
-/// R48: the clock is tested first, then the lines and the counts, then the ends of periods. The next table
-/// and the slot that ran, or none.
-pub fn step(table: &Table) -> Result<(Table, Option<usize>), Refusal> {
-    if table.clock >= LAST_TICK {
-        return Err(Refusal::at(15, 0));
-    }
-    if let Some(place) = fault(table) {
-        return Err(Refusal::at(4, place));
-    }
-    let ran = chosen(table);
-    let mut next = *table;
-    if let Some(Content::Running(run)) = ran.map(|slot| &mut next.slots[slot]) {
-        run.remaining -= 1;
-    }
-    for (slot, content) in next.slots.iter_mut().enumerate() {
-        *content = older(*content).ok_or(Refusal::at(14, slot))?;
-    }
-    next.clock += 1;
-    // R101: the tick is counted before the line that got it is gone.
-    count(&mut next.counts, ran);
-    for slot in 0..SLOTS {
-        if table.slots[slot].is_leaving() && next.slots[slot] == Content::Nothing {
-            depart(&mut next.counts, slot);
-        }
-    }
-    Ok((next, ran))
-}
-
-/// R97: a tick of the slot that ran, or of none. R96 has let through no more counts than the clock, which is below R7's last tick: no
-/// count is near its end.
-fn count(counts: &mut Counts, ran: Option<usize>) {
-    match ran {
-        Some(slot) => counts.had[slot] += 1,
-        None => counts.idle += 1,
-    }
-}
-
-/// R101: what the line of a slot has had is had by lines that are gone. R96 has let through no more counts than the clock, and so
-/// two of them together are a number of 64 bits too.
-fn depart(counts: &mut Counts, slot: usize) {
-    counts.departed += counts.had[slot];
-    counts.had[slot] = 0;
-}
-
-/// R100: the lines and the counts are tested first, then the number. In how many ticks the slot holds nothing, and the next table.
-#[cfg(any(test, feature = "house"))]
-pub fn leave(table: &Table, number: u64) -> Result<(u64, Table), Refusal> {
-    if let Some(place) = fault(table) {
-        return Err(Refusal::at(4, place));
-    }
-    let none = Refusal::named(16, number);
-    let slot = (0..SLOTS).find(|slot| *slot as u64 == number).ok_or(none)?;
-    let mut next = *table;
-    match &mut next.slots[slot] {
-        Content::Running(run) if run.follows == Follows::Renews => {
-            run.follows = Follows::Leaves;
-            Ok((u64::from(run.period - run.age), next))
-        }
-        content if content.is_waiting() => {
-            *content = Content::Nothing;
-            depart(&mut next.counts, slot);
-            Ok((0, next))
-        }
-        _ => Err(none),
-    }
-}
-
-/// R44: of the lines that are owed ticks the one whose period ends first, the lower slot among equals.
-fn chosen(table: &Table) -> Option<usize> {
-    let owing = table.running().filter(|(_, run)| run.remaining > 0);
-    // min_by_key gives the first of equal values, and slots come from 0 up.
-    let least = owing.min_by_key(|(_, run)| run.period - run.age);
-    least.map(|(slot, _)| slot)
-}
-
-/// R45 to R47: a tick goes by for a slot, its line being served before where it got the tick. None
-/// where a period ends with ticks still owed, R34. Only sound lines come here.
-fn older(content: Content) -> Option<Content> {
-    match content {
-        Content::Nothing => Some(Content::Nothing),
-        Content::Running(run) if run.age + 1 < run.period => Some(Content::Running(Run {
-            age: run.age + 1,
-            ..run
-        })),
-        Content::Running(run) if run.remaining > 0 => None,
-        Content::Running(run) if run.leaves() => Some(Content::Nothing),
-        Content::Running(run) => Some(begin(run.need, run.period)),
-        Content::Waiting(line) if line.wait > 1 => Some(Content::Waiting(Wait {
-            wait: line.wait - 1,
-            ..line
-        })),
-        Content::Waiting(line) => Some(begin(line.need, line.period)),
-    }
-}
-
-/// R50: how often the front lamp blinks.
-#[cfg(any(test, feature = "house"))]
-pub fn lamp(number: u64) -> u64 {
-    match number {
-        1..=3 => 1,
-        4..=6 => 2,
-        7..=10 => 3,
-        11..=13 => 4,
-        14 | 15 => 5,
-        _ => 0,
-    }
-}
-
-/// R49: a bit for each slot whose line is owed ticks.
-#[cfg(any(test, feature = "house"))]
-pub fn ready(table: &Table) -> u16 {
-    let owing = table.running().filter(|(_, run)| run.remaining > 0);
-    owing.fold(0, |word, (slot, _)| word | 1 << slot)
-}
-
 #[cfg(test)]
 mod tests {
     use super::*;
     use crate::cases;
     use crate::draw;
     use crate::draw_counts;
+    use crate::draw_last;
     use crate::draw_late;
     use crate::draw_leaving;
     use crate::edges;
     use crate::random::Random;
-    use crate::types::EMPTY;
 
     /// R10 word by word, counted from t0.
     fn demand(line: &Stretched, t: i64) -> i64 {
@@ -637,12 +529,36 @@ mod tests {
                 1 => draw_counts::too_many(&mut random, &mut table),
                 _ => draw_counts::fitting(&mut random, &mut table),
             }
+            draw_last::any(&mut random, &mut table);
             let asked = ask(&table, &request);
             assert_eq!(admit(&table, &request).map(|(start, _)| start), asked);
             let _ = step(&table);
             let _ = leave(&table, random.below(20));
             let _ = ready(&table);
         }
+    }
+
+    /// R107: asked with each of the 256 values; R105: what is admitted has the same one.
+    #[test]
+    fn neither_ask_nor_admit_looks_at_the_last_slot() {
+        let mut random = Random::new(17);
+        let mut granted = 0;
+        for round in 0..400 {
+            let (table, request) = match round % 4 {
+                0 => draw_late::late(&mut random),
+                1 => draw_last::tied(&mut random),
+                _ => draw_leaving::small(&mut random),
+            };
+            let told = admit(&table.without_last(), &request);
+            granted += u64::from(told.is_ok());
+            for last in 0..=u8::MAX {
+                let marked = Table { last, ..table };
+                let same = told.map(|(start, next)| (start, Table { last, ..next }));
+                assert_eq!(ask(&marked, &request), told.map(|(start, _)| start));
+                assert_eq!(admit(&marked, &request), same, "{last}");
+            }
+        }
+        assert!((100..300).contains(&granted), "{granted}");
     }
 
     #[test]
@@ -688,72 +604,5 @@ mod tests {
                 };
             }
         }
-    }
-
-    fn one(content: Content, clock: u64) -> Table {
-        let mut table = EMPTY;
-        table.clock = clock;
-        table.slots[5] = content;
-        table
-    }
-
-    #[test]
-    fn step_refusals_in_order() {
-        let line = |age, remaining| {
-            Content::Running(Run {
-                need: 2,
-                period: 4,
-                age,
-                remaining,
-                follows: Follows::Renews,
-            })
-        };
-        let last = LAST_TICK;
-        assert_eq!(step(&one(line(4, 2), last)), Err(Refusal::at(15, 0)));
-        assert_eq!(step(&one(line(4, 2), last - 1)), Err(Refusal::at(4, 5)));
-        assert_eq!(step(&one(line(3, 2), 0)), Err(Refusal::at(14, 5)));
-        let (next, ran) = step(&one(line(3, 1), last - 1)).expect("ends in time");
-        assert_eq!(
-            (next.clock, next.slots[5], ran),
-            (last, line(0, 2), Some(5))
-        );
-        let (next, ran) = step(&one(line(1, 0), 0)).expect("nothing owed");
-        assert_eq!((next.slots[5], ran), (line(2, 0), None));
-    }
-
-    #[test]
-    fn step_of_waiting_lines() {
-        let wait = |wait| {
-            Content::Waiting(Wait {
-                need: 2,
-                period: 4,
-                wait,
-            })
-        };
-        assert_eq!(step(&one(wait(0), 0)), Err(Refusal::at(4, 5)));
-        let (next, ran) = step(&one(wait(2), 0)).expect("waits");
-        assert_eq!((next.slots[5], ran), (wait(1), None));
-        let (next, _) = step(&next).expect("starts");
-        assert_eq!(next.slots[5], begin(2, 4));
-    }
-
-    #[test]
-    fn equal_ends_go_to_the_lowest_slot() {
-        let mut table = EMPTY;
-        for slot in [3, 7, 9] {
-            table.slots[slot] = begin(1, 8);
-        }
-        let (next, ran) = step(&table).expect("sound");
-        assert_eq!((ran, ready(&table), ready(&next)), (Some(3), 0x288, 0x280));
-    }
-
-    #[test]
-    fn lamp_ranges() {
-        let blinks: Vec<u64> = (0..18).map(lamp).collect();
-        assert_eq!(
-            blinks,
-            [0, 1, 1, 1, 2, 2, 2, 3, 3, 3, 3, 4, 4, 4, 5, 5, 0, 0]
-        );
-        assert_eq!(lamp(u64::MAX), 0);
     }
 }

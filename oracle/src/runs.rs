@@ -1,7 +1,8 @@
-//! R79, R80: over runs (R73), what is counted against a list of the slots that ran, kept here, and what becomes of a line that is
-//! asked to leave.
+//! R79, R80, R106: over runs (R73), what is counted against a list of the slots that ran, kept here, what becomes of a line that is
+//! asked to leave, and who goes on.
 
 use crate::draw;
+use crate::published;
 use crate::random::Random;
 use crate::rules;
 use crate::types::{Content, Follows, Request, Run as Line, Table, EMPTY, SLOTS};
@@ -20,13 +21,15 @@ struct Asked {
 }
 
 /// A run: its table, the slots that ran, tick by tick, how many ticks there were when each slot's line was admitted, and of the
-/// lines that leave when they were asked; and how many ticks the lines had that are gone.
+/// lines that leave when they were asked; how many ticks the lines had that are gone; and how often a line went on though one in a lower
+/// slot ended as soon.
 struct Run {
     table: Table,
     ran: Vec<Option<usize>>,
     admitted: [Option<usize>; SLOTS],
     asked: [Option<Asked>; SLOTS],
     departed: u64,
+    went_on: u64,
 }
 
 impl Run {
@@ -37,12 +40,36 @@ impl Run {
             admitted: [None; SLOTS],
             asked: [None; SLOTS],
             departed: 0,
+            went_on: 0,
         }
     }
 
+    /// R105: by the list, the slot of the line that got the last tick, if that line is there: a new one in its slot was admitted after it.
+    fn on(&self) -> Option<usize> {
+        let slot = (*self.ran.last()?)?;
+        let since = self.admitted[slot]?;
+        (since < self.ran.len()).then_some(slot)
+    }
+
+    /// R106: the line that got the last tick has the next one, if it is owed one and nobody ends sooner; else R44, the lowest slot of those
+    /// that end first.
+    fn next(&self) -> Option<usize> {
+        let left = |slot: usize| match self.table.slots[slot] {
+            Content::Running(line) if line.remaining > 0 => Some(line.period - line.age),
+            _ => None,
+        };
+        let least = (0..SLOTS).filter_map(left).min()?;
+        let mut ends_first = (0..SLOTS).filter(|slot| left(*slot) == Some(least));
+        let on = self.on().filter(|slot| left(*slot) == Some(least));
+        on.or(ends_first.next())
+    }
+
     fn step(&mut self) {
+        let (wanted, lowest) = (self.next(), published::step(&self.table));
         // R74: no step of a run is refused.
         let (next, slot) = rules::step(&self.table).expect("a run");
+        assert_eq!(slot, wanted);
+        self.went_on += u64::from(lowest.is_ok_and(|(_, lowest)| lowest != slot));
         self.ran.push(slot);
         self.table = next;
         for slot in 0..SLOTS {
@@ -127,6 +154,8 @@ impl Run {
         assert_eq!(counts.departed, self.departed);
         let all = counts.had.iter().sum::<u64>() + counts.idle + counts.departed;
         assert_eq!((all, self.ran.len() as u64), (self.table.clock, all));
+        // R105: whatever was asked, admitted, let go or refused since.
+        assert_eq!(self.table.last, self.on().map_or(255, |slot| slot as u8));
     }
 }
 
@@ -190,9 +219,9 @@ fn act(random: &mut Random, run: &mut Run) -> Done {
 }
 
 #[test]
-fn every_tick_is_accounted_for() {
+fn every_tick_is_accounted_for_and_who_ran_goes_on() {
     let mut random = Random::new(71);
-    let (mut done, mut waiting, mut idle, mut departed) = ([0; 5], 0, 0, 0);
+    let (mut done, mut waiting, mut idle, mut departed, mut went_on) = ([0; 5], 0, 0, 0, 0);
     for _ in 0..RUNS {
         let mut run = Run::new();
         for _ in 0..ACTS {
@@ -202,7 +231,8 @@ fn every_tick_is_accounted_for() {
         }
         idle += run.table.counts.idle;
         departed += run.table.counts.departed;
+        went_on += run.went_on;
     }
-    let seen = [&done[..], &[waiting, idle, departed]].concat();
+    let seen = [&done[..], &[waiting, idle, departed, went_on]].concat();
     assert!(seen.iter().all(|times| *times > 100), "{seen:?}");
 }

@@ -53,6 +53,7 @@ fn runs_smoothly(table: &Table, request: &Request, start: u64, last_end: u64) ->
 #[cfg(test)]
 mod tests {
     use super::*;
+    use crate::draw_last;
     use crate::draw_late;
     use crate::draw_leaving;
     use crate::edges;
@@ -74,7 +75,9 @@ mod tests {
         let mut random = Random::new(21);
         let (mut answered, mut later) = (0, 0);
         for _ in 0..20_000 {
-            let (table, request) = draw_leaving::small(&mut random);
+            let (mut table, request) = draw_leaving::small(&mut random);
+            // R107: whoever ran last, the tried starts are smooth or not as before.
+            draw_last::any(&mut random, &mut table);
             let Ok(start) = rules::ask(&table, &request) else {
                 continue;
             };
@@ -113,10 +116,11 @@ mod tests {
         let mut random = Random::new(22);
         let mut seen = 0;
         for round in 0..20_000 {
-            let (table, request) = match round % 4 {
+            let (mut table, request) = match round % 4 {
                 0 => draw_late::late(&mut random),
                 _ => draw_leaving::small(&mut random),
             };
+            draw_last::any(&mut random, &mut table);
             if let Some(refusal) = late(&table, &request) {
                 misses_as_told(&table, &request, refusal);
                 seen += 1;

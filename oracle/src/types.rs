@@ -1,4 +1,4 @@
-//! Tables, lines, counts, requests and refusals (R2 to R8, R17, R95, R99, R103) as types of this program's own.
+//! Tables, lines, counts, last slots, requests and refusals (R2 to R8, R17, R95, R99, R103, R105) as types of this program's own.
 
 use std::fmt;
 
@@ -74,12 +74,17 @@ pub const NO_COUNTS: Counts = Counts {
     departed: 0,
 };
 
-/// R2: a clock, 16 slots and their counts.
+/// R105: the last slot that is none.
+pub const NO_LAST: u8 = 255;
+
+/// R2: a clock, 16 slots, their counts and the last slot.
 #[derive(Clone, Copy, Debug, PartialEq, Eq)]
 pub struct Table {
     pub clock: u64,
     pub slots: [Content; SLOTS],
     pub counts: Counts,
+    /// R105: the number of the slot that got the last tick, or any other, which names no slot.
+    pub last: u8,
 }
 
 /// R4: where every run begins.
@@ -87,6 +92,7 @@ pub const EMPTY: Table = Table {
     clock: 0,
     slots: [Content::Nothing; SLOTS],
     counts: NO_COUNTS,
+    last: NO_LAST,
 };
 
 /// R6: T' slot by slot, then Cn and Tn.
@@ -249,7 +255,12 @@ impl Table {
             })
     }
 
-    /// The same without their slots, to be changed.
+    /// R44: those of them that are owed.
+    pub fn owed(&self) -> impl Iterator<Item = (usize, &Run)> {
+        self.running().filter(|(_, run)| run.remaining > 0)
+    }
+
+    /// The running lines without their slots, to be changed.
     #[cfg(any(test, feature = "house"))]
     pub fn running_mut(&mut self) -> impl Iterator<Item = &mut Run> {
         self.slots.iter_mut().filter_map(|content| match content {
@@ -305,5 +316,18 @@ impl Table {
     /// The lowest slot that holds nothing.
     pub fn lowest_empty(&self) -> Option<usize> {
         self.lowest(|content| *content == Content::Nothing)
+    }
+
+    /// R105: the slot that got the last tick, whatever it holds; none where the number names no slot.
+    pub fn last_slot(&self) -> Option<usize> {
+        Some(usize::from(self.last)).filter(|slot| *slot < SLOTS)
+    }
+
+    /// The same after a tick of nobody.
+    pub fn without_last(&self) -> Table {
+        Table {
+            last: NO_LAST,
+            ..*self
+        }
     }
 }

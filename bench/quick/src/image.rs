@@ -2,17 +2,19 @@
 
 use crate::pump::{Held, Pump};
 
-/// R81: bytes of an image, of a slot and of a count, and where slot 0, its count, the idle count and the departed one stand.
-const LENGTH: usize = 297;
+/// R81: bytes of an image, of a slot and of a count, and where slot 0, its count, the idle count, the departed one and the last slot
+/// stand.
+const LENGTH: usize = 298;
 const SLOT: usize = 9;
 const COUNT: usize = 8;
 const FIRST: usize = 9;
 const HAD: usize = 153;
 const IDLE: usize = 281;
 const DEPARTED: usize = 289;
+const LAST: usize = 297;
 
 /// R81: the version.
-const VERSION: u8 = 3;
+const VERSION: u8 = 4;
 
 /// R81: what the nine bytes of a slot hold, or the first of them that is wrong.
 #[inline]
@@ -41,7 +43,7 @@ fn held(slot: &[u8]) -> Result<Held, usize> {
     }
 }
 
-/// R83: the refusal of bytes whose length is not 297. With zeros for what is missing, nothing is wrong behind what is there.
+/// R83: the refusal of bytes whose length is not 298. With zeros for what is missing, nothing is wrong behind what is there.
 #[cold]
 fn wrong_length(image: &[u8]) -> (u16, u64) {
     let there = image.len().min(LENGTH);
@@ -76,7 +78,8 @@ fn read_whole(image: &[u8; LENGTH], pump: &mut Pump) -> Result<(), (u16, u64)> {
         *place = eight(count);
     }
     pump.idle = eight(&image[IDLE..DEPARTED]);
-    pump.departed = eight(&image[DEPARTED..]);
+    pump.departed = eight(&image[DEPARTED..LAST]);
+    pump.last = image[LAST];
     Ok(())
 }
 
@@ -102,7 +105,8 @@ fn write_image(pump: &Pump, image: &mut [u8; LENGTH]) {
         place.copy_from_slice(&count.to_le_bytes());
     }
     image[IDLE..DEPARTED].copy_from_slice(&pump.idle.to_le_bytes());
-    image[DEPARTED..].copy_from_slice(&pump.departed.to_le_bytes());
+    image[DEPARTED..LAST].copy_from_slice(&pump.departed.to_le_bytes());
+    image[LAST] = pump.last;
     let slots = image[FIRST..HAD].chunks_exact_mut(SLOT);
     for (held, slot) in pump.slots.iter().zip(slots) {
         let (kind, numbers) = match *held {
@@ -155,10 +159,10 @@ pub fn ready_image(image: &[u8]) -> Result<u16, (u16, u64)> {
 mod tests {
     use super::*;
 
-    /// A line that runs in slot 0, one that waits in slot 15, and at tick 3 a tick of slot 0's line and two idle ones.
+    /// A line that runs in slot 0, one that waits in slot 15, and at tick 3 a tick of slot 0's line and then two idle ones.
     fn image() -> [u8; LENGTH] {
         let mut image = [0; LENGTH];
-        (image[0], image[1], image[153], image[281]) = (3, 3, 1, 2);
+        (image[0], image[1], image[153], image[281], image[297]) = (4, 3, 1, 2, 255);
         image[9..18].copy_from_slice(&[1, 2, 0, 4, 0, 1, 0, 2, 0]);
         image[144..153].copy_from_slice(&[2, 1, 0, 4, 0, 1, 0, 0, 0]);
         image
@@ -170,7 +174,7 @@ mod tests {
         assert_eq!(ready_image(&stepped), Ok(1));
         assert_eq!(step_image(&mut stepped), Ok(Some(0)));
         let mut wanted = image();
-        (wanted[1], wanted[153]) = (4, 2);
+        (wanted[1], wanted[153], wanted[297]) = (4, 2, 0);
         wanted[9..18].copy_from_slice(&[1, 2, 0, 4, 0, 2, 0, 1, 0]);
         wanted[144..153].copy_from_slice(&[1, 1, 0, 4, 0, 0, 0, 1, 0]);
         assert_eq!(stepped, wanted);
@@ -188,6 +192,7 @@ mod tests {
         assert_eq!(step_image(&mut stepped), Ok(Some(15)));
         let mut wanted = image();
         (wanted[1], wanted[153], wanted[273], wanted[289]) = (5, 0, 1, 2);
+        wanted[297] = 15;
         wanted[9..18].fill(0);
         wanted[144..153].copy_from_slice(&[1, 1, 0, 4, 0, 1, 0, 0, 0]);
         assert_eq!(stepped, wanted);
@@ -198,7 +203,7 @@ mod tests {
         for place in 0..18 {
             let mut counted = image();
             counted[1..9].fill(0);
-            counted[153..].fill(0);
+            counted[153..297].fill(0);
             // R96: 255 × 256^6 is above the clock of 0; the ready word is told all the same.
             counted[153 + 8 * place + 6] = 255;
             assert_eq!(step_image(&mut counted), Err((4, 0)));
@@ -209,8 +214,8 @@ mod tests {
     #[test]
     fn the_first_fault() {
         for (offset, byte) in [
-            (0, 2),
-            (0, 4),
+            (0, 3),
+            (0, 5),
             (18, 4),
             (19, 1),
             (26, 9),
@@ -221,12 +226,26 @@ mod tests {
             let mut broken = image().to_vec();
             broken[offset] = byte;
             broken.push(0);
-            for length in 0..=298 {
+            for length in 0..=299 {
                 let wanted = Err((11, offset.min(length) as u64));
                 assert_eq!(step_image(&mut broken[..length]), wanted);
             }
         }
-        assert_eq!(ready_image(&image()[..296]), Err((11, 296)));
-        assert_eq!(ready_image(&[&image()[..], &[0]].concat()), Err((11, 297)));
+        assert_eq!(ready_image(&image()[..297]), Err((11, 297)));
+        assert_eq!(ready_image(&[&image()[..], &[0]].concat()), Err((11, 298)));
+    }
+
+    /// R44, R105: any last slot is read, and the one that got the tick is written.
+    #[test]
+    fn who_ran_goes_on() {
+        for last in 0..=255 {
+            let mut tied = image();
+            tied[144..153].copy_from_slice(&[1, 1, 0, 4, 0, 1, 0, 1, 0]);
+            tied[297] = last;
+            let ran = if last == 15 { 15 } else { 0 };
+            assert_eq!(ready_image(&tied), Ok(0x8001));
+            assert_eq!(step_image(&mut tied), Ok(Some(ran)));
+            assert_eq!(usize::from(tied[297]), ran);
+        }
     }
 }

@@ -1,7 +1,13 @@
-//! The table (R2 to R6, R95, R99) and its step (R44 to R48, R97, R101), in place.
+//! The table (R2 to R6, R95, R99, R105) and its step (R44 to R48, R97, R101, R105), in place.
 
 /// R2: slots of a table.
 pub const SLOTS: usize = 16;
+
+/// R105: the last slot that is none.
+const NONE: u8 = 255;
+
+/// R44: above the ticks that are left of any period.
+const NOT_OWED: u32 = 1 << 16;
 
 /// R2, R3, R99: what a slot holds.
 #[derive(Clone, Copy, Debug, PartialEq, Eq)]
@@ -21,7 +27,8 @@ pub enum Held {
     },
 }
 
-/// R2: the table; R95: what the present line of each slot has had, the ticks in which none ran, and those of lines that are gone.
+/// R2: the table; R95: what the present line of each slot has had, the ticks in which none ran, and those of lines that are gone;
+/// R105: the slot that got the last tick.
 #[derive(Clone, Copy, Debug, PartialEq, Eq)]
 pub struct Pump {
     pub clock: u64,
@@ -29,6 +36,7 @@ pub struct Pump {
     pub had: [u64; SLOTS],
     pub idle: u64,
     pub departed: u64,
+    pub last: u8,
 }
 
 /// R6: the request.
@@ -58,7 +66,7 @@ impl Held {
 
     /// R44: ticks to the end of the period of a line that is owed a tick.
     #[inline]
-    fn key(self) -> u32 {
+    fn left(self) -> u32 {
         match self {
             Held::Running {
                 period,
@@ -66,7 +74,7 @@ impl Held {
                 remaining,
                 ..
             } if remaining > 0 => u32::from(period) - u32::from(age),
-            _ => u32::MAX,
+            _ => NOT_OWED,
         }
     }
 
@@ -108,7 +116,7 @@ impl Held {
 }
 
 impl Pump {
-    /// R4, R56: a table of this clock, with nothing in any slot and nothing counted.
+    /// R4, R56: a table of this clock, with nothing in any slot, nothing counted and no last slot.
     #[inline]
     pub(crate) fn new(clock: u64) -> Pump {
         Pump {
@@ -117,6 +125,7 @@ impl Pump {
             had: [0; SLOTS],
             idle: 0,
             departed: 0,
+            last: NONE,
         }
     }
 
@@ -137,15 +146,38 @@ impl Pump {
         had + u128::from(self.idle) + u128::from(self.departed)
     }
 
-    /// R101: what the lines of these slots had, a bit for each, is had by lines that are gone.
+    /// R101: what the lines of these slots had, a bit for each, is had by lines that are gone. R105: none of them goes on.
     #[cold]
     fn depart(&mut self, gone: u16) {
         for (i, had) in self.had.iter_mut().enumerate() {
             if gone >> i & 1 == 1 {
                 self.departed += *had;
                 *had = 0;
+                if usize::from(self.last) == i {
+                    self.last = NONE;
+                }
             }
         }
+    }
+
+    /// R24, then R44: who gets the tick. What is left with its slot below it is one key, so that the lowest slot's is the least.
+    #[inline]
+    fn chosen(&self) -> Result<Option<usize>, (u16, u64)> {
+        let mut key = u32::MAX;
+        for (i, held) in self.slots.iter().enumerate() {
+            if !held.sound() {
+                return Err((4, i as u64));
+            }
+            key = key.min(held.left() << 4 | i as u32);
+        }
+        if self.overcounted() {
+            return Err((4, 0));
+        }
+        let (left, lowest) = (key >> 4, key as usize % SLOTS);
+        let last = usize::from(self.last);
+        let goes_on = self.slots.get(last).is_some_and(|l| l.left() == left);
+        let slot = if goes_on { last } else { lowest };
+        Ok((left < NOT_OWED).then_some(slot))
     }
 
     /// R48: one tick; the slot that ran or none, or the refusal's number and place, with the table as it was.
@@ -157,17 +189,7 @@ impl Pump {
         if self.clock >= 1 << 48 {
             return Err((15, 0));
         }
-        let mut best = (u32::MAX, SLOTS);
-        for (i, held) in self.slots.iter().enumerate() {
-            if !held.sound() {
-                return Err((4, i as u64));
-            }
-            best = best.min((held.key(), i));
-        }
-        if self.overcounted() {
-            return Err((4, 0));
-        }
-        let ran = (best.0 < u32::MAX).then_some(best.1);
+        let ran = self.chosen()?;
         let mut gone = 0;
         for (i, held) in self.slots.iter().enumerate() {
             if let Held::Running {
@@ -197,7 +219,8 @@ impl Pump {
             Some(i) => self.had[i] += 1,
             None => self.idle += 1,
         }
-        // R101: the tick is counted before.
+        self.last = ran.map_or(NONE, |i| i as u8);
+        // R101, R105: the tick is counted before.
         if gone != 0 {
             self.depart(gone);
         }
@@ -296,5 +319,60 @@ mod tests {
         pump.slots[5] = line(3, 1, true);
         pump.slots[3] = line(3, 1, true);
         assert_eq!(pump.step(), Err((14, 5)));
+    }
+
+    /// R44: the line that ran goes on, else the lowest slot's. One that ends later, is owed nothing or is not there is not looked at.
+    #[test]
+    fn who_ran_goes_on() {
+        let ends_together = [2, 5, 9];
+        for last in 0..=255 {
+            let mut pump = Pump::new(10);
+            (pump.slots[0], pump.slots[7]) = (line(1, 1, false), line(2, 0, false));
+            for slot in ends_together {
+                pump.slots[usize::from(slot)] = line(2, 1, slot == 5);
+            }
+            pump.last = last;
+            let goes_on = ends_together.contains(&last);
+            let ran = if goes_on { last } else { 2 };
+            assert_eq!(pump.step(), Ok(Some(ran.into())));
+            assert_eq!(pump.last, ran);
+        }
+    }
+
+    /// R44: the whole of the longest period is left, and in the highest slot.
+    #[test]
+    fn the_longest_period() {
+        let mut pump = Pump::new(10);
+        pump.slots[15] = Held::Running {
+            need: 1,
+            period: u16::MAX,
+            age: 0,
+            remaining: 1,
+            leaves: false,
+        };
+        assert_eq!(pump.step(), Ok(Some(15)));
+    }
+
+    /// A tick of these lines in slots 3 and 4, slot 3 having got the last one, and what the last slot is then.
+    fn tick(lines: [Held; 2]) -> (Result<Option<usize>, (u16, u64)>, u8) {
+        let mut pump = Pump::new(10);
+        pump.slots[3..5].copy_from_slice(&lines);
+        pump.last = 3;
+        (pump.step(), pump.last)
+    }
+
+    /// R105: an idle tick, the end of a period, lines that go with their last tick and without, and a refused step.
+    #[test]
+    fn the_last_slot() {
+        let idle = line(0, 0, false);
+        let (renews, leaves) = (line(3, 1, false), line(3, 1, true));
+        let gone = line(3, 0, true);
+        assert_eq!(tick([idle, idle]), (Ok(None), NONE));
+        assert_eq!(tick([renews, idle]), (Ok(Some(3)), 3));
+        assert_eq!(tick([leaves, idle]), (Ok(Some(3)), NONE));
+        assert_eq!(tick([gone, idle]), (Ok(None), NONE));
+        assert_eq!(tick([gone, renews]), (Ok(Some(4)), 4));
+        assert_eq!(tick([renews, gone]), (Ok(Some(3)), 3));
+        assert_eq!(tick([renews, leaves]), (Err((14, 4)), 3));
     }
 }

@@ -30,7 +30,7 @@ pub fn admit(table: &mut [u8], request: &Request) -> Result<Answer, Refusal> {
     numbers::admit(table, request.need, request.period, &request.stretched).granted(Numbers::answer)
 }
 
-/// R88: one tick; answers the slot that got it.
+/// R88: one tick; answers the slot that got it. [`Pump::step`](crate::Pump::step) says which that is.
 ///
 /// # Errors
 /// Refusal 11, 15, 4 or 14.

@@ -1,5 +1,5 @@
 //! A greenhouse pump's admission and scheduling core, proved down to the code: safe functions over `libhouse.a`, whose C
-//! side is `include/trimthuel.h`. The rules, R1 to R104, are those of docs/RULES.md.
+//! side is `include/trimthuel.h`. The rules, R1 to R107, are those of docs/RULES.md.
 //!
 //! ```
 //! use trimthuel::{Answer, Pump, Refusal};
@@ -24,7 +24,7 @@
 //! // The first bench is let go: it stays up to the end of its period, 31 ticks from now, and then its slot is free.
 //! assert_eq!(pump.leave(0)?, 31);
 //!
-//! // The table is 297 bytes, which may be kept while the power is off.
+//! // The table is 298 bytes, which may be kept while the power is off.
 //! let kept = *pump.image();
 //! assert_eq!(Pump::from_image(&kept)?, pump);
 //! # Ok(())
@@ -57,17 +57,17 @@ pub use refusal::{Late, Refusal};
 pub use request::{Answer, Request};
 
 /// R93: of the boundary that this crate declares; the library's own is [`version()`].
-pub const VERSION: u32 = 5;
+pub const VERSION: u32 = 6;
 
-/// R81: of the layout of an image, its first byte. An image of version 1, which had no counts, or of version 2, which had no
-/// line that leaves, is refused with 11 at 0.
-pub const IMAGE_VERSION: u8 = 3;
+/// R81: of the layout of an image, its first byte. An image of version 1, which had no counts, of version 2, which had no line
+/// that leaves, or of version 3, which had no last slot, is refused with 11 at 0.
+pub const IMAGE_VERSION: u8 = 4;
 
 /// R2: slots of a table.
 pub const SLOTS: usize = 16;
 
 /// R81: bytes of an image.
-pub const TABLE_SIZE: usize = 297;
+pub const TABLE_SIZE: usize = 298;
 
 /// R95: counts of a table: one for each slot, then the idle count, then the departed count.
 pub const COUNTS: usize = 18;

@@ -24,7 +24,7 @@ pub struct Numbers {
     pub excess: u64,
 }
 
-/// R63: the slot that is none, as a value.
+/// R63, R105: the slot that is none, as a value and as an image's last byte.
 pub const NO_SLOT: u64 = 255;
 
 type Bytes = *const u8;

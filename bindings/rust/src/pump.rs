@@ -1,5 +1,6 @@
 //! The pump, which owns its table.
 
+use crate::numbers::NO_SLOT;
 use crate::{
     image, Answer, Counts, Refusal, Request, IMAGE_VERSION, REQUEST_SIZE, SLOTS, TABLE_SIZE,
 };
@@ -11,11 +12,13 @@ pub struct Pump {
 }
 
 impl Pump {
-    /// R4: the empty table, the version and zeros, also in a `static`. [`image::empty`] writes the same bytes.
+    /// R4: the empty table, also in a `static`: zeros between the version and a last slot that is none. [`image::empty`] writes
+    /// the same bytes.
     #[must_use]
     pub const fn new() -> Pump {
         let mut image = [0; TABLE_SIZE];
         image[0] = IMAGE_VERSION;
+        image[TABLE_SIZE - 1] = NO_SLOT as u8;
         Pump { image }
     }
 
@@ -79,7 +82,8 @@ impl Pump {
         image::admit(&mut self.image, request)
     }
 
-    /// R48: one tick; answers the slot that got it.
+    /// R48: one tick; answers the slot that got it. It goes to an owed line whose period ends first; where several end so, to the
+    /// one that got the last tick, whose valve stays open, else to the lowest slot (R44).
     ///
     /// # Errors
     /// Refusal 15, 4 or 14; on a pump that began as [`Pump::new`] and was never read from bytes, 15 only (R74).

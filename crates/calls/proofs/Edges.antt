@@ -8,7 +8,7 @@ use Rattle.periods.specs.Multiples.{euclid, gcdOf, lcmOf, frameFrom}
 use Rattle.table.specs.declared.Table.{Table}
 use Rattle.table.specs.declared.Answer.the-variants.{Start, Refused}
 use Rattle.line.specs.Slots.{total, lowest, mapAt}
-use Rattle.table.specs.Words.{refusal, shortRefusal, gives, refuses}
+use Rattle.table.specs.Words.{refusal, shortRefusal, gives, refuses, slotNumber}
 use Rattle.line.specs.Streams.{due, every, endsBefore}
 use Rattle.line.specs.Demand.{lastEnd}
 use Rattle.line.specs.Shares.{periodsIn}
@@ -22,7 +22,7 @@ use Rattle.card.specs.Card.{cardOf}
 use Rattle.card.specs.Reading.{recordOf, recordsOf, readWith}
 use Rattle.card.specs.Twin.{turnedWith}
 use Rattle.card.specs.Answers.{lengthOf}
-use Rattle.calls.specs.Results.{grantedAs, resultOf, slotNumber}
+use Rattle.calls.specs.Results.{grantedAs, resultOf}
 use Rattle.calls.specs.Cards.{answerOf, saidPut, putOf, rewriteAs, rewrittenOf, counted, ticksRun, runAdmitted, runOf}
 
 -- R63, R103: what is given is the value, 0 too, and a refusal its number and place, and of refusal 10 the tick before the excess

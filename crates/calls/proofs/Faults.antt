@@ -1,9 +1,9 @@
 -- The operations on images at their edges, by computation: what is answered and left for a table that was loaded, and for an image that is refused.
 use Prim.Native.Nat.{ℕ, zero, suc, _-_, _/_, _%_, _^_, _<_}
 use mathlib.Core.Path.{_≡_, refl}
-use mathlib.Core.List.{[], _∷_, _++_, map}
+use mathlib.Core.List.{List, [], _∷_, _++_, map}
 use native.Mathlib.Omega.{arith}
-use lib.ListN.{replicate}
+use lib.ListN.{drop, replicate}
 use Rattle.periods.specs.Multiples.{euclid, gcdOf, lcmOf, frameFrom}
 use Rattle.line.specs.Slots.{at, total, lowest, mapAt}
 use Rattle.line.specs.Tick.{isOwed}
@@ -17,7 +17,7 @@ use Rattle.table.specs.Ask.{askIn, askOf}
 use Rattle.table.specs.Counts.{settling}
 use Rattle.table.specs.Step.{chosen, advance, stepOf}
 use Rattle.table.specs.Leave.{leaveOf}
-use Rattle.table.specs.Cases.{running, parting, waiting, tableOf, talliedWith, caseA}
+use Rattle.table.specs.Cases.{running, parting, waiting, tableOf, talliedWith, ranLast, caseA}
 use Rattle.card.specs.Card.{carrying, cardOf}
 use Rattle.card.specs.Answers.{lengthOf}
 use Rattle.board.specs.Board.{bit}
@@ -88,9 +88,41 @@ unfolding lowest leaveOf
 leave-leaves-edges = refl
 
 -- R102: the table with the line let go goes into a buffer that holds an image, and the byte after it stays
-pub leave-stores : afterLeave (gives several) 0 (replicate 298 7) ≡ imageOf (tableOf 9 (parting 2 8 3 1 ∷ waiting 1 4 3 ∷ parting 1 4 2 1 ∷ [])) ++ (7 ∷ [])
+pub leave-stores : afterLeave (gives several) 0 (replicate 299 7) ≡ imageOf (tableOf 9 (parting 2 8 3 1 ∷ waiting 1 4 3 ∷ parting 1 4 2 1 ∷ [])) ++ (7 ∷ [])
 unfolding lowest leaveOf storeOf imageOf
 leave-stores = refl
+
+-- the last three of 299 bytes that were 7 before a call: the departed count's last byte, the last slot, and the byte behind the image
+abbrev ending : (List ℕ → List ℕ) → List ℕ
+ending after = drop 296 (after (replicate 299 7))
+
+-- what they are where the image was stored with this last slot
+abbrev lastIs : ℕ → List ℕ
+lastIs k = 0 ∷ k ∷ 7 ∷ []
+
+-- two lines that are owed and end together
+abbrev equals : Table
+equals = tableOf 0 (running 1 4 0 1 ∷ running 1 4 0 1 ∷ [])
+
+-- R88, R105: a step stores who ran, of two equals the one that ran last; none where no line ran, or where the one that ran is gone; a refused one stores nothing
+pub step-stores-last : map (λ (t : Table). ending (afterStep (gives t))) (
+    ranLast 0 (tableOf 0 (running 1 4 0 0 ∷ running 1 4 0 1 ∷ [])) ∷ ranLast 255 equals ∷ ranLast 0 equals ∷ ranLast 1 equals ∷ ranLast 2 equals
+    ∷ ranLast 0 (tableOf 0 (running 1 4 0 0 ∷ [])) ∷ ranLast 0 (tableOf 0 (parting 1 4 3 1 ∷ [])) ∷ ranLast 0 (tableOf (2 ^ 48) []) ∷ [])
+    ≡ map lastIs (1 ∷ 0 ∷ 0 ∷ 1 ∷ 0 ∷ 255 ∷ 255 ∷ []) ++ ((7 ∷ 7 ∷ 7 ∷ []) ∷ [])
+unfolding lowest chosen settling advance stepOf storeOf imageOf
+step-stores-last = refl
+
+-- R87, R105: an admission keeps it, into the slot that it names too
+pub admit-keeps-last : map (λ (k : ℕ). ending (afterAdmit (gives (ranLast k (tableOf 0 []))) (requestOf 3 5 []))) (0 ∷ 1 ∷ 16 ∷ 255 ∷ []) ≡ map lastIs (0 ∷ 1 ∷ 16 ∷ 255 ∷ [])
+unfolding euclid gcdOf lcmOf frameFrom total lowest due lastEnd mapAt periodsIn every endsBefore endsOf slack bound greatest soonestOf firstShort start askIn askOf storeOf imageOf
+admit-keeps-last = refl
+
+-- R102, R105: being asked to leave keeps it, being removed makes it none where it named that line, and a refused leave stores nothing
+pub leave-stores-last : (map (λ (k : ℕ). ending (afterLeave (gives (ranLast k several)) 0)) (0 ∷ 1 ∷ []) ≡ map lastIs (0 ∷ 1 ∷ []))
+    × (map (λ (k : ℕ). ending (afterLeave (gives (ranLast k several)) 1)) (0 ∷ 1 ∷ 2 ∷ 16 ∷ 255 ∷ []) ≡ map lastIs (0 ∷ 255 ∷ 2 ∷ 16 ∷ 255 ∷ []))
+    × (ending (afterLeave (gives (ranLast 2 several)) 2) ≡ 7 ∷ 7 ∷ 7 ∷ [])
+unfolding lowest leaveOf storeOf imageOf
+leave-stores-last = (refl, refl, refl)
 
 -- R89: an image's refusal is the whole answer
 pub ready-refused : ReadyFor broken (refusedAs (refusal 11 9))
@@ -117,7 +149,7 @@ unfolding lowest lengthOf cardOf
 card-granted = (refl, refl)
 
 -- R92: the image of the card's table, and the byte after it as it was
-pub image-granted : imageAfter (gives (carrying (caseA .table) (caseA .request))) (replicate 298 7) ≡ imageOf (caseA .table) ++ (7 ∷ [])
+pub image-granted : imageAfter (gives (carrying (caseA .table) (caseA .request))) (replicate 299 7) ≡ imageOf (caseA .table) ++ (7 ∷ [])
 unfolding storeOf imageOf
 image-granted = refl
 
@@ -129,15 +161,15 @@ card-edges = refl
 pub eighteen-edges : eighteen (requestOf 1 4 (32 ∷ 16 ∷ [])) ≡ 32 ∷ 16 ∷ 1 ∷ 4 ∷ []
 eighteen-edges = refl
 
--- R92: the reader's refusal comes before the room's; 296 bytes are too few, 297 are enough
-pub read-edges : (map (readCardFor (gives (carrying (caseA .table) (caseA .request)))) (296 ∷ 297 ∷ []) ≡ refuses (refusal 13 0) ∷ gives 297 ∷ [])
-    × (map (readCardFor (refuses (refusal 12 22))) (296 ∷ 297 ∷ []) ≡ refuses (refusal 12 22) ∷ refuses (refusal 12 22) ∷ [])
+-- R92: the reader's refusal comes before the room's; 297 bytes are too few, 298 are enough
+pub read-edges : (map (readCardFor (gives (carrying (caseA .table) (caseA .request)))) (297 ∷ 298 ∷ []) ≡ refuses (refusal 13 0) ∷ gives 298 ∷ [])
+    × (map (readCardFor (refuses (refusal 12 22))) (297 ∷ 298 ∷ []) ≡ refuses (refusal 12 22) ∷ refuses (refusal 12 22) ∷ [])
 unfolding storeOf
 read-edges = (refl, refl)
 
 -- R92: the numbers are written where the image is, and left where anything is refused
-pub numbers-edges : (map (λ (room : ℕ). numbersAfter (gives (carrying (caseA .table) (requestOf 1 4 (32 ∷ [])))) room (7 ∷ [])) (296 ∷ 297 ∷ []) ≡ (7 ∷ []) ∷ (32 ∷ 1 ∷ 4 ∷ []) ∷ [])
-    × (numbersAfter (refuses (refusal 11 0)) 297 (7 ∷ []) ≡ 7 ∷ []) × (imageAfter (refuses (refusal 11 0)) (7 ∷ 8 ∷ []) ≡ 7 ∷ 8 ∷ [])
+pub numbers-edges : (map (λ (room : ℕ). numbersAfter (gives (carrying (caseA .table) (requestOf 1 4 (32 ∷ [])))) room (7 ∷ [])) (297 ∷ 298 ∷ []) ≡ (7 ∷ []) ∷ (32 ∷ 1 ∷ 4 ∷ []) ∷ [])
+    × (numbersAfter (refuses (refusal 11 0)) 298 (7 ∷ []) ≡ 7 ∷ []) × (imageAfter (refuses (refusal 11 0)) (7 ∷ 8 ∷ []) ≡ 7 ∷ 8 ∷ [])
     × (imageAfter (gives (carrying (caseA .table) (caseA .request))) (7 ∷ 8 ∷ []) ≡ 7 ∷ 8 ∷ [])
 unfolding storeOf
 numbers-edges = (refl, refl, refl, refl)

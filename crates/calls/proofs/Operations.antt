@@ -13,7 +13,7 @@ use Rattle.table.specs.declared.Outcome.{Outcome}
 use Rattle.table.specs.declared.Stepped.{Stepped}
 use Rattle.table.specs.declared.Leaving.{Leaving}
 use Rattle.table.specs.declared.Left.{Left}
-use Rattle.table.specs.Words.{slotOf, gives}
+use Rattle.table.specs.Words.{slotOf, gives, slotNumber}
 use Rattle.table.specs.Ask.{says, askOf}
 use Rattle.table.specs.Admit.{admitOf}
 use Rattle.table.specs.Step.{saysRan, stepOf}
@@ -22,7 +22,7 @@ use Rattle.admit.proofs.Right.{admitted-answer}
 use Rattle.board.specs.Board.{ReadyWord}
 use Rattle.image.specs.Answers.{storedIn}
 use Rattle.calls.specs.declared.Result.{Result}
-use Rattle.calls.specs.Results.{grantedAs, refusedAs, resultOf, slotNumber}
+use Rattle.calls.specs.Results.{grantedAs, refusedAs, resultOf}
 use Rattle.calls.specs.Tables.{changed, askedAs, admittedIn, ranAs, steppedAs, steppedIn, leftAs, leftIn, ReadyFor}
 
 -- R89: the value is the ready word

@@ -87,8 +87,8 @@ rewritten-fits card room = go (turnedOf card) (readOf card)
 -- R84: a buffer that an image fills holds a stored table's image and nothing else
 pub stored-image : (l : List ℕ) (t u : Table) → loadOf l ≡ gives t → storedIn u l ≡ imageOf u
 stored-image l t u e =
-    let n : length l ≡ 297 = loaded-length 16 l t e in
-    stored-is u l (omega arith) ∙ ap (λ (x : List ℕ). imageOf u ++ x) (drop-of-length-le l {i = 297} (omega arith)) ∙ append-nil (imageOf u)
+    let n : length l ≡ 298 = loaded-length 16 l t e in
+    stored-is u l (omega arith) ∙ ap (λ (x : List ℕ). imageOf u ++ x) (drop-of-length-le l {i = 298} (omega arith)) ∙ append-nil (imageOf u)
 
 -- bytes that load as a table
 module _ (l : List ℕ) (t : Table) (e : loadOf l ≡ gives t) where

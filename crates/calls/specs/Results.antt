@@ -1,6 +1,5 @@
 -- The five numbers that a call answers (R63, R103).
 use Prim.Native.Nat.{ℕ}
-use mathlib.Core.Option.{Option, none, some}
 use Rattle.table.specs.declared.Refusal.{Refusal}
 use Rattle.table.specs.Words.{Said, gives, refuses}
 use Rattle.calls.specs.declared.Result.{Result}
@@ -21,8 +20,3 @@ resultAt k (refuses x) = refusedAs x
 -- R63: what was asked for, or the refusal
 abbrev pub resultOf : Said ℕ → Result
 resultOf s = resultAt 0 s
-
--- R63: a slot is its number, and none is 255
-abbrev pub slotNumber : Option ℕ → ℕ
-slotNumber none = 255
-slotNumber (some k) = k

@@ -6,7 +6,7 @@ use mathlib.Core.Option.{Option}
 use Rattle.line.specs.Slots.{isNothing, lowestOf}
 use Rattle.table.specs.declared.Table.{Table}
 use Rattle.table.specs.declared.Request.{Request}
-use Rattle.table.specs.Words.{requestWith, Said, gives, refuses}
+use Rattle.table.specs.Words.{requestWith, Said, gives, refuses, slotNumber}
 use Rattle.table.specs.Ask.{says, askOf}
 use Rattle.table.specs.Admit.{admitOf}
 use Rattle.table.specs.Step.{saysRan, stepOf}
@@ -14,7 +14,7 @@ use Rattle.table.specs.Leave.{saysLeaving, leaveOf}
 use Rattle.board.specs.Board.{ReadyWord}
 use Rattle.image.specs.Answers.{storedIn}
 use Rattle.calls.specs.declared.Result.{Result}
-use Rattle.calls.specs.Results.{grantedAs, refusedAs, resultAt, resultOf, slotNumber}
+use Rattle.calls.specs.Results.{grantedAs, refusedAs, resultAt, resultOf}
 
 -- R6: the request of a need, a period and the stretched periods
 abbrev pub requestOf : (need period : ℕ) → List ℕ → Request

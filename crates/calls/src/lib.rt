@@ -1,9 +1,9 @@
 // What a call over the boundary answers, R63, and the work of each call on a table or a card that has been read: what it answers, and what it leaves
 // in what is lent. `house` exports the calls.
 ghost use mathlib.Core.Path.{_≡_};
-ghost use Rattle.table.specs.Words.{slotOf};
+ghost use Rattle.table.specs.Words.{slotOf, slotNumber};
 ghost use Rattle.card.specs.Answers.{saidWritten};
-ghost use Rattle.calls.specs.Results.{grantedAs, refusedAs, resultAt, slotNumber};
+ghost use Rattle.calls.specs.Results.{grantedAs, refusedAs, resultAt};
 use card::WriteAnswer;
 use table::Refusal;
 use table::Which;

@@ -4,7 +4,7 @@ use mathlib.Core.List.{List}
 use Prim.Native.Nat.{ℕ}
 use Rattle.table.specs.declared.Table.{Table}
 use Rattle.table.specs.declared.Request.{Request}
-use Rattle.table.specs.Words.{uncounted, gives}
+use Rattle.table.specs.Words.{unbooked, gives}
 use Rattle.card.specs.Bytes.{Bytes}
 use Rattle.card.specs.Card.{Card, carrying, cardOf, cleared, Fits}
 use Rattle.card.specs.Reading.{readWith}
@@ -26,7 +26,7 @@ module _ (n : ℕ) where
   pub reads-exactly : (l : List ℕ) → Bytes l → (Reads l → IsCard (twinWith n l)) × (IsCard (twinWith n l) → Reads l)
   reads-exactly l b = (
     λ r. (r .0 .table, r .0 .request, read-fits n l b (r .0) (r .1), writes-twin n l b (r .0) (r .1)),
-    λ k. (carrying (uncounted (k .0)) (cleared (k .0) (k .1)), sym (twin-reads n l b) ∙ ap (readWith n) (sym (k .3)) ∙ reads-back n (k .0) (k .1) (k .2)),
+    λ k. (carrying (unbooked (k .0)) (cleared (k .0) (k .1)), sym (twin-reads n l b) ∙ ap (readWith n) (sym (k .3)) ∙ reads-back n (k .0) (k .1) (k .2)),
   )
 
   -- R72: the twin of a card that reads has no TA

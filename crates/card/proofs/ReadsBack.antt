@@ -11,7 +11,7 @@ use Rattle.line.specs.Slots.{pick, holding, isNothing}
 use Rattle.line.proofs.Search.{true-false}
 use Rattle.table.specs.declared.Table.{Table}
 use Rattle.table.specs.declared.Request.{Request}
-use Rattle.table.specs.Words.{tableWith, uncounted, requestWith, gives}
+use Rattle.table.specs.Words.{tableWith, unbooked, requestWith, gives}
 use Rattle.card.specs.declared.SlotRecord.{SlotRecord}
 use Rattle.card.specs.Layout.{isFree, clockLength}
 use Rattle.card.specs.Marked.{free, Fitting, recordedBytes, saying}
@@ -89,8 +89,8 @@ module _ (n : ℕ) (t : Table) (q : Request) (f : Fits n t q) where
       ∙ ap (λ (m : ℕ). recordsOf (t .clock) m false clockLength (slotRecords (used (t .slots)) (t .slots) (q .stretched) ++ requestRecord (q .need) (q .period))) (sym (f .slots))
       ∙ records-read (t .clock) (q .need) (q .period) (f .need) (f .period) (t .slots) (q .stretched) false clockLength (f .lines) (λ e u. true-false e refl)
 
-  -- R72: it is read, but for the counts
-  pub reads-back : readWith n (cardOf t q) ≡ gives (carrying (uncounted t) (cleared t q))
+  -- R72: it is read, but for the counts and who ran last
+  pub reads-back : readWith n (cardOf t q) ≡ gives (carrying (unbooked t) (cleared t q))
   unfolding readWith
   reads-back =
       let w = records-for (t .slots) (q .stretched) (f .lines) in

@@ -11,7 +11,7 @@ use lib.Dec.{leb}
 use Rattle.table.specs.declared.Table.{Table}
 use Rattle.table.specs.declared.Request.{Request}
 use Rattle.line.specs.Slots.{pick, isWaiting, lowestOf}
-use Rattle.table.specs.Words.{uncounted, Said, gives, refuses, refusal}
+use Rattle.table.specs.Words.{unbooked, Said, gives, refuses, refusal}
 use Rattle.card.specs.Card.{cardOf, carrying, cleared, Fits}
 use Rattle.card.specs.Reading.{readWith}
 use Rattle.card.specs.Answers.{lengthOf, unlessWaiting, filled, writeOf, bufferOf}
@@ -27,9 +27,9 @@ length-written t q room n e = go (lowestOf isWaiting (t .slots)) (leb (length (c
     go none true p = cc
     go none false p = let z : _≡_ {A = ℕ} 0 1 = cc in absurd (omega arith)
 
--- R72: what stands in the buffer after writing reads back, but for the counts
+-- R72: what stands in the buffer after writing reads back, but for the counts and who ran last
 pub written-reads : (n : ℕ) (t : Table) (q : Request) → Fits n t q → (l : List ℕ) (m : ℕ) → writeOf t q (length l) ≡ gives m
-    → readWith n (take m (bufferOf t q l)) ≡ gives (carrying (uncounted t) (cleared t q))
+    → readWith n (take m (bufferOf t q l)) ≡ gives (carrying (unbooked t) (cleared t q))
 written-reads n t q f l m e =
     ap (λ (s : Said ℕ). readWith n (take m (filled (cardOf t q) l s))) e
     ∙ ap (readWith n) (take-at (cardOf t q) (drop m l) m (sym (length-written t q (length l) m e)))

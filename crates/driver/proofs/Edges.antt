@@ -8,18 +8,18 @@ use Rattle.line.specs.Slots.{lowest}
 use Rattle.table.specs.Words.{refusal, gives, refuses}
 use Rattle.table.specs.Counts.{settling}
 use Rattle.table.specs.Step.{saysRan, chosen, advance, stepOf}
-use Rattle.table.specs.Cases.{running, tableOf, tallied}
+use Rattle.table.specs.Cases.{running, tableOf, tallied, ranLast}
 use Rattle.driver.specs.Driven.{drivenOf}
 
 -- slot 0 is owed one tick in a period of two
 abbrev owing : (clock : ℕ) → Table
 owing k = tableOf k (running 1 2 0 1 ∷ [])
 
--- the same line a tick later, served, and the tick counted
+-- the same line a tick later, served, and the tick counted, with who got it
 abbrev served : (clock : ℕ) → Table
-served k = tallied (1 ∷ []) 0 (tableOf k (running 1 2 1 0 ∷ []))
+served k = ranLast 0 (tallied (1 ∷ []) 0 (tableOf k (running 1 2 1 0 ∷ [])))
 
--- R45, R51: after a step the driver keeps the whole new table: clock, age, remaining and counts
+-- R45, R51: after a step the driver keeps the whole new table: clock, age, remaining, counts and who ran last
 pub new-table-is-kept : drivenOf (owing 7) ≡ served 8
 unfolding lowest chosen settling advance stepOf
 new-table-is-kept = refl

@@ -2,6 +2,6 @@
 use mathlib.Core.Path.{_≡_, refl}
 use Rattle.house.specs.Version.{boundaryVersion}
 
--- R93: the fifth version
-pub version-edges : boundaryVersion ≡ 5
+-- R93: the sixth version
+pub version-edges : boundaryVersion ≡ 6
 version-edges = refl

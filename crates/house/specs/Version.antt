@@ -3,4 +3,4 @@ use Prim.Native.Nat.{ℕ}
 
 -- R93: the version of the boundary
 abbrev pub boundaryVersion : ℕ
-boundaryVersion = 5
+boundaryVersion = 6

@@ -25,5 +25,5 @@ pub extern "C" fn trimthuel_lamp(number: u64) -> u8
 pub extern "C" fn trimthuel_version() -> u32
     ensures { λ r. ⌜ r ≡ boundaryVersion ⌝ }
 {
-    5
+    6
 }

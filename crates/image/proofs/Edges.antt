@@ -8,7 +8,7 @@ use lib.ListN.{length, take, set, replicate}
 use Rattle.line.specs.declared.Slot.{Slot}
 use Rattle.line.specs.Slots.{empty, lowest}
 use Rattle.table.specs.declared.Table.{Table}
-use Rattle.table.specs.Words.{tableWith, withCounts, withDeparted, refusal, Said, gives, refuses}
+use Rattle.table.specs.Words.{tableWith, withCounts, withDeparted, withLast, refusal, Said, gives, refuses}
 use Rattle.table.specs.Cases.{running, parting, waiting}
 use Rattle.image.specs.declared.LoadAnswer.{LoadAnswer}
 use Rattle.image.specs.Image.{size, imageOf}
@@ -22,7 +22,7 @@ times (suc n) l = l ++ times n l
 
 -- the version and a clock
 abbrev front : List ℕ
-front = 3 ∷ 0xA1 ∷ 0xA2 ∷ 0xA3 ∷ 0xA4 ∷ 0xA5 ∷ 0xA6 ∷ 0xA7 ∷ 0xA8 ∷ []
+front = 4 ∷ 0xA1 ∷ 0xA2 ∷ 0xA3 ∷ 0xA4 ∷ 0xA5 ∷ 0xA6 ∷ 0xA7 ∷ 0xA8 ∷ []
 
 -- a slot that holds nothing
 abbrev free : List ℕ
@@ -60,20 +60,20 @@ abbrev risen : (many first : ℕ) → List ℕ
 risen zero b = []
 risen (suc n) b = (0x0706050403020100 + 0x0101010101010101 * b) ∷ risen n (8 + b)
 
--- the counts behind n slots, no byte of which stands there twice, and behind them the idle count and the departed one
+-- the counts behind n slots, no byte of which stands there twice, and behind them the idle count, the departed one and the last slot
 abbrev tally : (slots : ℕ) → List ℕ
-tally n = rising (8 * n + 16) 0x64
+tally n = rising (8 * n + 17) 0x64
 
 -- n slots' bytes between `front` and the counts
 abbrev whole : (slots : ℕ) → List ℕ → List ℕ
 whole n l = front ++ l ++ tally n
 
--- slots under the clock of `front`, with the counts of `tally`
+-- slots under the clock of `front`, with the counts and the last slot of `tally`
 abbrev under : List Slot → Table
 under ss =
     let n = length ss in
-    withDeparted (withCounts (tableWith 0xA8A7A6A5A4A3A2A1 ss) (risen n 0x64) (0x0706050403020100 + 0x0101010101010101 * (0x64 + 8 * n)))
-    (0x0706050403020100 + 0x0101010101010101 * (0x6C + 8 * n))
+    withLast (withDeparted (withCounts (tableWith 0xA8A7A6A5A4A3A2A1 ss) (risen n 0x64) (0x0706050403020100 + 0x0101010101010101 * (0x64 + 8 * n)))
+    (0x0706050403020100 + 0x0101010101010101 * (0x6C + 8 * n))) (0x74 + 8 * n)
 
 abbrev reads : List Slot → Said Table
 reads ss = gives (under ss)
@@ -98,12 +98,8 @@ wrongAt n l b at = edge n (set l at b) (breaks at)
 abbrev versionEdges : List ImageEdge
 versionEdges =
     edge 1 (whole 1 runs) (reads (runSlot ∷ []))
-    ∷ wrongAt 1 (whole 1 runs) 0 0
-    ∷ wrongAt 1 (whole 1 runs) 1 0
-    ∷ wrongAt 1 (whole 1 runs) 2 0
-    ∷ wrongAt 1 (whole 1 runs) 4 0
-    ∷ wrongAt 1 (whole 1 runs) 255 0
-    ∷ edge 1 (2 ∷ []) (breaks 0)
+    ∷ map (λ (v : ℕ). wrongAt 1 (whole 1 runs) v 0) (0 ∷ 1 ∷ 2 ∷ 3 ∷ 5 ∷ 255 ∷ [])
+    ++ edge 1 (3 ∷ []) (breaks 0)
     ∷ edge 1 (0 ∷ replicate 50 255) (breaks 0)
     ∷ edge 16 (set (front ++ times 16 runs) 0 1) (breaks 0)
     ∷ edge 16 (front ++ times 16 runs) (breaks 153)
@@ -111,6 +107,9 @@ versionEdges =
     ∷ edge 16 (take 289 (set (whole 16 (times 16 runs)) 0 2)) (breaks 0)
     ∷ edge 16 (take 289 (whole 16 (times 16 runs))) (breaks 289)
     ∷ wrongAt 16 (whole 16 (times 16 runs)) 2 0
+    ∷ edge 16 (take 297 (set (whole 16 (times 16 runs)) 0 3)) (breaks 0)
+    ∷ edge 16 (take 297 (whole 16 (times 16 runs))) (breaks 297)
+    ∷ wrongAt 16 (whole 16 (times 16 runs)) 3 0
     ∷ []
 
 -- R81, R83: each kind, and those above; what follows a kind above 3 is not looked at
@@ -136,7 +135,7 @@ zeroEdges =
     ∷ edge 1 (set (set (whole 1 free) 17 255) 10 255) (breaks 10)
     ∷ edge 1 (whole 1 (0 ∷ replicate 8 255)) (breaks 10)
     ∷ edge 1 (whole 1 (2 ∷ replicate 8 255)) (breaks 16)
-    ∷ edge 2 (3 ∷ replicate 8 255 ++ (1 ∷ replicate 8 255) ++ (3 ∷ replicate 40 255))
+    ∷ edge 2 (4 ∷ replicate 8 255 ++ (1 ∷ replicate 8 255) ++ (3 ∷ replicate 41 255))
     (gives (withDeparted (withCounts (tableWith 18446744073709551615 (running 65535 65535 65535 65535 ∷ parting 65535 65535 65535 65535 ∷ [])) (replicate 2 18446744073709551615) 18446744073709551615)
     18446744073709551615))
     ∷ map (wrongAt 2 (whole 2 (runs ++ free)) 1) (19 ∷ 20 ∷ 25 ∷ 26 ∷ [])
@@ -165,9 +164,9 @@ slotEdges =
     ∷ edge 16 (whole 16 (times 16 runsLast)) (reads (replicate 16 leaveSlot))
     ∷ []
 
--- sixteen slots that hold nothing before these bytes, their counts, the idle one and the departed one
+-- sixteen slots that hold nothing before these bytes, their counts, the idle one and the departed one, and nobody ran last
 abbrev freeBefore : List ℕ → List ℕ
-freeBefore l = front ++ times 16 free ++ l
+freeBefore l = front ++ times 16 free ++ l ++ (255 ∷ [])
 
 -- what they read as
 abbrev freeReads : (had : List ℕ) (idle departed : ℕ) → Said Table
@@ -203,14 +202,14 @@ cutAt n l m = edge n (take m l) (breaks m)
 -- R83: each length is refused at its end, or at the image's
 abbrev lengthEdges : List ImageEdge
 lengthEdges =
-    map (cutAt 1 (whole 1 runs)) (0 ∷ 1 ∷ 8 ∷ 9 ∷ 10 ∷ 17 ∷ 18 ∷ 19 ∷ 25 ∷ 26 ∷ 33 ∷ 34 ∷ 41 ∷ [])
-    ++ edge 1 (whole 1 runs ++ (0 ∷ [])) (breaks 42)
-    ∷ edge 1 (whole 1 (runs ++ runs)) (breaks 42)
-    ∷ edge 0 (whole 0 [] ++ (0 ∷ [])) (breaks 25)
-    ∷ map (cutAt 0 (whole 0 [])) (8 ∷ 9 ∷ 16 ∷ 17 ∷ 24 ∷ [])
-    ++ map (cutAt 16 (whole 16 (times 16 runs))) (144 ∷ 152 ∷ 153 ∷ 154 ∷ 280 ∷ 281 ∷ 288 ∷ 289 ∷ 290 ∷ 296 ∷ [])
-    ++ edge 16 (whole 16 (times 16 runs) ++ (0 ∷ [])) (breaks 297)
-    ∷ edge 16 (whole 16 (times 16 runs) ++ (0 ∷ 0 ∷ [])) (breaks 297)
+    map (cutAt 1 (whole 1 runs)) (0 ∷ 1 ∷ 8 ∷ 9 ∷ 10 ∷ 17 ∷ 18 ∷ 19 ∷ 25 ∷ 26 ∷ 33 ∷ 34 ∷ 41 ∷ 42 ∷ [])
+    ++ edge 1 (whole 1 runs ++ (0 ∷ [])) (breaks 43)
+    ∷ edge 1 (whole 1 (runs ++ runs)) (breaks 43)
+    ∷ edge 0 (whole 0 [] ++ (0 ∷ [])) (breaks 26)
+    ∷ map (cutAt 0 (whole 0 [])) (8 ∷ 9 ∷ 16 ∷ 17 ∷ 24 ∷ 25 ∷ [])
+    ++ map (cutAt 16 (whole 16 (times 16 runs))) (144 ∷ 152 ∷ 153 ∷ 154 ∷ 280 ∷ 281 ∷ 288 ∷ 289 ∷ 290 ∷ 296 ∷ 297 ∷ [])
+    ++ edge 16 (whole 16 (times 16 runs) ++ (0 ∷ [])) (breaks 298)
+    ∷ edge 16 (whole 16 (times 16 runs) ++ (0 ∷ 0 ∷ [])) (breaks 298)
     ∷ []
 
 -- R83: a wrong byte and a wrong length, the lower of the two; a byte that is missing is not wrong, and neither is one behind the slots
@@ -224,12 +223,12 @@ orderEdges =
     ∷ edge 2 (front ++ (3 ∷ [])) (breaks 10)
     ∷ edge 2 (front ++ (4 ∷ [])) (breaks 9)
     ∷ edge 1 (set (whole 1 free) 17 1 ++ (0 ∷ [])) (breaks 17)
-    ∷ edge 1 (take 41 (set (whole 1 free) 17 1)) (breaks 17)
-    ∷ edge 1 (whole 1 free ++ (4 ∷ [])) (breaks 42)
-    ∷ edge 1 (whole 1 free ++ (0 ∷ 1 ∷ [])) (breaks 42)
+    ∷ edge 1 (take 42 (set (whole 1 free) 17 1)) (breaks 17)
+    ∷ edge 1 (whole 1 free ++ (4 ∷ [])) (breaks 43)
+    ∷ edge 1 (whole 1 free ++ (0 ∷ 1 ∷ [])) (breaks 43)
     ∷ edge 16 (set (whole 16 (times 16 free)) 152 1 ++ (1 ∷ [])) (breaks 152)
-    ∷ edge 16 (take 296 (set (whole 16 (times 16 free)) 152 1)) (breaks 152)
-    ∷ edge 16 (whole 16 (times 16 free) ++ (0 ∷ 1 ∷ [])) (breaks 297)
+    ∷ edge 16 (take 297 (set (whole 16 (times 16 free)) 152 1)) (breaks 152)
+    ∷ edge 16 (whole 16 (times 16 free) ++ (0 ∷ 1 ∷ [])) (breaks 298)
     ∷ []
 
 -- R81, R83: all of them
@@ -254,7 +253,7 @@ written-edges = refl
 pub greatest-written : imageOf (
     withDeparted (withCounts (tableWith 18446744073709551615 (running 65535 65535 65535 65535 ∷ waiting 65535 65535 65535 ∷ parting 65535 65535 65535 65535 ∷ [])) (18446744073709551615 ∷ 0 ∷ 0 ∷ []) 0)
     18446744073709551615)
-    ≡ 3 ∷ replicate 8 255 ++ (1 ∷ replicate 8 255) ++ (2 ∷ replicate 6 255) ++ (0 ∷ 0 ∷ []) ++ (3 ∷ replicate 8 255) ++ replicate 8 255 ++ replicate 24 0 ++ replicate 8 255
+    ≡ 4 ∷ replicate 8 255 ++ (1 ∷ replicate 8 255) ++ (2 ∷ replicate 6 255) ++ (0 ∷ 0 ∷ []) ++ (3 ∷ replicate 8 255) ++ replicate 8 255 ++ replicate 24 0 ++ replicate 9 255
 unfolding imageOf
 greatest-written = refl
 
@@ -263,8 +262,8 @@ pub lines-tell : (k C T a c : ℕ) → imageOf (tableWith k (running C T a c ∷
 unfolding imageOf
 lines-tell k C T a c e = let z : _≡_ {A = ℕ} 1 3 = ap (λ (l : List ℕ). byte l 9) e in omega arith
 
--- R81: for sixteen slots an image has 297 bytes, for one 42
-pub size-edges : map size (0 ∷ 1 ∷ 16 ∷ []) ≡ 25 ∷ 42 ∷ 297 ∷ []
+-- R81: for sixteen slots an image has 298 bytes, for one 43
+pub size-edges : map size (0 ∷ 1 ∷ 16 ∷ []) ≡ 26 ∷ 43 ∷ 298 ∷ []
 size-edges = refl
 
 -- a table of sixteen slots, and its image
@@ -279,22 +278,22 @@ abbrev lent : ℕ → List ℕ
 lent n = replicate n 0xEE
 
 -- R33, R84: the room for an image, on both sides
-pub room-edges : map storeOf (0 ∷ 9 ∷ 153 ∷ 289 ∷ 296 ∷ 297 ∷ 298 ∷ 1000 ∷ [])
-    ≡ replicate 5 (refuses (refusal 13 0)) ++ replicate 3 (gives 297)
+pub room-edges : map storeOf (0 ∷ 9 ∷ 153 ∷ 289 ∷ 296 ∷ 297 ∷ 298 ∷ 299 ∷ 1000 ∷ [])
+    ≡ replicate 6 (refuses (refusal 13 0)) ++ replicate 3 (gives 298)
 unfolding storeOf
 room-edges = refl
 
 -- R84: the image at the start of the buffer, and behind it the bytes as they were; all as they were where it does not fit
-pub stored-edges : map (storedIn sixteen) ([] ∷ lent 153 ∷ lent 289 ∷ lent 296 ∷ lent 297 ∷ (lent 297 ++ (0xDD ∷ [])) ∷ (lent 297 ++ (0xDD ∷ 0xCC ∷ 0xBB ∷ [])) ∷ [])
-    ≡ [] ∷ lent 153 ∷ lent 289 ∷ lent 296 ∷ sixteenBytes ∷ (sixteenBytes ++ (0xDD ∷ [])) ∷ (sixteenBytes ++ (0xDD ∷ 0xCC ∷ 0xBB ∷ [])) ∷ []
+pub stored-edges : map (storedIn sixteen) ([] ∷ lent 153 ∷ lent 289 ∷ lent 296 ∷ lent 297 ∷ lent 298 ∷ (lent 298 ++ (0xDD ∷ [])) ∷ (lent 298 ++ (0xDD ∷ 0xCC ∷ 0xBB ∷ [])) ∷ [])
+    ≡ [] ∷ lent 153 ∷ lent 289 ∷ lent 296 ∷ lent 297 ∷ sixteenBytes ∷ (sixteenBytes ++ (0xDD ∷ [])) ∷ (sixteenBytes ++ (0xDD ∷ 0xCC ∷ 0xBB ∷ [])) ∷ []
 unfolding storeOf imageOf
 stored-edges = refl
 
 -- R84: what is handed out: a table with its answer, and with a refusal the empty table of sixteen slots
-pub handed-edges : map (λ (l : List ℕ). handedOut (loadOf l)) (sixteenBytes ∷ take 296 sixteenBytes ∷ (sixteenBytes ++ (0 ∷ [])) ∷ set sixteenBytes 144 4 ∷ set sixteenBytes 0 2 ∷ [])
+pub handed-edges : map (λ (l : List ℕ). handedOut (loadOf l)) (sixteenBytes ∷ take 297 sixteenBytes ∷ (sixteenBytes ++ (0 ∷ [])) ∷ set sixteenBytes 144 4 ∷ set sixteenBytes 0 3 ∷ [])
     ≡ record { table = sixteen; answer = LoadAnswer.Read }
-    ∷ record { table = tableWith 0 (replicate 16 empty); answer = LoadAnswer.Refused (refusal 11 296) }
     ∷ record { table = tableWith 0 (replicate 16 empty); answer = LoadAnswer.Refused (refusal 11 297) }
+    ∷ record { table = tableWith 0 (replicate 16 empty); answer = LoadAnswer.Refused (refusal 11 298) }
     ∷ record { table = tableWith 0 (replicate 16 empty); answer = LoadAnswer.Refused (refusal 11 144) }
     ∷ record { table = tableWith 0 (replicate 16 empty); answer = LoadAnswer.Refused (refusal 11 0) }
     ∷ []

@@ -29,6 +29,10 @@ value-drop (suc n) a l at =
 pub value-front : (n a : ℕ) (l : List ℕ) → value n (drop a l) 0 ≡ value n l a
 value-front n a l = value-drop n a l 0 ∙ ap (value n l) (add-zero a)
 
+-- R81: and so is a byte
+pub byte-front : (a : ℕ) (l : List ℕ) → byte (drop a l) 0 ≡ byte l a
+byte-front a l = getD-drop a l 0 0 ∙ ap (byte l) (add-zero a)
+
 -- a number of two bytes below others
 two-more : (n a v : ℕ) → a < 65536 → le (suc (suc n)) (a + 65536 * v) ≡ le 2 a ++ le n v
 two-more n a v h =

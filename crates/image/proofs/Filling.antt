@@ -1,12 +1,12 @@
--- The loops over the slots and over the counts: what is read from an image one by one, and what is put into one.
+-- The loops over the slots and over the counts: what is read from an image one by one, and what is put into one; and a byte put behind the rest.
 use mathlib.Core.Path.{_≡_, refl, sym, ap, ap₂, _∙_}
 use mathlib.Core.List.{List, [], _∷_, _++_}
 use Prim.Native.Nat.{ℕ, _+_, _*_, _-_, _≤_, _<_}
 use native.Mathlib.Omega.{arith}
 use native.Mathlib.Numerals.{add-one}
 use native.Mathlib.Nat.{mul-zero}
-use lib.ListN.{length, take, drop, set, getD, length-set}
-use lib.Seq.{take-all, take-suc-set, length-take-le, drop-drop}
+use lib.ListN.{length, take, drop, set, getD, length-append, length-drop, length-set}
+use lib.Seq.{take-all, take-suc-set, length-take-le, take-at, drop-at, drop-drop, sets-eq}
 use Rattle.table.specs.declared.Table.{Table}
 use Rattle.table.specs.declared.Refusal.{Refusal}
 use Rattle.table.specs.Words.{refusal, gives, refuses}
@@ -83,11 +83,20 @@ module _ {A : Type 0} {w : ℕ} {g : A → List ℕ} {n : ℕ} where
         let e : k ≡ n = omega (arith, v .few) in
         v .same ∙ ap₂ (λ (x : List A) (j : ℕ). series g x ++ drop (w * j) l₀) (take-all k xs (omega (arith, v .many))) e
 
+-- R81: a byte is stored at a, behind p, which stands written before
+pub put-byte : (l₀ p : List ℕ) {l : List ℕ} (b a : ℕ) → l ≡ p ++ drop a l₀ → length p ≡ a → a < length l₀ → set l a b ≡ (p ++ (b ∷ [])) ++ drop (a + 1) l₀
+put-byte l₀ p {l} b a e ep h =
+    let n : length l ≡ length l₀ = ap length e ∙ omega (arith, length-append p (drop a l₀), length-drop a l₀) in
+    let t : take a l ≡ p = ap (take a) e ∙ take-at p (drop a l₀) a ep in
+    let d : drop a l ≡ drop a l₀ = ap (drop a) e ∙ drop-at p (drop a l₀) a ep in
+    sets-eq (b ∷ []) l a (omega arith)
+    ∙ ap₂ (λ (x y : List ℕ). x ++ (b ∷ []) ++ y) t (sym (drop-drop 1 a l) ∙ ap (drop 1) d ∙ drop-drop 1 a l₀)
+
 module _ (t : Table) (l : List ℕ) where
   -- R33, R84: a buffer that is too short stays as it is
-  pub store-short : (x : Refusal) → x ≡ refusal 13 0 → length l < 297 → (refuses x ≡ storeOf (length l)) × (l ≡ storedIn t l)
+  pub store-short : (x : Refusal) → x ≡ refusal 13 0 → length l < 298 → (refuses x ≡ storeOf (length l)) × (l ≡ storedIn t l)
   store-short x e h = (ap refuses e ∙ sym (no-room (length l) h), sym (stored-not t l h))
 
   -- R84: the image stands in front, and the bytes after it stay
-  pub store-whole : (m : List ℕ) → 297 ≤ length l → m ≡ imageOf t ++ drop 297 l → (gives 297 ≡ storeOf (length l)) × (m ≡ storedIn t l)
+  pub store-whole : (m : List ℕ) → 298 ≤ length l → m ≡ imageOf t ++ drop 298 l → (gives 298 ≡ storeOf (length l)) × (m ≡ storedIn t l)
   store-whole m h e = (sym (has-room (length l) h), e ∙ sym (stored-is t l h))

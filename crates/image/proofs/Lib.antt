@@ -10,3 +10,4 @@ pub mod Judging
 pub mod Filling
 pub mod Refusals
 pub mod Edges
+pub mod LastEdges

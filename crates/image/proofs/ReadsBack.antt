@@ -13,13 +13,13 @@ use Rattle.line.specs.declared.Held.the-variants.{Nothing, Running, Waiting}
 use Rattle.line.specs.declared.Slot.{Slot}
 use Rattle.line.specs.Slots.{holding, lowest}
 use Rattle.table.specs.declared.Table.{Table}
-use Rattle.table.specs.Words.{tableWith, withCounts, withDeparted, Said, gives}
+use Rattle.table.specs.Words.{tableWith, withCounts, withDeparted, withLast, Said, gives}
 use Rattle.card.specs.Bytes.{le, value}
 use Rattle.card.proofs.Numbers.{value-le}
-use Rattle.image.specs.Image.{version, countsAt, idleAt, departedAt, size, runKind, nine, byFields, slotBytes, slotsBytes, countsBytes, imageOf, Narrow, AllNarrow, InEight, TableWidths}
+use Rattle.image.specs.Image.{version, countsAt, idleAt, departedAt, lastAt, size, runKind, nine, byFields, slotBytes, slotsBytes, countsBytes, imageOf, Narrow, AllNarrow, InEight, TableWidths}
 use Rattle.image.specs.Loading.{byte, blankFrom, slotWrong, slotsWrong, lengthWrong, wrongIn, heldIn, slotsIn, countsIn, tableIn, unlessWrong, loadWith}
 use Rattle.image.proofs.RunKinds.{run-kind-small, run-in, run-right}
-use Rattle.image.proofs.Eight.{value-front}
+use Rattle.image.proofs.Eight.{value-front, byte-front}
 use Rattle.image.proofs.Series.{length-series, series-back}
 
 -- what holds of any kind up to 3 and any four numbers holds of what a slot holds
@@ -47,7 +47,8 @@ length-image n t e f =
     let s = slotsBytes (t .slots) in
     let c = countsBytes (t .had) in
     let i = le 8 (t .idle) in
-    omega (arith, length-append (s ++ c ++ i) (le 8 (t .departed)), length-append (s ++ c) i, length-append s c, length-slots (t .slots), length-counts (t .had))
+    let d = le 8 (t .departed) in
+    omega (arith, length-append (s ++ c ++ i ++ d) (t .last ∷ []), length-append (s ++ c ++ i) d, length-append (s ++ c) i, length-append s c, length-slots (t .slots), length-counts (t .had))
 
 -- R82: nothing is wrong with a slot's nine bytes, what it holds stands in them, and what follows stands behind them
 pub loads-slot : (h : Held) (x : List ℕ) → Narrow h
@@ -86,36 +87,43 @@ slots-back =
 counts-back : (ns : List ℕ) (y : List ℕ) → All InEight ns → countsIn (length ns) (countsBytes ns ++ y) ≡ ns
 counts-back = series-back 8 (λ (x : List ℕ). value 8 x 0) (le 8) InEight (λ v y h. (value-le 8 v y h, refl))
 
--- a table with the code's widths, and what stands in its image behind its front, behind the slots, behind their counts and behind the idle one
+-- a table with the code's widths, and what stands in its image behind its front, behind the slots, behind their counts, behind the idle one and behind the departed one
 module _ (n : ℕ) (t : Table) (w : TableWidths n t) where
   first-byte : byte (imageOf t) 0 ≡ version
   unfolding imageOf
   first-byte = refl
 
-  abbrev twoCounts : List ℕ
-  twoCounts = le 8 (t .idle) ++ le 8 (t .departed)
+  abbrev departedOn : List ℕ
+  departedOn = le 8 (t .departed) ++ (t .last ∷ [])
+
+  abbrev idleOn : List ℕ
+  idleOn = le 8 (t .idle) ++ departedOn
 
   abbrev tail : List ℕ
-  tail = countsBytes (t .had) ++ twoCounts
+  tail = countsBytes (t .had) ++ idleOn
 
   behind-front : drop 9 (imageOf t) ≡ slotsBytes (t .slots) ++ tail
   unfolding imageOf
   behind-front =
-      append-assoc (slotsBytes (t .slots) ++ countsBytes (t .had)) (le 8 (t .idle)) (le 8 (t .departed))
-      ∙ append-assoc (slotsBytes (t .slots)) (countsBytes (t .had)) twoCounts
+      append-assoc (slotsBytes (t .slots) ++ countsBytes (t .had) ++ le 8 (t .idle)) (le 8 (t .departed)) (t .last ∷ [])
+      ∙ append-assoc (slotsBytes (t .slots) ++ countsBytes (t .had)) (le 8 (t .idle)) departedOn
+      ∙ append-assoc (slotsBytes (t .slots)) (countsBytes (t .had)) idleOn
 
   behind-slots : drop (countsAt n) (imageOf t) ≡ tail
   behind-slots =
       sym (drop-drop (9 * n) 9 (imageOf t)) ∙ ap (drop (9 * n)) behind-front
       ∙ drop-at (slotsBytes (t .slots)) tail (9 * n) (length-slots (t .slots) ∙ ap (λ (k : ℕ). 9 * k) (w .slots))
 
-  behind-counts : drop (idleAt n) (imageOf t) ≡ twoCounts
+  behind-counts : drop (idleAt n) (imageOf t) ≡ idleOn
   behind-counts =
       sym (drop-drop (8 * n) (countsAt n) (imageOf t)) ∙ ap (drop (8 * n)) behind-slots
-      ∙ drop-at (countsBytes (t .had)) twoCounts (8 * n) (length-counts (t .had) ∙ ap (λ (k : ℕ). 8 * k) (w .counts))
+      ∙ drop-at (countsBytes (t .had)) idleOn (8 * n) (length-counts (t .had) ∙ ap (λ (k : ℕ). 8 * k) (w .counts))
 
-  behind-idle : drop (departedAt n) (imageOf t) ≡ le 8 (t .departed)
+  behind-idle : drop (departedAt n) (imageOf t) ≡ departedOn
   behind-idle = sym (drop-drop 8 (idleAt n) (imageOf t)) ∙ ap (drop 8) behind-counts
+
+  behind-departed : drop (lastAt n) (imageOf t) ≡ t .last ∷ []
+  behind-departed = sym (drop-drop 8 (departedAt n) (imageOf t)) ∙ ap (drop 8) behind-idle
 
   slots-stored : slotsWrong n 9 (drop 9 (imageOf t)) ≡ none
   slots-stored =
@@ -134,10 +142,10 @@ module _ (n : ℕ) (t : Table) (w : TableWidths n t) where
   -- R82: the table in an image is the one that it is of
   table-back : tableIn n (imageOf t) ≡ t
   table-back =
-      ap₂ (λ (k : ℕ) (ss : List Slot). withDeparted (withCounts (tableWith k ss) (countsIn n (drop (countsAt n) (imageOf t))) (value 8 (imageOf t) (idleAt n))) (value 8 (imageOf t) (departedAt n)))
-      clock-back slots
-      ∙ ap₂ (λ (ns : List ℕ) (v : ℕ). withDeparted (withCounts (tableWith (t .clock) (t .slots)) ns v) (value 8 (imageOf t) (departedAt n))) had idle
-      ∙ ap (withDeparted (withCounts (tableWith (t .clock) (t .slots)) (t .had) (t .idle))) departed
+      let behind : Table → Table = λ u. withLast (withDeparted u (value 8 (imageOf t) (departedAt n))) (byte (imageOf t) (lastAt n)) in
+      ap₂ (λ (k : ℕ) (ss : List Slot). behind (withCounts (tableWith k ss) (countsIn n (drop (countsAt n) (imageOf t))) (value 8 (imageOf t) (idleAt n)))) clock-back slots
+      ∙ ap₂ (λ (ns : List ℕ) (v : ℕ). behind (withCounts (tableWith (t .clock) (t .slots)) ns v)) had idle
+      ∙ ap₂ (λ (v k : ℕ). withLast (withDeparted (withCounts (tableWith (t .clock) (t .slots)) (t .had) (t .idle)) v) k) departed last
     where
       slots : slotsIn n (drop 9 (imageOf t)) ≡ t .slots
       slots =
@@ -147,16 +155,19 @@ module _ (n : ℕ) (t : Table) (w : TableWidths n t) where
       had : countsIn n (drop (countsAt n) (imageOf t)) ≡ t .had
       had =
           ap (countsIn n) behind-slots ∙ ap (λ (k : ℕ). countsIn k tail) (sym (w .counts))
-          ∙ counts-back (t .had) twoCounts (w .had)
+          ∙ counts-back (t .had) idleOn (w .had)
 
       number : (o v : ℕ) (y : List ℕ) → drop o (imageOf t) ≡ le 8 v ++ y → InEight v → value 8 (imageOf t) o ≡ v
       number o v y e h = sym (value-front 8 o (imageOf t)) ∙ ap (λ (x : List ℕ). value 8 x 0) e ∙ value-le 8 v y h
 
       idle : value 8 (imageOf t) (idleAt n) ≡ t .idle
-      idle = number (idleAt n) (t .idle) (le 8 (t .departed)) behind-counts (w .idle)
+      idle = number (idleAt n) (t .idle) departedOn behind-counts (w .idle)
 
       departed : value 8 (imageOf t) (departedAt n) ≡ t .departed
-      departed = number (departedAt n) (t .departed) [] behind-idle (w .departed)
+      departed = number (departedAt n) (t .departed) (t .last ∷ []) behind-idle (w .departed)
+
+      last : byte (imageOf t) (lastAt n) ≡ t .last
+      last = sym (byte-front (lastAt n) (imageOf t)) ∙ ap (λ (x : List ℕ). byte x 0) behind-departed
 
   -- R82: an image loads as its table
   pub loads-back : loadWith n (imageOf t) ≡ gives t

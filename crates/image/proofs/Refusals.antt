@@ -31,7 +31,7 @@ pub data WrongByte (l : List ℕ) (i : ℕ) : Type 0 where
 
 -- R83: something is wrong at offset p: the first byte, a byte of a slot, the length
 pub data Wrong (n : ℕ) (l : List ℕ) (p : ℕ) : Type 0 where
-  version : p ≡ 0 → (byte l 0 ≡ 3 → ⊥) → Wrong n l p
+  version : p ≡ 0 → (byte l 0 ≡ 4 → ⊥) → Wrong n l p
   slot : (k i : ℕ) → k < n → p ≡ 9 + 9 * k + i → WrongByte (drop (9 + 9 * k) l) i → Wrong n l p
   ending : (length l ≡ size n → ⊥) → p ≡ min (length l) (size n) → Wrong n l p
 
@@ -159,17 +159,17 @@ module _ (n : ℕ) (l : List ℕ) where
 
   -- the three grounds, each by itself
   abbrev OfVersion : ℕ → Type 0
-  OfVersion q = (q ≡ 0) × (byte l 0 ≡ 3 → ⊥)
+  OfVersion q = (q ≡ 0) × (byte l 0 ≡ 4 → ⊥)
 
   abbrev OfLength : ℕ → Type 0
   OfLength q = (length l ≡ size n → ⊥) × (q ≡ min (length l) (size n))
 
   version-least : Least OfVersion (versionWrong l)
-  version-least = go (eqb (byte l 0) 3) refl
+  version-least = go (eqb (byte l 0) 4) refl
     where
-      go : (o : Bool) → eqb (byte l 0) 3 ≡ o → Least OfVersion (pick o none (some 0))
-      go true e = λ q x. x .1 (eqb-true (byte l 0) 3 e)
-      go false e = ((refl, eqb-false (byte l 0) 3 e), λ q x. omega arith)
+      go : (o : Bool) → eqb (byte l 0) 4 ≡ o → Least OfVersion (pick o none (some 0))
+      go true e = λ q x. x .1 (eqb-true (byte l 0) 4 e)
+      go false e = ((refl, eqb-false (byte l 0) 4 e), λ q x. omega arith)
 
   length-least : Least OfLength (lengthWrong (size n) (length l))
   unfolding lengthWrong

@@ -1,6 +1,6 @@
 -- An image that loads is stored byte for byte as it was (R82).
 use mathlib.Core.Path.{_≡_, refl, sym, ap, ap₂, _∙_}
-use mathlib.Core.List.{List, _∷_, _++_, append-assoc}
+use mathlib.Core.List.{List, [], _∷_, _++_, append-assoc}
 use mathlib.Core.Bool.{Bool, true, false}
 use mathlib.Core.Option.{Option, none, some}
 use Prim.Native.Nat.{ℕ, zero, suc, _+_, _*_, _≤_, _<_}
@@ -20,7 +20,7 @@ use Rattle.table.specs.declared.Table.{Table}
 use Rattle.table.specs.Words.{gives}
 use Rattle.card.specs.Bytes.{Bytes, le, value}
 use Rattle.card.proofs.Numbers.{bytes-drop, le-value, value-lt}
-use Rattle.image.specs.Image.{version, countsAt, idleAt, departedAt, size, runKind, nine, slotBytes, slotsBytes, countsBytes, imageOf, Narrow, AllNarrow, InEight, TableWidths}
+use Rattle.image.specs.Image.{version, countsAt, idleAt, departedAt, lastAt, size, runKind, nine, slotBytes, slotsBytes, countsBytes, imageOf, Narrow, AllNarrow, InEight, TableWidths}
 use Rattle.image.specs.Loading.{byte, blankFrom, isWrong, slotWrong, onBy, slotsWrong, versionWrong, lengthWrong, wrongIn, runIn, waitIn, heldIn, slotsIn, countsIn, tableIn, unlessWrong, loadWith}
 use Rattle.image.proofs.Series.{next-drop, length-found, series-stand}
 
@@ -148,12 +148,14 @@ front-is : (l : List ℕ) → Bytes l → 9 ≤ length l → byte l 0 ≡ versio
 front-is l b h v =
     drop-cons l 0 0 (omega arith) ∙ ap₂ (λ (k : ℕ) (x : List ℕ). k ∷ x) v (le-value 8 l 1 b (omega arith))
 
--- the idle count and the departed one, where nothing follows
-two-counts : (n : ℕ) (l : List ℕ) → Bytes l → length l ≡ size n → le 8 (value 8 l (idleAt n)) ++ le 8 (value 8 l (departedAt n)) ≡ drop (idleAt n) l
-two-counts n l b h =
+-- the idle count, the departed one and the last slot, where nothing follows
+idle-on : (n : ℕ) (l : List ℕ) → Bytes l → length l ≡ size n
+    → le 8 (value 8 l (idleAt n)) ++ (le 8 (value 8 l (departedAt n)) ++ (byte l (lastAt n) ∷ [])) ≡ drop (idleAt n) l
+idle-on n l b h =
     sym (le-value 8 l (idleAt n) b (omega arith)
     ∙ ap (λ (x : List ℕ). le 8 (value 8 l (idleAt n)) ++ x) (le-value 8 l (departedAt n) b (omega arith)
-    ∙ ap (λ (x : List ℕ). le 8 (value 8 l (departedAt n)) ++ x) (drop-of-length-le l {i = departedAt n + 8} (omega arith))))
+    ∙ ap (λ (x : List ℕ). le 8 (value 8 l (departedAt n)) ++ x) (drop-cons l (lastAt n) 0 (omega arith)
+    ∙ ap (λ (x : List ℕ). byte l (lastAt n) ∷ x) (drop-of-length-le l {i = suc (lastAt n)} (omega arith)))))
 
 -- bytes f, s, c and d one after the other, each up to where the next begins
 joined : (l : List ℕ) (a b : ℕ) (f s c d : List ℕ) → d ≡ drop b (drop a (drop 9 l)) → c ++ drop b (drop a (drop 9 l)) ≡ drop a (drop 9 l)
@@ -172,11 +174,14 @@ table-stands n l b w =
     let front = version ∷ le 8 (value 8 l 1) in
     let slots = slotsBytes (slotsIn n (drop 9 l)) in
     let counts = countsBytes (countsIn n (drop (countsAt n) l)) in
+    let idle = le 8 (value 8 l (idleAt n)) in
+    let departed = le 8 (value 8 l (departedAt n)) in
+    let last = byte l (lastAt n) ∷ [] in
     let d : drop (9 * n) (drop 9 l) ≡ drop (countsAt n) l = drop-drop (9 * n) 9 l in
     let e : drop (8 * n) (drop (countsAt n) l) ≡ drop (idleAt n) l = drop-drop (8 * n) (countsAt n) l in (
-      append-assoc (front ++ slots ++ counts) (le 8 (value 8 l (idleAt n))) (le 8 (value 8 l (departedAt n)))
-          ∙ joined l (9 * n) (8 * n) front slots counts (le 8 (value 8 l (idleAt n)) ++ le 8 (value 8 l (departedAt n)))
-          (rw (d, e) (two-counts n l b (v .2))) (rw d (c .0)) (s .0) (front-is l b (omega (arith, v .2)) (v .0)),
+      append-assoc (front ++ slots ++ counts ++ idle) departed last ∙ append-assoc (front ++ slots ++ counts) idle (departed ++ last)
+          ∙ joined l (9 * n) (8 * n) front slots counts (idle ++ (departed ++ last))
+          (rw (d, e) (idle-on n l b (v .2))) (rw d (c .0)) (s .0) (front-is l b (omega (arith, v .2)) (v .0)),
       record {
         slots = length-found 9 (λ (x : List ℕ). holding (heldIn x)) n (drop 9 l);
         clock = value-lt 8 l 1 b;
@@ -185,6 +190,7 @@ table-stands n l b w =
         had = c .1;
         idle = value-lt 8 l (idleAt n) b;
         departed = value-lt 8 l (departedAt n) b;
+        last = b (lastAt n);
       },
     )
 

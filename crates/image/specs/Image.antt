@@ -14,7 +14,7 @@ use Rattle.card.specs.Bytes.{le}
 
 -- R81: the version of the layout
 abbrev pub version : ℕ
-version = 3
+version = 4
 
 -- R81: where the counts begin in the image of a table with n slots
 abbrev pub countsAt : (n : ℕ) → ℕ
@@ -28,9 +28,13 @@ idleAt n = countsAt n + 8 * n
 abbrev pub departedAt : (n : ℕ) → ℕ
 departedAt n = idleAt n + 8
 
+-- R81, R105: and where the slot that ran last stands
+abbrev pub lastAt : (n : ℕ) → ℕ
+lastAt n = departedAt n + 8
+
 -- R81: how long it is
 abbrev pub size : (n : ℕ) → ℕ
-size n = departedAt n + 8
+size n = lastAt n + 1
 
 -- f's bytes of each, the first one's first
 abbrev pub series : {A : Type 0} → (A → List ℕ) → List A → List ℕ
@@ -63,9 +67,9 @@ slotsBytes ss = series (λ (s : Slot). slotBytes (s .held)) ss
 abbrev pub countsBytes : List ℕ → List ℕ
 countsBytes ns = series (le 8) ns
 
--- R81, R82: the version, the clock, the slots, the counts; every table has this one image
+-- R81, R82: the version, the clock, the slots, the counts, the last slot; every table has this one image
 unfoldable pub imageOf : Table → List ℕ
-imageOf t = (version ∷ le 8 (t .clock)) ++ slotsBytes (t .slots) ++ countsBytes (t .had) ++ le 8 (t .idle) ++ le 8 (t .departed)
+imageOf t = (version ∷ le 8 (t .clock)) ++ slotsBytes (t .slots) ++ countsBytes (t .had) ++ le 8 (t .idle) ++ le 8 (t .departed) ++ (t .last ∷ [])
 
 -- R3: the numbers of what a slot holds have sixteen bits
 abbrev pub Narrow : Held → Type 0
@@ -79,7 +83,7 @@ AllNarrow ss = All (λ (s : Slot). Narrow (s .held)) ss
 abbrev pub InEight : ℕ → Type 0
 InEight v = v < 18446744073709551616
 
--- R2, R3, R95: a table of n slots whose numbers have the code's widths, as every table in code has
+-- R2, R3, R95, R105: a table of n slots whose numbers have the code's widths, as every table in code has
 pub record TableWidths (n : ℕ) (t : Table) : Type 0 where
   pub slots : length (t .slots) ≡ n
   pub clock : InEight (t .clock)
@@ -88,3 +92,4 @@ pub record TableWidths (n : ℕ) (t : Table) : Type 0 where
   pub had : All InEight (t .had)
   pub idle : InEight (t .idle)
   pub departed : InEight (t .departed)
+  pub last : t .last < 256

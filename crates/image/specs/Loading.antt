@@ -14,9 +14,9 @@ use Rattle.line.specs.declared.Held.the-variants.{Nothing, Running, Waiting}
 use Rattle.line.specs.declared.Slot.{Slot}
 use Rattle.line.specs.Slots.{pick, both, runThen, waitWith, holding, orElse, lowest}
 use Rattle.table.specs.declared.Table.{Table}
-use Rattle.table.specs.Words.{tableWith, withCounts, withDeparted, refusal, Said, gives, refuses}
+use Rattle.table.specs.Words.{tableWith, withCounts, withDeparted, withLast, refusal, Said, gives, refuses}
 use Rattle.card.specs.Bytes.{value}
-use Rattle.image.specs.Image.{version, countsAt, idleAt, departedAt, size}
+use Rattle.image.specs.Image.{version, countsAt, idleAt, departedAt, lastAt, size}
 
 -- R81: the byte at an offset; one that is not there counts as 0
 abbrev pub byte : List ℕ → (at : ℕ) → ℕ
@@ -83,11 +83,11 @@ slotsIn n l = seriesIn 9 (λ (x : List ℕ). holding (heldIn x)) n l
 abbrev pub countsIn : (n : ℕ) → List ℕ → List ℕ
 countsIn n l = seriesIn 8 (λ (x : List ℕ). value 8 x 0) n l
 
--- R81: the clock, n slots and the counts
+-- R81: the clock, n slots, the counts and the last slot
 abbrev pub tableIn : (n : ℕ) → List ℕ → Table
 tableIn n l =
-    withDeparted (withCounts (tableWith (value 8 l 1) (slotsIn n (drop 9 l))) (countsIn n (drop (countsAt n) l)) (value 8 l (idleAt n)))
-    (value 8 l (departedAt n))
+    withLast (withDeparted (withCounts (tableWith (value 8 l 1) (slotsIn n (drop 9 l))) (countsIn n (drop (countsAt n) l)) (value 8 l (idleAt n))) (value 8 l (departedAt n)))
+    (byte l (lastAt n))
 
 -- R31, R83: refused as broken where a byte is wrong
 abbrev pub unlessWrong : Option ℕ → Table → Said Table

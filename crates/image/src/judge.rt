@@ -74,25 +74,25 @@ fn slots_wrong(image: &[u8]) -> Which
 
 // R83: a wrong length, at the lesser of the two.
 fn length_wrong(len: usize) -> Which
-    ensures { λ r. ⌜ slotOf r ≡ lengthWrong 297 len ⌝ }
+    ensures { λ r. ⌜ slotOf r ≡ lengthWrong 298 len ⌝ }
 {
-    if len == 297 {
+    if len == 298 {
         return Which::None;
     }
-    if len < 297 {
+    if len < 298 {
         return Which::At(len);
     }
-    Which::At(297)
+    Which::At(298)
 }
 
-// R81, R83: the first byte is the version, 3.
+// R81, R83: the first byte is the version, 4.
 fn version_wrong(image: &[u8]) -> bool
     ensures { λ r. ⌜ r ≡ not (eqb (byte (now (image .entry)) 0) version) ⌝ }
 {
     if image.len() < 1 {
         return true;
     }
-    image[0] != 3
+    image[0] != 4
 }
 
 // The nine bytes in front, at one look: whether it finds nothing wrong with them.

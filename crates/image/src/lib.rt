@@ -43,7 +43,7 @@ fn broken(at: usize) -> Loaded
 
 // R81: the table in an image that is long enough.
 fn table_in(image: &[u8]) -> Table
-    requires { ⌜ 297 ≤ length (now image) ⌝ }
+    requires { ⌜ 298 ≤ length (now image) ⌝ }
     ensures { λ r. ⌜ r ≡ tableIn 16 (now (image .entry)) ⌝ }
 {
     let mut t = Table::new(numbers::eight_at(image, 1), slots::slots_in(image));
@@ -51,6 +51,7 @@ fn table_in(image: &[u8]) -> Table
     t.had = had;
     t.idle = numbers::eight_at(image, 281);
     t.departed = numbers::eight_at(image, 289);
+    t.last = image[297];
     t
 }
 
@@ -67,27 +68,28 @@ pub fn load(image: &[u8]) -> Loaded
     }
 }
 
-// R81: the version and the clock, then the slots, then the counts.
+// R81: the version and the clock, then the slots, then the counts, then the last slot.
 fn put_image(t: Table, out: &mut [u8])
-    requires { ⌜ 297 ≤ length (now out) ⌝ }
-    ensures { λ _. ⌜ now (out .exit) ≡ imageOf t ++ drop 297 (now (out .entry)) ⌝ }
+    requires { ⌜ 298 ≤ length (now out) ⌝ }
+    ensures { λ _. ⌜ now (out .exit) ≡ imageOf t ++ drop 298 (now (out .entry)) ⌝ }
 {
     let slots = t.slots;
     let had = t.had;
-    fields::put_nine(out, 3, t.clock);
+    fields::put_nine(out, 4, t.clock);
     slots::put_slots(&mut out[9..], slots);
     counts::put_counts(&mut out[153..], had);
     numbers::put_eight(&mut out[281..], t.idle);
     numbers::put_eight(&mut out[289..], t.departed);
+    out[297] = t.last;
 }
 
 // R33, R84: a buffer that is too short is left alone. The contract settles the answer and the whole buffer: both parts are equations.
 pub fn store(t: Table, out: &mut [u8]) -> WriteAnswer
     ensures { λ r. ⌜ (saidWritten r ≡ storeOf (length (now (out .entry)))) × (now (out .exit) ≡ storedIn t (now (out .entry))) ⌝ }
 {
-    if out.len() < 297 {
+    if out.len() < 298 {
         return WriteAnswer::Refused(Refusal::new(13, 0));
     }
     put_image(t, out);
-    WriteAnswer::Length(297)
+    WriteAnswer::Length(298)
 }

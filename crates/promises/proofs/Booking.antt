@@ -25,13 +25,14 @@ use Rattle.table.specs.declared.Answer.{Answer}
 use Rattle.table.specs.declared.Answer.the-variants.{Start, Refused}
 use Rattle.table.specs.declared.Stepped.{Stepped}
 use Rattle.table.specs.Words.{emptyTable}
-use Rattle.table.specs.Counts.{hadBy, sum, accounted, counting, settle}
+use Rattle.table.specs.Counts.{Inside, hadBy, sum, accounted, counting, settle}
 use Rattle.table.specs.Grounds.{entry, asked}
 use Rattle.table.specs.Ask.{askOf}
 use Rattle.table.specs.Admit.{newLine, putAt, admittedAt, admitWith}
 use Rattle.table.specs.Step.{choose, serve, pass, departsIn, ticked}
 use Rattle.table.specs.Leave.{letGoAt}
 use Rattle.table.specs.Runs.{Act, asking, admitting, stepping, leaving, after, run, isSlot}
+use Rattle.table.proofs.Choice.{choose-inside}
 use Rattle.table.proofs.Counts.{had-after, length-had, tick-counts, settling-accounted, settling-length, settling-other, settling-gone}
 use Rattle.table.proofs.LettingGo.{let-go-accounted, may-inside, left-is}
 use Rattle.theory.specs.Fine.{May}
@@ -147,15 +148,15 @@ booked-admitted t q r g b = record {
         ap (λ (o : Option ℕ). putAt o 0 (t .had)) (g .cleared .lowest-empty) ∙ ap (set (t .had) j) (sym zero-there) ∙ set-getD (t .had) j 0
 
 -- R97, R101: a tick is counted once, for a slot that holds a line or as idle, and who departs takes his count with him
-booked-ticked : (t : Table) → Booked t → Booked (ticked (choose (t .slots)) t .table)
+booked-ticked : (t : Table) → Booked t → Booked (ticked (choose t) t .table)
 booked-ticked t b = record {
   long = tick-length o t ∙ b .long ∙ sym (length-tick o (t .slots));
   spare = λ k h e. empty-has-none k (rw (length-tick o (t .slots)) at h) (departsIn o (t .slots) k) refl (sym (ap isNothing (at-pass (serve o (t .slots)) k) ∙ nothing-passed (at (serve o (t .slots)) k)) ∙ e);
-  all = omega (arith, b .all, settling-accounted (departsIn o (t .slots)) (length (t .slots)) (counting o t), tick-counts o (t .had) (t .idle) (inside o (choice-may t)));
+  all = omega (arith, b .all, settling-accounted (departsIn o (t .slots)) (length (t .slots)) (counting o t), tick-counts o (t .had) (t .idle) (subst (λ (n : ℕ). Inside n o) (sym (b .long)) (choose-inside t)));
 }
   where
     o : Option ℕ
-    o = choose (t .slots)
+    o = choose t
 
     was-empty : (c : Bool) → pick c true false ≡ true → c ≡ true
     was-empty true e = refl
@@ -166,10 +167,6 @@ booked-ticked t b = record {
     empty-has-none k l false e f =
         let n = sym (serve-keeps isNothing nothing-served o (t .slots) k (choice-may t)) ∙ was-empty (isNothing (at (serve o (t .slots)) k)) f in
         omega (arith, tick-had o t k (omega (arith, b .long)) e, b .spare k l n, unserved o (t .slots) k (choice-may t) n)
-
-    inside : (p : Option ℕ) → May p (t .slots) → (k : ℕ) → p ≡ some k → k < length (t .had)
-    inside none m k e = let z : _≡_ {A = ℕ} 0 1 = cc in absurd (omega arith)
-    inside (some j) m k e = let z : j ≡ k = cc in omega (arith, m .0, b .long)
 
 -- R101: a line let go takes its count with it if it is gone
 booked-let-go : (n : ℕ) (t : Table) → mayLeave (at (t .slots) n) ≡ true → Booked t → Booked (letGoAt n t)

@@ -18,7 +18,7 @@ use Rattle.table.specs.Counts.{settling}
 use Rattle.table.specs.Step.{chosen, advance, stepOf}
 use Rattle.table.specs.Leave.{leaveOf}
 use Rattle.table.specs.Runs.{Act, asking, admitting, stepping, leaving, run}
-use Rattle.table.specs.Cases.{running, parting, waiting, tableOf, tallied, talliedWith}
+use Rattle.table.specs.Cases.{running, parting, waiting, tableOf, tallied, talliedWith, ranLast}
 use Rattle.image.specs.Image.{imageOf}
 use Rattle.image.specs.Loading.{blankFrom, slotsWrong, lengthWrong, wrongIn, heldIn, loadWith, loadOf}
 use Rattle.image.specs.Answers.{storeOf, storedIn}
@@ -31,7 +31,7 @@ use Rattle.promises.specs.Images.{NarrowRequest, Narrowed, AllNarrowed, 
 
 -- the version and a clock below 256
 abbrev front : (clock : ℕ) → List ℕ
-front k = 3 ∷ k ∷ 0 ∷ 0 ∷ 0 ∷ 0 ∷ 0 ∷ 0 ∷ 0 ∷ []
+front k = 4 ∷ k ∷ 0 ∷ 0 ∷ 0 ∷ 0 ∷ 0 ∷ 0 ∷ 0 ∷ []
 
 -- a running line whose numbers are below 256
 abbrev runs : (need period age remaining : ℕ) → List ℕ
@@ -58,13 +58,13 @@ abbrev counts : List ℕ → List ℕ
 counts [] = []
 counts (n ∷ ns) = count n ++ counts ns
 
--- the counts from slot 0 up, 0 for the others, the idle one and the departed one
-abbrev ticksWith : (had : List ℕ) → (idle departed : ℕ) → List ℕ
-ticksWith ns n d = counts ns ++ (replicate (8 * (16 - length ns)) 0 ++ (count n ++ count d))
+-- the counts from slot 0 up, 0 for the others, the idle one and the departed one, and the slot that ran last
+abbrev ticksWith : (had : List ℕ) → (idle departed last : ℕ) → List ℕ
+ticksWith ns n d k = counts ns ++ (replicate (8 * (16 - length ns)) 0 ++ (count n ++ (count d ++ (k ∷ []))))
 
 -- the same where nobody has departed
-abbrev ticks : (had : List ℕ) → (idle : ℕ) → List ℕ
-ticks ns n = ticksWith ns n 0
+abbrev ticks : (had : List ℕ) → (idle last : ℕ) → List ℕ
+ticks ns n k = ticksWith ns n 0 k
 
 -- ---- acts
 
@@ -96,7 +96,7 @@ two = admitting (new [] 4 8) ∷ admitting (new (8 ∷ []) 4 8) ∷ replicate 4 
 
 -- the table then
 abbrev atFour : Table
-atFour = tallied (4 ∷ []) 0 (tableOf 4 (running 4 8 4 0 ∷ running 4 8 4 4 ∷ []))
+atFour = ranLast 0 (tallied (4 ∷ []) 0 (tableOf 4 (running 4 8 4 0 ∷ running 4 8 4 4 ∷ [])))
 
 -- then the first is stretched, and the third waits for one tick
 abbrev third : Act
@@ -104,22 +104,22 @@ third = admitting (new (16 ∷ 8 ∷ []) 1 4)
 
 abbrev imageCases : List ImageCase
 imageCases =
-    comes emptyTable [] emptyTable (front 0 ++ (free 16 ++ ticks [] 0))
-    ∷ comes emptyTable (asking (new [] 2 4) ∷ []) emptyTable (front 0 ++ (free 16 ++ ticks [] 0))
-    ∷ comes emptyTable (stepping ∷ []) (tallied [] 1 (tableOf 1 [])) (front 1 ++ (free 16 ++ ticks [] 1))
-    ∷ comes emptyTable one oneIn (front 0 ++ (runs 2 4 0 2 ++ (free 15 ++ ticks [] 0)))
-    ∷ comes emptyTable (one ++ (stepping ∷ stepping ∷ [])) (tallied (2 ∷ []) 0 (tableOf 2 (running 2 4 2 0 ∷ []))) (front 2 ++ (runs 2 4 2 0 ++ (free 15 ++ ticks (2 ∷ []) 0)))
+    comes emptyTable [] emptyTable (front 0 ++ (free 16 ++ ticks [] 0 255))
+    ∷ comes emptyTable (asking (new [] 2 4) ∷ []) emptyTable (front 0 ++ (free 16 ++ ticks [] 0 255))
+    ∷ comes emptyTable (stepping ∷ []) (tallied [] 1 (tableOf 1 [])) (front 1 ++ (free 16 ++ ticks [] 1 255))
+    ∷ comes emptyTable one oneIn (front 0 ++ (runs 2 4 0 2 ++ (free 15 ++ ticks [] 0 255)))
+    ∷ comes emptyTable (one ++ (stepping ∷ stepping ∷ [])) (ranLast 0 (tallied (2 ∷ []) 0 (tableOf 2 (running 2 4 2 0 ∷ [])))) (front 2 ++ (runs 2 4 2 0 ++ (free 15 ++ ticks (2 ∷ []) 0 0)))
     -- R86: an ask that would be granted leaves the bytes; R87: a refused admission, 8 and 5, leaves them too
-    ∷ comes emptyTable (one ++ (asking (new (8 ∷ []) 1 4) ∷ [])) oneIn (front 0 ++ (runs 2 4 0 2 ++ (free 15 ++ ticks [] 0)))
-    ∷ comes emptyTable (one ++ (admitting (new (4 ∷ []) 3 4) ∷ admitting (new (3 ∷ []) 1 4) ∷ [])) oneIn (front 0 ++ (runs 2 4 0 2 ++ (free 15 ++ ticks [] 0)))
-    ∷ comes emptyTable two atFour (front 4 ++ (runs 4 8 4 0 ++ (runs 4 8 4 4 ++ (free 14 ++ ticks (4 ∷ []) 0))))
-    ∷ comes atFour (third ∷ []) (tallied (4 ∷ []) 0 (tableOf 4 (running 4 16 4 0 ∷ running 4 8 4 4 ∷ waiting 1 4 1 ∷ []))) (front 4 ++ (runs 4 16 4 0 ++ (runs 4 8 4 4 ++ (waits 1 4 1 ++ (free 13 ++ ticks (4 ∷ []) 0)))))
-    ∷ comes atFour (third ∷ stepping ∷ []) (tallied (4 ∷ 1 ∷ []) 0 (tableOf 5 (running 4 16 5 0 ∷ running 4 8 5 3 ∷ running 1 4 0 1 ∷ []))) (front 5 ++ (runs 4 16 5 0 ++ (runs 4 8 5 3 ++ (runs 1 4 0 1 ++ (free 13 ++ ticks (4 ∷ 1 ∷ []) 0)))))
-    -- R102: slot 1 leaves, and four ticks later is gone; slot 2, which waits, is gone at once; what is refused leaves the bytes
-    ∷ comes atFour (leaving 1 ∷ []) (tallied (4 ∷ []) 0 (tableOf 4 (running 4 8 4 0 ∷ parting 4 8 4 4 ∷ []))) (front 4 ++ (runs 4 8 4 0 ++ (parts 4 8 4 4 ++ (free 14 ++ ticks (4 ∷ []) 0))))
-    ∷ comes atFour (leaving 1 ∷ replicate 4 stepping) (talliedWith (4 ∷ []) 0 4 (tableOf 8 (running 4 8 0 4 ∷ []))) (front 8 ++ (runs 4 8 0 4 ++ (free 15 ++ ticksWith (4 ∷ []) 0 4)))
-    ∷ comes atFour (third ∷ leaving 2 ∷ []) (tallied (4 ∷ []) 0 (tableOf 4 (running 4 16 4 0 ∷ running 4 8 4 4 ∷ []))) (front 4 ++ (runs 4 16 4 0 ++ (runs 4 8 4 4 ++ (free 14 ++ ticks (4 ∷ []) 0))))
-    ∷ comes atFour (leaving 2 ∷ leaving 99 ∷ []) atFour (front 4 ++ (runs 4 8 4 0 ++ (runs 4 8 4 4 ++ (free 14 ++ ticks (4 ∷ []) 0))))
+    ∷ comes emptyTable (one ++ (asking (new (8 ∷ []) 1 4) ∷ [])) oneIn (front 0 ++ (runs 2 4 0 2 ++ (free 15 ++ ticks [] 0 255)))
+    ∷ comes emptyTable (one ++ (admitting (new (4 ∷ []) 3 4) ∷ admitting (new (3 ∷ []) 1 4) ∷ [])) oneIn (front 0 ++ (runs 2 4 0 2 ++ (free 15 ++ ticks [] 0 255)))
+    ∷ comes emptyTable two atFour (front 4 ++ (runs 4 8 4 0 ++ (runs 4 8 4 4 ++ (free 14 ++ ticks (4 ∷ []) 0 0))))
+    ∷ comes atFour (third ∷ []) (ranLast 0 (tallied (4 ∷ []) 0 (tableOf 4 (running 4 16 4 0 ∷ running 4 8 4 4 ∷ waiting 1 4 1 ∷ [])))) (front 4 ++ (runs 4 16 4 0 ++ (runs 4 8 4 4 ++ (waits 1 4 1 ++ (free 13 ++ ticks (4 ∷ []) 0 0)))))
+    ∷ comes atFour (third ∷ stepping ∷ []) (ranLast 1 (tallied (4 ∷ 1 ∷ []) 0 (tableOf 5 (running 4 16 5 0 ∷ running 4 8 5 3 ∷ running 1 4 0 1 ∷ [])))) (front 5 ++ (runs 4 16 5 0 ++ (runs 4 8 5 3 ++ (runs 1 4 0 1 ++ (free 13 ++ ticks (4 ∷ 1 ∷ []) 0 1)))))
+    -- R102, R105: slot 1 leaves, and four ticks later is gone, and with it who ran last; slot 2, which waits, is gone at once; what is refused leaves the bytes
+    ∷ comes atFour (leaving 1 ∷ []) (ranLast 0 (tallied (4 ∷ []) 0 (tableOf 4 (running 4 8 4 0 ∷ parting 4 8 4 4 ∷ [])))) (front 4 ++ (runs 4 8 4 0 ++ (parts 4 8 4 4 ++ (free 14 ++ ticks (4 ∷ []) 0 0))))
+    ∷ comes atFour (leaving 1 ∷ replicate 4 stepping) (talliedWith (4 ∷ []) 0 4 (tableOf 8 (running 4 8 0 4 ∷ []))) (front 8 ++ (runs 4 8 0 4 ++ (free 15 ++ ticksWith (4 ∷ []) 0 4 255)))
+    ∷ comes atFour (third ∷ leaving 2 ∷ []) (ranLast 0 (tallied (4 ∷ []) 0 (tableOf 4 (running 4 16 4 0 ∷ running 4 8 4 4 ∷ [])))) (front 4 ++ (runs 4 16 4 0 ++ (runs 4 8 4 4 ++ (free 14 ++ ticks (4 ∷ []) 0 0))))
+    ∷ comes atFour (leaving 2 ∷ leaving 99 ∷ []) atFour (front 4 ++ (runs 4 8 4 0 ++ (runs 4 8 4 4 ++ (free 14 ++ ticks (4 ∷ []) 0 0))))
     ∷ []
 
 -- R78: the bytes after the acts over the boundary
@@ -178,9 +178,9 @@ before-the-last r u = ap (λ (x : Result). x .number) (u .goes-on (omega arith) 
 
 -- ---- limits
 
--- R85: of other bytes, 297 become the image of the empty table, 296 are left, and of 298 one is left behind it
-pub empty-edges : map (λ (n : ℕ). storedIn emptyTable (replicate n 7)) (297 ∷ 296 ∷ 298 ∷ [])
-    ≡ imageOf emptyTable ∷ replicate 296 7 ∷ (imageOf emptyTable ++ (7 ∷ [])) ∷ []
+-- R85: of other bytes, 298 become the image of the empty table, 297 are left, and of 299 one is left behind it
+pub empty-edges : map (λ (n : ℕ). storedIn emptyTable (replicate n 7)) (298 ∷ 297 ∷ 299 ∷ [])
+    ≡ imageOf emptyTable ∷ replicate 297 7 ∷ (imageOf emptyTable ++ (7 ∷ [])) ∷ []
 unfolding imageOf storeOf
 empty-edges = refl
 

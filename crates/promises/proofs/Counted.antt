@@ -69,7 +69,7 @@ act-had (admitting q) t k g h = λ f. go (askOf t q)
 act-had stepping t k g h =
     split (2 ^ 48) (t .clock)
     (λ l. subst (λ (s : Stepped). isNothing (at (s .table .slots) k) ≡ false → hadBy (s .table) k ≡ hadBy t k + times k (ranIn (s .outcome))) (sym (at-last t l)) (λ f. omega arith))
-    (λ l. let o = choose (t .slots) in
+    (λ l. let o = choose t in
     let e : times k (ranIn (ticked o t .outcome)) ≡ isSlot k o + 0 = ap (λ (p : Option ℕ). isSlot k p + 0) (slot-of-which o) in
     subst (λ (s : Stepped). isNothing (at (s .table .slots) k) ≡ false → hadBy (s .table) k ≡ hadBy t k + times k (ranIn (s .outcome))) (sym (step-table t g l))
     (λ f. omega (arith, tick-had o t k h (stayed o (t .slots) k f), e)))
@@ -83,7 +83,7 @@ act-length (admitting q) t g = admit-counts t q
 act-length stepping t g =
     split (2 ^ 48) (t .clock)
     (λ l. ap (λ (s : Stepped). length (s .table .had)) (at-last t l))
-    (λ l. ap (λ (s : Stepped). length (s .table .had)) (step-table t g l) ∙ tick-length (choose (t .slots)) t)
+    (λ l. ap (λ (s : Stepped). length (s .table .had)) (step-table t g l) ∙ tick-length (choose t) t)
 act-length (leaving n) t g = leave-counts t n
 
 -- ---- since the present line was admitted
@@ -153,7 +153,7 @@ act-idle (admitting q) t g = go (askOf t q)
 act-idle stepping t g =
     split (2 ^ 48) (t .clock)
     (λ l. subst (λ (s : Stepped). s .table .idle ≡ t .idle + idles (ranIn (s .outcome))) (sym (at-last t l)) (omega arith))
-    (λ l. let o = choose (t .slots) in
+    (λ l. let o = choose t in
     let e : idles (ranIn (ticked o t .outcome)) ≡ isIdle o + 0 = ap (λ (p : Option ℕ). isIdle p + 0) (slot-of-which o) in
     subst (λ (s : Stepped). s .table .idle ≡ t .idle + idles (ranIn (s .outcome))) (sym (step-table t g l)) (omega (arith, settling-idle (departsIn o (t .slots)) (length (t .slots)) (counting o t), idle-after o (t .idle), e)))
 act-idle (leaving n) t g = left-is (λ u. u .idle ≡ t .idle + 0) t n (omega arith) (λ f m. go (isNothing (letGo (at (t .slots) n))))
@@ -199,9 +199,9 @@ had-since-admitted acts q r k a more u =
     let z : hadBy (admitted-table acts q) k ≡ 0 = act-had (admitting q) t k g h f ∙ ap (λ (x : Bool). pick x 0 (hadBy t k + 0)) n in
     omega (arith, had-occupied more (admitted-table acts q) k (good-after (admitting q) t g) (rw (act-length (admitting q) t g) h) f u, z)
 
-still-empty : (t : Table) (k : ℕ) → isNothing (at (t .slots) k) ≡ true → isNothing (at (ticked (choose (t .slots)) t .table .slots) k) ≡ true
+still-empty : (t : Table) (k : ℕ) → isNothing (at (t .slots) k) ≡ true → isNothing (at (ticked (choose t) t .table .slots) k) ≡ true
 still-empty t k e =
-    let o = choose (t .slots) in
+    let o = choose t in
     let s = serve-keeps isNothing nothing-served o (t .slots) k (choice-may t) ∙ e in
     ap isNothing (at-pass (serve o (t .slots)) k) ∙ nothing-passed (at (serve o (t .slots)) k) ∙ ap (λ (b : Bool). pick b true (departsIn o (t .slots) k)) s
 

@@ -95,7 +95,7 @@ stored-loads-back t l a m n w s e =
 -- R82: an image that loads is stored byte for byte
 pub loaded-stores-back : LoadedStoresBack
 loaded-stores-back image t l a m b e h s =
-    let n : length image ≡ 297 = loaded-length 16 image t e in
+    let n : length image ≡ 298 = loaded-length 16 image t e in
     (s .0 ∙ has-room (length l) (omega arith) ∙ ap gives (sym n), s .1 ∙ stored-is t l (omega arith) ∙ ap₂ (λ (x : List ℕ) (k : ℕ). x ++ drop k l) (stores-back 16 image b t e .0) (sym n))
 
 -- R14, R18, R65, R72, R82: the second demand

@@ -30,7 +30,7 @@ unfailing t g = record {
   sound = g .fine .sound;
   no-fault = sound-faultless t (g .fine .sound) (g .within);
   clock-in = g .clock-in;
-  goes-on = λ h. (slotOf (whichOf (choose (t .slots))), goes h);
+  goes-on = λ h. (slotOf (whichOf (choose t)), goes h);
   only-fifteen = λ x e.
       split (2 ^ 48) (t .clock)
       (λ h. let p = last h in let z : x ≡ refusal 15 0 = cc in (z, omega (arith, g .clock-in)))
@@ -38,7 +38,7 @@ unfailing t g = record {
   at-the-last = λ e. last (omega arith);
 }
   where
-    goes : t .clock < 2 ^ 48 → saysRan (stepOf t .outcome) ≡ gives (slotOf (whichOf (choose (t .slots))))
+    goes : t .clock < 2 ^ 48 → saysRan (stepOf t .outcome) ≡ gives (slotOf (whichOf (choose t)))
     goes h = ap (λ (s : Stepped). saysRan (s .outcome)) (fine-step t (g .fine) (g .within) h)
 
     last : 2 ^ 48 ≤ t .clock → saysRan (stepOf t .outcome) ≡ refuses (refusal 15 0)

@@ -43,11 +43,11 @@ use Rattle.promises.proofs.Good.{slot-empty, admitted-slots}
 -- ---- a table with excess ahead
 
 -- the step of a sound table before the last tick is the tick of its own choice, refused or not
-sound-step : (t : Table) → Each Sound (t .slots) → accounted t ≤ t .clock → t .clock < 2 ^ 48 → stepOf t ≡ advance (choose (t .slots)) t
+sound-step : (t : Table) → Each Sound (t .slots) → accounted t ≤ t .clock → t .clock < 2 ^ 48 → stepOf t ≡ advance (choose t) t
 unfolding stepOf
 sound-step t s w h = rw (lt-leb (2 ^ 48) (t .clock) h, sound-faultless t s w)
 
-short-step : (t : Table) (i : ℕ) → Each Sound (t .slots) → accounted t ≤ t .clock → t .clock < 2 ^ 48 → lowestOf short (serve (choose (t .slots)) (t .slots)) ≡ some i
+short-step : (t : Table) (i : ℕ) → Each Sound (t .slots) → accounted t ≤ t .clock → t .clock < 2 ^ 48 → lowestOf short (serve (choose t) (t .slots)) ≡ some i
     → stepOf t ≡ refusedStep t 14 i
 unfolding advance
 short-step t i s w h e = sound-step t s w h ∙ rw e
@@ -61,7 +61,7 @@ runs-short zero last t s w b l x =
 runs-short (suc n) last t s within b l x = go (lowestOf short (serve o (t .slots))) refl (runs-short n last next)
   where
     o : Option ℕ
-    o = choose (t .slots)
+    o = choose t
 
     next : Table
     next = ticked o t .table
@@ -92,7 +92,7 @@ runs-short (suc n) last t s within b l x = go (lowestOf short (serve o (t .slots
     }
     go none e rest =
         let v : Each Kept (serve o (t .slots)) = short-none (serve o (t .slots)) e in
-        let m : May o (t .slots) = earliest-may o (t .slots) (choose-earliest (t .slots)) in
+        let m : May o (t .slots) = earliest-may o (t .slots) (choose-earliest t) in
         let y = excess-kept (t .clock) o (t .slots) (t .clock + suc n) s m v (omega arith) (omega arith) in
         let a : t .clock + suc n ≡ t .clock + 1 + n = omega arith in
         let c : demands (t .clock + 1) (next .slots) (t .clock + 1 + n) ≡ demands (suc (t .clock)) (next .slots) (t .clock + suc n) =

@@ -1,11 +1,11 @@
 -- The edges of the promises: each strictness with an example on each side of it.
-use Prim.Native.Nat.{ℕ, zero, suc, _+_, _≤_}
+use Prim.Native.Nat.{ℕ, zero, suc, _+_, _-_, _^_, _≤_, _<_}
 use mathlib.Core.Path.{_≡_, refl}
 use mathlib.Core.List.{List, [], _∷_, _++_, map}
 use mathlib.Core.Option.{none, some}
 use native.Mathlib.Omega.{arith}
 use native.Mathlib.Nat.{not-suc-le-zero}
-use lib.ListN.{take, drop, replicate}
+use lib.ListN.{length, take, drop, replicate}
 use Rattle.periods.specs.Multiples.{euclid, gcdOf, lcmOf, frameFrom}
 use Rattle.table.specs.declared.Table.{Table}
 use Rattle.table.specs.declared.Request.{Request}
@@ -15,19 +15,54 @@ use Rattle.line.specs.Demand.{lastEnd}
 use Rattle.line.specs.Shares.{periodsIn}
 use Rattle.line.specs.Ends.{endsOf, slack, bound, greatest, soonestOf, firstShort, start}
 use Rattle.line.proofs.Search.{true-false}
-use Rattle.table.specs.Words.{requestWith, emptyTable}
-use Rattle.table.specs.Ask.{askIn, askOf}
+use Rattle.table.specs.Words.{requestWith, emptyTable, gives}
+use Rattle.table.specs.Ask.{says, askIn, askOf}
 use Rattle.table.specs.Counts.{settling}
-use Rattle.table.specs.Step.{chosen, advance, stepOf}
+use Rattle.table.specs.Step.{Earliest, chosen, advance, stepOf}
 use Rattle.table.specs.Leave.{leaveOf}
 use Rattle.table.specs.Runs.{Act, asking, admitting, stepping, leaving, run, trace, times, idles, since}
 use Rattle.table.specs.Cases.{running, tableOf, caseA}
 use Rattle.promises.specs.Demand1.{OnlyTen}
 use Rattle.promises.specs.Demand3.{admitted-table, Unstretched, Unremoved, Misses, Sixteen}
+use Rattle.theory.proofs.Step.{choose-earliest}
+use Rattle.promises.specs.Last.{Got, ran-table}
 use Rattle.promises.specs.Counted.{Unplaced, Occupied}
 use Rattle.promises.specs.Example.{toCaseA, onFromCaseA}
 use Rattle.promises.proofs.Demand3.{has-all-its-need}
 use Rattle.promises.proofs.Example.{case-A-admitted}
+
+-- ---- who ran goes on
+
+-- two lines of the same need and period, beside the T' of those that are there
+abbrev half : (T' : List ℕ) → Request
+half ts = requestWith (ts ++ replicate (16 - length ts) 0) 1 2
+
+-- both are admitted, and the first has its tick
+abbrev halves : List Act
+halves = admitting (half []) ∷ admitting (half (2 ∷ [])) ∷ stepping ∷ []
+
+-- R106: slot 1 gets a tick, renews, and is among the least ends then, also if it is asked to leave meanwhile
+pub goes-on-met : Got halves 1 × (trace (asking (half (2 ∷ 2 ∷ [])) ∷ leaving 1 ∷ []) (ran-table halves) ≡ [])
+    × Earliest (some 1) (run (asking (half (2 ∷ 2 ∷ [])) ∷ leaving 1 ∷ []) (ran-table halves) .slots) × (run (asking (half (2 ∷ 2 ∷ [])) ∷ leaving 1 ∷ []) (ran-table halves) .clock < 2 ^ 48)
+unfolding euclid gcdOf lcmOf frameFrom total lowest due lastEnd mapAt periodsIn every endsBefore endsOf slack bound greatest soonestOf firstShort start askIn askOf chosen settling advance stepOf leaveOf
+goes-on-met = (record { ran = refl; there = refl }, refl, choose-earliest (run (asking (half (2 ∷ 2 ∷ [])) ∷ leaving 1 ∷ []) (ran-table halves)), omega arith)
+
+-- R106: so the third tick is slot 1's; where its line is gone with the second, and another is admitted in its place, it is slot 0's
+pub gone-edges : (trace (halves ++ (stepping ∷ stepping ∷ stepping ∷ [])) emptyTable ≡ some 0 ∷ some 1 ∷ some 1 ∷ some 0 ∷ [])
+    × (trace (halves ++ (leaving 1 ∷ stepping ∷ admitting (half (2 ∷ [])) ∷ stepping ∷ [])) emptyTable ≡ some 0 ∷ some 1 ∷ some 0 ∷ [])
+unfolding euclid gcdOf lcmOf frameFrom total lowest due lastEnd mapAt periodsIn every endsBefore endsOf slack bound greatest soonestOf firstShort start askIn askOf chosen settling advance stepOf leaveOf
+gone-edges = (refl, refl)
+
+-- lines of (2, 6) and (4, 6), and eight ticks
+abbrev twoOfSix : List Act
+twoOfSix = admitting (requestWith (replicate 16 0) 2 6) ∷ admitting (requestWith (6 ∷ replicate 15 0) 4 6) ∷ replicate 8 stepping
+
+-- R44, R107: ask answers alike for a table, not along a history: after a run in which the lowest of equals had each tick the start would be 9
+pub history-edges : (trace twoOfSix emptyTable ≡ some 0 ∷ some 0 ∷ replicate 6 (some 1))
+    × (says (askOf (run twoOfSix emptyTable) (requestWith (24 ∷ 6 ∷ replicate 14 0) 1 4)) ≡ gives 8)
+    × (says (askOf (tableOf 8 (running 2 6 2 0 ∷ running 4 6 2 4 ∷ [])) (requestWith (24 ∷ 6 ∷ replicate 14 0) 1 4)) ≡ gives 9)
+unfolding euclid gcdOf lcmOf frameFrom total lowest due lastEnd mapAt periodsIn every endsBefore endsOf slack bound greatest soonestOf firstShort start askIn askOf chosen settling advance stepOf
+history-edges = (refl, refl, refl)
 
 -- ---- a miss before the last end
 

@@ -18,7 +18,7 @@ use Rattle.table.specs.Counts.{settling}
 use Rattle.table.specs.Step.{saysRan, chosen, advance, stepOf}
 use Rattle.table.specs.Leave.{saysLeaving, leaveOf}
 use Rattle.table.specs.Runs.{run}
-use Rattle.table.specs.Cases.{tallied, cases, caseA, caseJ}
+use Rattle.table.specs.Cases.{tallied, ranLast, cases, caseA, caseJ}
 use Rattle.theory.proofs.Cases.{cases-answer}
 use Rattle.promises.specs.Demand3.{Admission, admitted-table, Unstretched, Unremoved, stepped, Sixteen, Misses}
 use Rattle.promises.specs.Late.{Tells}
@@ -27,8 +27,8 @@ use Rattle.promises.specs.Example.{toCaseA, onFromCaseA}
 use Rattle.promises.proofs.Demand3.{no-earlier-start}
 use Rattle.promises.proofs.Late.{ten-tells}
 
--- R73, R97: a run, in which slot 0 has had all eight ticks
-pub comes-to-case-A : run toCaseA emptyTable ≡ tallied (8 ∷ []) 0 (caseA .table)
+-- R73, R97, R105: a run, in which slot 0 has had all eight ticks
+pub comes-to-case-A : run toCaseA emptyTable ≡ ranLast 0 (tallied (8 ∷ []) 0 (caseA .table))
 unfolding euclid gcdOf lcmOf frameFrom total lowest due lastEnd mapAt periodsIn every endsBefore endsOf slack bound greatest soonestOf firstShort start askIn askOf chosen settling advance stepOf
 comes-to-case-A = refl
 

@@ -31,15 +31,15 @@ clock-run [] t g = omega arith
 clock-run (a ∷ rest) t g = omega (arith, clock-after a t g, clock-run rest (after a t) (good-after a t g))
 
 -- what holds after the tick, and of the list with its slot in front, holds after a step and of its trace
-by-tick : (Q : Table → List (Option ℕ) → Type 0) (rest : List Act) (t : Table) → Good t → t .clock < 2 ^ 48
-    → Q (ticked (choose (t .slots)) t .table) (choose (t .slots) ∷ trace rest (ticked (choose (t .slots)) t .table))
+pub by-tick : (Q : Table → List (Option ℕ) → Type 0) (rest : List Act) (t : Table) → Good t → t .clock < 2 ^ 48
+    → Q (ticked (choose t) t .table) (choose t ∷ trace rest (ticked (choose t) t .table))
     → Q (stepOf t .table) (trace (stepping ∷ rest) t)
 by-tick Q rest t g h q =
     subst (λ (s : Stepped). Q (s .table) (ranIn (s .outcome) ++ trace rest (s .table))) (sym (step-table t g h))
-    (subst (λ (o : Option ℕ). Q (ticked (choose (t .slots)) t .table) (o ∷ trace rest (ticked (choose (t .slots)) t .table))) (sym (slot-of-which (choose (t .slots)))) q)
+    (subst (λ (o : Option ℕ). Q (ticked (choose t) t .table) (o ∷ trace rest (ticked (choose t) t .table))) (sym (slot-of-which (choose t))) q)
 
 -- what holds of the table and the rest of the run holds after a step at the last tick, which changes nothing
-by-last : (Q : Table → List (Option ℕ) → Type 0) (rest : List Act) (t : Table) → 2 ^ 48 ≤ t .clock
+pub by-last : (Q : Table → List (Option ℕ) → Type 0) (rest : List Act) (t : Table) → 2 ^ 48 ≤ t .clock
     → Q t (trace rest t) → Q (stepOf t .table) (trace (stepping ∷ rest) t)
 by-last Q rest t h q = subst (λ (s : Stepped). Q (s .table) (ranIn (s .outcome) ++ trace rest (s .table))) (sym (at-last t h)) q
 
@@ -51,7 +51,7 @@ Rest k until n x more t tr = Unstretched k until more t → until ≤ run more t
 
 -- the table after the tick of the step's own choice
 abbrev pub next : Table → Table
-next t = ticked (choose (t .slots)) t .table
+next t = ticked (choose t) t .table
 
 -- is good
 pub good-next : (t : Table) → Good t → t .clock < 2 ^ 48 → Good (next t)
@@ -59,13 +59,13 @@ good-next t g h = subst (λ (s : Stepped). Good (s .table)) (step-table t g h) (
 
 -- what a running line has left after it, and how old it is then
 pub one-tick : (t : Table) (k C P a x : ℕ) → Good t → k < length (t .slots) → RunsAs C P a x (at (t .slots) k) → a < P
-    → (y : ℕ) × (y + isSlot k (choose (t .slots)) ≡ x) × (P ≤ a + 1 → y ≡ 0)
-    × (a + 1 < P → RunsAs C P (a + 1) y (at (pass (serve (choose (t .slots)) (t .slots))) k))
+    → (y : ℕ) × (y + isSlot k (choose t) ≡ x) × (P ≤ a + 1 → y ≡ 0)
+    × (a + 1 < P → RunsAs C P (a + 1) y (at (pass (serve (choose t) (t .slots))) k))
 one-tick t k C P a x g b e h =
-    let o = choose (t .slots) in
+    let o = choose t in
     let s = owed-or-got o (t .slots) k C P a x (choice-may t) e in
     let l = s .1 in
-    let v : Kept (Running (l .0)) = subst Kept (l .1) (never-short o (g .fine) (choose-earliest (t .slots)) k (rw length-serve b)) in (
+    let v : Kept (Running (l .0)) = subst Kept (l .1) (never-short o (g .fine) (choose-earliest t) k (rw length-serve b)) in (
       s .0,
       s .2,
       (λ c. sym (l .5) ∙ v (omega (arith, l .3, l .4))),
@@ -75,10 +75,10 @@ one-tick t k C P a x g b e h =
 -- a line's rest of a period from what it has left after one tick of it
 rest-tick : (rest : List Act) (t : Table) (k C P a x : ℕ) → Good t → k < length (t .slots) → RunsAs C P a x (at (t .slots) k) → a < P
     → ((y : ℕ) → RunsAs C P (a + 1) y (at (next t .slots) k) → a + 1 < P → Rest k (next t .clock + (P - (a + 1))) (P - (a + 1)) y rest (next t) (trace rest (next t)))
-    → Rest k (t .clock + (P - a)) (P - a) x rest (next t) (choose (t .slots) ∷ trace rest (next t))
+    → Rest k (t .clock + (P - a)) (P - a) x rest (next t) (choose t ∷ trace rest (next t))
 rest-tick rest t k C P a x g b e h more u r =
     let s = one-tick t k C P a x g b e h in
-    let o = choose (t .slots) in
+    let o = choose t in
     let m : P - a ≡ suc (P - (a + 1)) = omega arith in
     let z : t .clock + (P - a) ≡ t .clock + 1 + (P - (a + 1)) = omega arith in
     split P (a + 1)
@@ -98,7 +98,7 @@ gets-rest (stepping ∷ rest) t k C P a x g b e h u r =
     split (2 ^ 48) (t .clock)
     (λ l. by-last (Rest k (t .clock + (P - a)) (P - a) x rest) rest t l (gets-rest rest t k C P a x g b e h) (u .1) r)
     (λ l. by-tick (Rest k (t .clock + (P - a)) (P - a) x rest) rest t g l
-    (rest-tick rest t k C P a x g b e h (λ y f c. gets-rest rest (next t) k C P (a + 1) y (good-next t g l) (rw (length-tick (choose (t .slots)) (t .slots)) b) f c)) (u .1) r)
+    (rest-tick rest t k C P a x g b e h (λ y f c. gets-rest rest (next t) k C P (a + 1) y (good-next t g l) (rw (length-tick (choose t) (t .slots)) b) f c)) (u .1) r)
 gets-rest (leaving n ∷ rest) t k C P a x g b e h u r =
     let c = leave-clock t n in
     gets-rest rest (after (leaving n) t) k C P a x (good-after (leaving n) t g) (rw (leave-length t n) b)
@@ -109,8 +109,8 @@ gets-rest (leaving n ∷ rest) t k C P a x g b e h u r =
 -- a tick nearer
 waits-on : (t : Table) (k C P w : ℕ) → at (t .slots) k ≡ newLine C P (suc w) → at (next t .slots) k ≡ newLine C P w
 waits-on t k C P w e =
-    let s = not-served (choose (t .slots)) (t .slots) k (choice-may t) (λ v. not-yet C P w (subst Owed e v)) in
-    at-pass (serve (choose (t .slots)) (t .slots)) k ∙ ap passed (s .0 ∙ e) ∙ nearer C P w
+    let s = not-served (choose t) (t .slots) k (choice-may t) (λ v. not-yet C P w (subst Owed e v)) in
+    at-pass (serve (choose t) (t .slots)) k ∙ ap passed (s .0 ∙ e) ∙ nearer C P w
 
 -- R43: a line that has no more to wait is at the beginning of a period
 begun-is : (C P : ℕ) {h : Held} → h ≡ newLine C P 0 → RunsAs C P 0 C h
@@ -138,7 +138,7 @@ gets-need (stepping ∷ rest) t k C P (suc w) g b p e v u r =
     (λ l. by-last (After k (t .clock + suc w) (t .clock + suc w + P) (suc w) P C rest) rest t l (gets-need rest t k C P (suc w) g b p e) (v .1) (u .1) r)
     (λ l. by-tick (After k (t .clock + suc w) (t .clock + suc w + P) (suc w) P C rest) rest t g l
     (λ v u r. let z : t .clock + suc w ≡ t .clock + 1 + w = omega arith in
-    gets-need rest (next t) k C P w (good-next t g l) (rw (length-tick (choose (t .slots)) (t .slots)) b) p (waits-on t k C P w e) (rw z at v) (rw z at u) (rw z at r)) (v .1) (u .1) r)
+    gets-need rest (next t) k C P w (good-next t g l) (rw (length-tick (choose t) (t .slots)) b) p (waits-on t k C P w e) (rw z at v) (rw z at u) (rw z at r)) (v .1) (u .1) r)
 gets-need (leaving n ∷ rest) t k C P (suc w) g b p e v u r =
     let c = leave-clock t n in
     gets-need rest (after (leaving n) t) k C P (suc w) (good-after (leaving n) t g) (rw (leave-length t n) b) p
@@ -206,7 +206,7 @@ at-start (stepping ∷ rest) t k C P (suc w) g b e = λ v h.
     (λ l. let z : t .clock + 1 + w ≡ t .clock + suc w = omega arith in
     one-more k C P (t .clock + suc w + 1) stepping rest t (subst (λ (s : Stepped). Starts k C P (t .clock + suc w) rest (s .table)) (sym (step-table t g l))
     (subst (λ (n : ℕ). Starts k C P n rest (next t)) z
-    (at-start rest (next t) k C P w (good-next t g l) (rw (length-tick (choose (t .slots)) (t .slots)) b) (waits-on t k C P w e))) (v .1) h))
+    (at-start rest (next t) k C P w (good-next t g l) (rw (length-tick (choose t) (t .slots)) b) (waits-on t k C P w e))) (v .1) h))
 at-start (leaving n ∷ rest) t k C P (suc w) g b e = λ v h.
     one-more k C P (t .clock + suc w + 1) (leaving n) rest t
     (subst (λ (m : ℕ). Starts k C P (m + suc w) rest (after (leaving n) t)) (leave-clock t n)

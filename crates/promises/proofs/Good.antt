@@ -96,7 +96,7 @@ good-after stepping t g =
     (λ h. let e = fine-step t (g .fine) (g .within) h in
     let c : stepOf t .table .clock ≡ t .clock + 1 = ap (λ (s : Stepped). s .table .clock) e in
     let w : accounted (stepOf t .table) ≤ stepOf t .table .clock =
-    subst (λ (s : Stepped). accounted (s .table) ≤ s .table .clock) (sym e) (omega (arith, g .within, booked-within (choose (t .slots)) t)) in
+    subst (λ (s : Stepped). accounted (s .table) ≤ s .table .clock) (sym e) (omega (arith, g .within, booked-within (choose t) t)) in
     record { multiple = g .multiple; fine = fine-stepped t (g .fine) (g .within) h; within = w; clock-in = omega arith })
 good-after (leaving n) t g =
     left-is Good t n g

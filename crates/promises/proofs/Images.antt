@@ -38,7 +38,7 @@ left-by-contract = record { empty = λ l r m h. h .1; admit = λ l q r m h. h .1
 -- R84: a buffer of an image's length holds the stored image and nothing else
 pub stored-over : (u : Table) (l : List ℕ) → length l ≡ size 16 → storedIn u l ≡ imageOf u
 stored-over u l e =
-    stored-is u l (omega arith) ∙ ap (λ (x : List ℕ). imageOf u ++ x) (drop-of-length-le l {i = 297} (omega arith)) ∙ append-nil (imageOf u)
+    stored-is u l (omega arith) ∙ ap (λ (x : List ℕ). imageOf u ++ x) (drop-of-length-le l {i = 298} (omega arith)) ∙ append-nil (imageOf u)
 
 -- R85: the image of the empty table
 pub empty-image : EmptyImage
@@ -90,7 +90,7 @@ answers-alike t w =
 
 -- R4: the empty table has the code's widths
 pub wide-empty : TableWidths 16 emptyTable
-wide-empty = record { slots = refl; clock = omega arith; lines = narrow-empty 16; counts = refl; had = wide-within (replicate 16 0) (omega arith); idle = omega arith; departed = omega arith }
+wide-empty = record { slots = refl; clock = omega arith; lines = narrow-empty 16; counts = refl; had = wide-within (replicate 16 0) (omega arith); idle = omega arith; departed = omega arith; last = omega arith }
 
 -- R78: a run from the image of any table with the code's widths
 pub image-run-from : (acts : List Act) (t : Table) → AllNarrowed acts → TableWidths 16 t → (imageRun acts (imageOf t) ≡ imageOf (run acts t)) × TableWidths 16 (run acts t)

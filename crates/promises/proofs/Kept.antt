@@ -75,6 +75,14 @@ admit-counts t q = go (askOf t q)
     go (Start r) = length-put (lowestOf isNothing (t .slots)) 0 (t .had)
     go (Refused x) = refl
 
+-- R105: who ran last still did
+pub admit-last : (t : Table) (q : Request) → after (admitting q) t .last ≡ t .last
+admit-last t q = go (askOf t q)
+  where
+    go : (a : Answer) → admitWith t q a .table .last ≡ t .last
+    go (Start r) = refl
+    go (Refused x) = refl
+
 -- the new line stands in the slot it was given
 pub admitted-new : (t : Table) (q : Request) (r k : ℕ) → lowestOf isNothing (t .slots) ≡ some k
     → at (admittedAt t q r .slots) k ≡ newLine (q .need) (q .period) (r - t .clock)
@@ -176,12 +184,12 @@ leave-waiting t n j C P w e r =
 -- ---- a step
 
 -- before the last tick it is the tick of the step's own choice
-pub step-table : (t : Table) → Good t → t .clock < 2 ^ 48 → stepOf t ≡ ticked (choose (t .slots)) t
+pub step-table : (t : Table) → Good t → t .clock < 2 ^ 48 → stepOf t ≡ ticked (choose t) t
 step-table t g h = fine-step t (g .fine) (g .within) h
 
 -- the choice serves nobody who is not owed
-pub choice-may : (t : Table) → May (choose (t .slots)) (t .slots)
-choice-may t = earliest-may (choose (t .slots)) (t .slots) (choose-earliest (t .slots))
+pub choice-may : (t : Table) → May (choose t) (t .slots)
+choice-may t = earliest-may (choose t) (t .slots) (choose-earliest t)
 
 -- what serving does not change of a line stays in every slot
 pub serve-keeps : {A : Type 0} (f : Held → A) → ((h : Held) → f (served h) ≡ f h) → (o : Option ℕ) (l : List Slot) (k : ℕ) → May o l → f (at (serve o l) k) ≡ f (at l k)

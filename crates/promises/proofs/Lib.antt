@@ -7,6 +7,7 @@ pub mod Early
 pub mod Late
 pub mod Booking
 pub mod Counted
+pub mod Last
 pub mod Numbered
 pub mod Told
 pub mod Demand1

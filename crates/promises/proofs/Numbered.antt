@@ -126,7 +126,7 @@ advance-numbered o t = step-unless (lowestOf short (serve o (t .slots))) 14 t _ 
 pub step-numbered : (t : Table) → Numbered (saysRan (stepOf t .outcome))
 unfolding stepOf
 step-numbered t =
-    go (leb (2 ^ 48) (t .clock)) _ (step-unless (fault t) 4 t (advance (choose (t .slots)) t) (λ e. omega arith) (λ e. omega arith) (advance-numbered (choose (t .slots)) t))
+    go (leb (2 ^ 48) (t .clock)) _ (step-unless (fault t) 4 t (advance (choose t) t) (λ e. omega arith) (λ e. omega arith) (advance-numbered (choose t) t))
   where
     go : (b : Bool) (s : Stepped) → Numbered (saysRan (s .outcome)) → Numbered (saysRan (pick b (refusedStep t 15 0) s .outcome))
     go true s k = plain 15 0 (λ e. omega arith) (λ e. omega arith)

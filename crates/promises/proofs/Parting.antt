@@ -108,7 +108,7 @@ parting-admitted t q k C P a b v =
 
 parting-ticked : (t : Table) (k C P a : ℕ) → Good t → k < length (t .slots) → a + 1 < P → Parting C P a (at (t .slots) k) → Parting C P (a + 1) (at (next t .slots) k)
 parting-ticked t k C P a g b h v =
-    let o = choose (t .slots) in
+    let o = choose t in
     let s = one-tick t k C P a (v .0) g b (v .1) (omega arith) in
     let w = owed-or-got o (t .slots) k C P a (v .0) (choice-may t) (v .1) in (
       s .0,
@@ -141,7 +141,7 @@ stays-from (stepping ∷ rest) t k C P a g b v =
     (λ l. let d = clock-run rest (next t) (good-next t g l) in
     subst (λ (s : Stepped). StaysIn k C P a (t .clock) rest (s .table)) (sym (step-table t g l))
     (λ h. older rest (next t) k C P a (t .clock) d
-    (stays-from rest (next t) k C P (a + 1) (good-next t g l) (rw (length-tick (choose (t .slots)) (t .slots)) b) (parting-ticked t k C P a g b (omega (arith, d)) v)) h))
+    (stays-from rest (next t) k C P (a + 1) (good-next t g l) (rw (length-tick (choose t) (t .slots)) b) (parting-ticked t k C P a g b (omega (arith, d)) v)) h))
 stays-from (leaving n ∷ rest) t k C P a g b v =
     subst (λ (m : ℕ). StaysIn k C P a m rest (after (leaving n) t)) (leave-clock t n)
     (stays-from rest (after (leaving n) t) k C P a (good-after (leaving n) t g) (rw (leave-length t n) b)
@@ -169,7 +169,7 @@ unstretched-from (stepping ∷ rest) t k C P a g b v = (
       (split P (a + 1)
       (λ h. late-unstretched rest (next t) k (t .clock + (P - a)) (good-next t g l) (omega arith))
       (λ h. let z : t .clock + 1 + (P - (a + 1)) ≡ t .clock + (P - a) = omega arith in
-      rw z at (unstretched-from rest (next t) k C P (a + 1) (good-next t g l) (rw (length-tick (choose (t .slots)) (t .slots)) b) (parting-ticked t k C P a g b h v))))),
+      rw z at (unstretched-from rest (next t) k C P (a + 1) (good-next t g l) (rw (length-tick (choose t) (t .slots)) b) (parting-ticked t k C P a g b h v))))),
 )
 unstretched-from (leaving n ∷ rest) t k C P a g b v = (
   (λ l s. s),
@@ -181,7 +181,7 @@ unstretched-from (leaving n ∷ rest) t k C P a g b v = (
 -- R46, R80: the step that ends its period leaves nothing there
 freed : (t : Table) (k C P a : ℕ) → Good t → t .clock < 2 ^ 48 → Parting C P a (at (t .slots) k) → P ≤ a + 1 → at (stepOf t .table .slots) k ≡ Nothing
 freed t k C P a g l v h =
-    let o = choose (t .slots) in
+    let o = choose t in
     let w = owed-or-got o (t .slots) k C P a (v .0) (choice-may t) (v .1) in
     let s : Parting C P a (at (serve o (t .slots)) k) = (w .0, w .1, serve-keeps isParting parting-served o (t .slots) k (choice-may t) ∙ v .2) in
     ap (λ (x : Stepped). at (x .table .slots) k) (step-table t g l) ∙ at-pass (serve o (t .slots)) k ∙ parting-gone (at (serve o (t .slots)) k) s h

@@ -7,7 +7,7 @@ use lib.ListN.{length}
 use Rattle.line.specs.Slots.{isNothing, lowestOf}
 use Rattle.table.specs.declared.Table.{Table}
 use Rattle.table.specs.declared.Request.{Request}
-use Rattle.table.specs.Words.{Said, gives, refuses}
+use Rattle.table.specs.Words.{Said, gives, refuses, slotNumber}
 use Rattle.table.specs.Ask.{says, askOf}
 use Rattle.table.specs.Step.{saysRan, stepOf}
 use Rattle.table.specs.Leave.{saysLeaving, leaveOf}
@@ -18,7 +18,6 @@ use Rattle.card.specs.Twin.{turnedOf}
 use Rattle.image.specs.Loading.{loadOf}
 use Rattle.image.specs.Answers.{storeOf}
 use Rattle.calls.specs.declared.Result.{Result}
-use Rattle.calls.specs.Results.{slotNumber}
 use Rattle.calls.specs.Cards.{lineFor, putOf, rewriteOf, runOf}
 use Rattle.calls.specs.Moves.{writeCardFor, readCardFor}
 use Rattle.calls.specs.Tables.{askedAs, askFor, ranAs, stepFor, leaveFor, ReadyFor, allCounts, countsFor, countsAfter}

@@ -6,7 +6,7 @@ use mathlib.Core.Option.{Option, none, some}
 use Prim.Native.Nat.{ℕ, zero, suc, _+_, _-_, _^_, _≤_, _<_}
 use native.Mathlib.Omega.{arith}
 use borrow.Author.Tests.{lt-ltb, le-ltb, lt-leb}
-use lib.Dec.{ltb}
+use lib.Dec.{ltb, eqb}
 use lib.ListN.{length, set, replicate, length-set}
 use Rattle.periods.specs.Multiples.{All}
 use Rattle.line.specs.declared.Follows.{Follows}
@@ -24,13 +24,15 @@ use Rattle.line.specs.Demand.{endOf, lastEnd}
 use Rattle.line.specs.Stretch.{stretch, stretched}
 use Rattle.line.specs.Tick.{served, passed, servedSlot, short}
 use Rattle.line.specs.Leave.{letGo, letGoSlot}
-use Rattle.table.specs.Counts.{sum, accounted, fault, settle}
+use Rattle.table.specs.Words.{noSlot, slotNumber}
+use Rattle.table.specs.Counts.{Inside, sum, accounted, fault, counting, lastWithout, settle}
 use Rattle.table.specs.Grounds.{entry, asked}
 use Rattle.table.specs.Ask.{askOf}
 use Rattle.table.specs.Admit.{newLine, putAt, admitWith}
-use Rattle.table.specs.Step.{choose, serve, pass, stepUnless, ticked, advance, stepOf}
+use Rattle.table.specs.Step.{choose, serve, pass, stepUnless, departsIn, ticked, advance, stepOf}
 use Rattle.table.specs.Runs.{Act, asking, admitting, stepping, leaving, after}
-use Rattle.table.proofs.Counts.{count-within, faultless, booked-within}
+use Rattle.table.proofs.Choice.{choose-inside}
+use Rattle.table.proofs.Counts.{count-within, faultless, settling-keeps, booked-within}
 use Rattle.table.proofs.LettingGo.{may-inside, left-is}
 use Rattle.image.specs.Image.{Narrow, AllNarrow, InEight, TableWidths}
 use Rattle.theory.proofs.Numbers.{split}
@@ -40,7 +42,7 @@ use Rattle.theory.proofs.Granted.{granted}
 use Rattle.theory.proofs.Trace.{length-tick}
 use Rattle.promises.specs.Images.{NarrowRequest, Narrowed}
 use Rattle.promises.proofs.Good.{at-last}
-use Rattle.promises.proofs.Kept.{admit-clock, admit-length, admit-counts}
+use Rattle.promises.proofs.Kept.{admit-clock, admit-length, admit-counts, admit-last}
 use Rattle.promises.proofs.Booking.{tick-length}
 
 -- ---- slot by slot
@@ -100,9 +102,22 @@ pub wide-within : (l : List ℕ) → sum l < 2 ^ 64 → All InEight l
 wide-within [] h = tt
 wide-within (n ∷ l) h = (omega arith, wide-within l (omega arith))
 
+-- R105: the number of a slot has eight bits, and so has that of none
+narrow-number : (o : Option ℕ) → Inside 16 o → slotNumber o < 256
+narrow-number none i = omega arith
+narrow-number (some k) i = omega arith
+
+-- R105: also where a line is gone
+narrow-last : (i k : ℕ) → k < 256 → lastWithout i k < 256
+narrow-last i k h = go (eqb k i)
+  where
+    go : (b : Bool) → pick b noSlot k < 256
+    go true = omega arith
+    go false = h
+
 -- R45, R97: a tick before the last, of a table that accounts for no more than its clock
-wide-ticked : (o : Option ℕ) (t : Table) → TableWidths 16 t → accounted t ≤ t .clock → t .clock < 2 ^ 48 → TableWidths 16 (ticked o t .table)
-wide-ticked o t w a h =
+wide-ticked : (o : Option ℕ) (t : Table) → TableWidths 16 t → accounted t ≤ t .clock → t .clock < 2 ^ 48 → Inside 16 o → TableWidths 16 (ticked o t .table)
+wide-ticked o t w a h i =
     let s = booked-within o t in
     record {
       slots = length-tick o (t .slots) ∙ w .slots;
@@ -112,17 +127,18 @@ wide-ticked o t w a h =
       had = wide-within (ticked o t .table .had) (omega (arith, s));
       idle = omega (arith, s);
       departed = omega (arith, s);
+      last = settling-keeps (departsIn o (t .slots)) (λ u. u .last < 256) (λ k u g e. narrow-last k (u .last) e) (length (t .slots)) (counting o t) (narrow-number o i);
     }
 
 wide-unless : (o : Option ℕ) (n : ℕ) (t : Table) (s : Stepped) → TableWidths 16 t → TableWidths 16 (s .table) → TableWidths 16 (stepUnless o n t s .table)
 wide-unless none n t s v w = w
 wide-unless (some k) n t s v w = v
 
-wide-advance : (o : Option ℕ) (t : Table) → TableWidths 16 t → accounted t ≤ t .clock → t .clock < 2 ^ 48 → TableWidths 16 (advance o t .table)
+wide-advance : (o : Option ℕ) (t : Table) → TableWidths 16 t → accounted t ≤ t .clock → t .clock < 2 ^ 48 → Inside 16 o → TableWidths 16 (advance o t .table)
 unfolding advance
-wide-advance o t w a h = wide-unless (lowestOf short (serve o (t .slots))) 14 t (ticked o t) w (wide-ticked o t w a h)
+wide-advance o t w a h i = wide-unless (lowestOf short (serve o (t .slots))) 14 t (ticked o t) w (wide-ticked o t w a h i)
 
-early-step : (t : Table) → t .clock < 2 ^ 48 → stepOf t ≡ stepUnless (fault t) 4 t (advance (choose (t .slots)) t)
+early-step : (t : Table) → t .clock < 2 ^ 48 → stepOf t ≡ stepUnless (fault t) 4 t (advance (choose t) t)
 unfolding stepOf
 early-step t h = rw (lt-leb (2 ^ 48) (t .clock) h)
 
@@ -133,8 +149,8 @@ wide-step t w =
     (λ h. subst (λ (s : Stepped). TableWidths 16 (s .table)) (sym (at-last t h)) w)
     (λ h. subst (λ (s : Stepped). TableWidths 16 (s .table)) (sym (early-step t h)) (go h (fault t) refl))
   where
-    go : t .clock < 2 ^ 48 → (o : Option ℕ) → fault t ≡ o → TableWidths 16 (stepUnless o 4 t (advance (choose (t .slots)) t) .table)
-    go h none e = wide-advance (choose (t .slots)) t w (faultless t e .1) h
+    go : t .clock < 2 ^ 48 → (o : Option ℕ) → fault t ≡ o → TableWidths 16 (stepUnless o 4 t (advance (choose t) t) .table)
+    go h none e = wide-advance (choose t) t w (faultless t e .1) h (subst (λ (n : ℕ). Inside n (choose t)) (w .slots) (choose-inside t))
     go h (some k) e = w
 
 -- ---- an admission
@@ -210,6 +226,7 @@ wide-admit t q f w = record {
   had = wide-counts t q w .0;
   idle = wide-counts t q w .1;
   departed = wide-counts t q w .2;
+  last = rw (admit-last t q) (w .last);
 }
 
 -- ---- a leave
@@ -222,9 +239,10 @@ narrow-let-go (Waiting w) n = omega arith
 -- R101: what a line had is no more than what is accounted for
 wide-settled : (t : Table) (n : ℕ) (b : Bool) → TableWidths 16 t → accounted t ≤ t .clock → n < length (t .had)
     → (length (pick b (settle n t) t .had) ≡ 16) × All InEight (pick b (settle n t) t .had) × InEight (pick b (settle n t) t .idle) × InEight (pick b (settle n t) t .departed)
-wide-settled t n false w a h = (w .counts, w .had, w .idle, w .departed)
+    × (pick b (settle n t) t .last < 256)
+wide-settled t n false w a h = (w .counts, w .had, w .idle, w .departed, w .last)
 wide-settled t n true w a h =
-    (length-set (t .had) n 0 ∙ w .counts, wide-put (some n) (t .had) (w .had), w .idle, omega (arith, a, w .clock, count-within (t .had) n 0 h))
+    (length-set (t .had) n 0 ∙ w .counts, wide-put (some n) (t .had) (w .had), w .idle, omega (arith, a, w .clock, count-within (t .had) n 0 h), narrow-last n (t .last) (w .last))
 
 -- R100: a leave keeps the code's widths, granted or not
 pub wide-leave : (t : Table) (n : ℕ) → TableWidths 16 t → TableWidths 16 (after (leaving n) t)
@@ -239,6 +257,7 @@ wide-leave t n w =
       had = s .1;
       idle = s .2;
       departed = s .3;
+      last = s .4;
     })
 
 -- R3, R73: every act keeps the code's widths

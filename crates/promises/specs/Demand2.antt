@@ -10,7 +10,7 @@ use Rattle.table.specs.declared.Table.{Table}
 use Rattle.table.specs.declared.Request.{Request}
 use Rattle.table.specs.declared.Refusal.{Refusal}
 use Rattle.table.specs.declared.Answer.{Answer}
-use Rattle.table.specs.Words.{uncounted, gives, refuses}
+use Rattle.table.specs.Words.{unbooked, gives, refuses}
 use Rattle.line.specs.Demand.{newDemand, Least}
 use Rattle.table.specs.Grounds.{asked, Row, grounds, FirstOf}
 use Rattle.table.specs.Ask.{says}
@@ -44,10 +44,10 @@ pub record ExactlyRefused : Type 0 where
   pub only : (t : Table) (q : Request) (a : Answer) (x : Refusal) → Asked t q a → says a ≡ refuses x → SomeOf grounds t q
   pub always : (t : Table) (q : Request) (a : Answer) → Asked t q a → SomeOf grounds t q → (x : Refusal) × (says a ≡ refuses x)
 
--- R72: what was written reads back, every count 0. `Fits` holds of every table and request of the code's types that has no waiting line.
+-- R72: what was written reads back, every count 0 and nobody the last that ran. `Fits` holds of every table and request of the code's types that has no waiting line.
 abbrev pub WrittenReadsBack : Type 0
 WrittenReadsBack = (t : Table) (q : Request) (l : List ℕ) (a : WriteAnswer) (m : List ℕ) (n : ℕ) → Fits 16 t q → Writes t q l a m → saidWritten a ≡ gives n
-    → readOf (take n m) ≡ gives (carrying (uncounted t) (cleared t q))
+    → readOf (take n m) ≡ gives (carrying (unbooked t) (cleared t q))
 
 -- R72: what reads is written as its twin, into any buffer that has room for the card
 abbrev pub ReadWritesTwin : Type 0

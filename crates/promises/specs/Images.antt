@@ -6,14 +6,14 @@ use mathlib.Core.Option.{Option}
 use lib.ListN.{length}
 use Rattle.table.specs.declared.Table.{Table}
 use Rattle.table.specs.declared.Request.{Request}
-use Rattle.table.specs.Words.{emptyTable, refusal, gives}
+use Rattle.table.specs.Words.{emptyTable, refusal, gives, slotNumber}
 use Rattle.table.specs.Ask.{says, askOf}
 use Rattle.table.specs.Runs.{Act, asking, admitting, stepping, leaving, after, run}
 use Rattle.image.specs.Image.{size, imageOf, TableWidths}
 use Rattle.image.specs.Loading.{loadOf}
 use Rattle.image.specs.Answers.{storedIn}
 use Rattle.calls.specs.declared.Result.{Result}
-use Rattle.calls.specs.Results.{grantedAs, refusedAs, slotNumber}
+use Rattle.calls.specs.Results.{grantedAs, refusedAs}
 use Rattle.calls.specs.Tables.{askedAs, askFor, afterAdmit, steppedAs, stepFor, afterStep, leftAs, leaveFor, afterLeave}
 use Rattle.promises.specs.Contracts.{Empties, AdmitsImage, StepsImage, LetsGoImage}
 use Rattle.promises.specs.Demand3.{Sixteen}

@@ -12,7 +12,7 @@ use borrow.Author.Tests.{eq-eqb, ne-eqb}
 use Rattle.line.specs.Slots.{pick, empty}
 use Rattle.table.specs.declared.Table.{Table}
 use Rattle.table.specs.Words.{tableWith, withSlots, requestWith, refusal, Said, gives, refuses}
-use Rattle.table.proofs.Counts.{still-uncounted}
+use Rattle.table.proofs.Counts.{still-unbooked}
 use Rattle.card.specs.declared.SlotRecord.{SlotRecord}
 use Rattle.card.specs.declared.Record.{Record}
 use Rattle.card.specs.declared.Record.the-variants.{Slot, Last, Refused}
@@ -199,7 +199,7 @@ module _ {n : ℕ} {l : List ℕ} {t : Table} {ts : List ℕ} {w at i : ℕ} {ga
   kept-slot r e = record {
     rs = set (v .rs) i r;
     mid = mid-slot (v .mid) s r e;
-    table = ap (λ (y : Table). withSlots y (set (y .slots) i (slotFor r))) (v .table) ∙ still-uncounted (value 8 l clockAt) (map slotFor (v .rs)) i (slotFor r) ∙ ap (tableWith (value 8 l clockAt)) (map-set slotFor (v .rs) i r);
+    table = ap (λ (y : Table). withSlots y (set (y .slots) i (slotFor r))) (v .table) ∙ still-unbooked (value 8 l clockAt) (map slotFor (v .rs)) i (slotFor r) ∙ ap (tableWith (value 8 l clockAt)) (map-set slotFor (v .rs) i r);
     stretched = ap (λ (y : List ℕ). set y i (entryFor r)) (v .stretched) ∙ map-set entryFor (v .rs) i r;
     turned = ap (λ (y : ℕ). pick (isOld r) 1 0 * 2 ^ i + y) (v .turned) ∙ word-on (v .mid) r (slot-room (v .mid) s e .0);
   }

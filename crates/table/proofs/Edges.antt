@@ -17,7 +17,7 @@ use Rattle.line.specs.Shares.{frame, periodsIn}
 use Rattle.table.specs.Ask.{says, askIn, askOf}
 use Rattle.line.specs.Ends.{endsOf, slack, bound, greatest, soonestOf, firstShort, start}
 use Rattle.table.specs.Admit.{admitOf}
-use Rattle.table.specs.Cases.{CaseLine, Case, line, running, parting, waiting, tableOf, tableFor, tallied, talliedWith, case, caseA, caseC, caseG, caseK, caseL}
+use Rattle.table.specs.Cases.{CaseLine, Case, line, running, parting, waiting, tableOf, tableFor, tallied, talliedWith, ranLast, case, caseA, caseC, caseG, caseK, caseL}
 
 abbrev refused : (number place : ℕ) → Said ℕ
 refused n k = refuses (refusal n k)
@@ -239,8 +239,8 @@ last-end-edges = refl
 
 -- R4, R2: the empty table
 pub empty-edges : (emptyTable .clock ≡ 0) × (length (emptyTable .slots) ≡ 16) × (map (λ (s : Slot). s .held) (emptyTable .slots) ≡ replicate 16 Nothing)
-    × (emptyTable .had ≡ replicate 16 0) × (emptyTable .idle ≡ 0) × (emptyTable .departed ≡ 0)
-empty-edges = (refl, refl, refl, refl, refl, refl)
+    × (emptyTable .had ≡ replicate 16 0) × (emptyTable .idle ≡ 0) × (emptyTable .departed ≡ 0) × (emptyTable .last ≡ 255)
+empty-edges = (refl, refl, refl, refl, refl, refl, refl)
 
 -- ---- admit
 
@@ -252,8 +252,8 @@ pub record AdmitEdge : Type 0 where
 abbrev admits : Case → Table → AdmitEdge
 admits c t = record { asks = c; leaves = t }
 
--- a later start waits, one tick or more; one at the clock runs; a slot between others is the lowest empty one, and its count alone is 0 then; a line that leaves does so still; a
--- refusal keeps the table
+-- a later start waits, one tick or more; one at the clock runs; a slot between others is the lowest empty one, and its count alone is 0 then; a line that leaves does so still; who ran last
+-- still did, also if that is the new line's slot; a refusal keeps the table
 unfoldable pub admitEdges : List AdmitEdge
 admitEdges =
     admits caseA (tableOf 8 (running 8 32 8 0 ∷ running 8 16 8 8 ∷ waiting 1 4 5 ∷ []))
@@ -263,6 +263,8 @@ admitEdges =
     (tallied (1 ∷ 0 ∷ 1 ∷ 2 ∷ []) 1 (tableOf 7 (running 1 16 2 1 ∷ running 3 16 0 3 ∷ running 2 16 3 1 ∷ [])))
     ∷ admits (row (talliedWith (1 ∷ 2 ∷ []) 1 3 (tableOf 7 (parting 1 8 2 1 ∷ empty ∷ running 2 8 3 1 ∷ []))) (periodsOf (8 ∷ 0 ∷ 16 ∷ []) 3 16) (gives 7))
     (talliedWith (1 ∷ 0 ∷ []) 1 3 (tableOf 7 (parting 1 8 2 1 ∷ running 3 16 0 3 ∷ running 2 16 3 1 ∷ [])))
+    ∷ admits (row (ranLast 0 (tableOf 7 (running 2 8 3 1 ∷ []))) (everyPeriod 16 3 16) (gives 7)) (ranLast 0 (tableOf 7 (running 2 16 3 1 ∷ running 3 16 0 3 ∷ [])))
+    ∷ admits (row (ranLast 1 (tableOf 7 (running 2 8 3 1 ∷ []))) (everyPeriod 16 3 16) (gives 7)) (ranLast 1 (tableOf 7 (running 2 16 3 1 ∷ running 3 16 0 3 ∷ [])))
     ∷ admits caseG (tableFor 0 (line 4 8 8 4 3 ∷ []))
     ∷ admits (tallying (4 ∷ 3 ∷ 2 ∷ []) 1 (refused 4 0)) (tallied (4 ∷ 3 ∷ 2 ∷ []) 1 (tableOf 9 (running 1 8 0 1 ∷ [])))
     ∷ []

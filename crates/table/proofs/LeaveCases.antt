@@ -5,9 +5,9 @@ use mathlib.Core.List.{List, [], _∷_, _++_, map}
 use lib.ListN.{replicate}
 use Rattle.line.specs.Slots.{empty, lowest}
 use Rattle.table.specs.declared.Table.{Table}
-use Rattle.table.specs.Words.{refusal, Said, gives, refuses}
+use Rattle.table.specs.Words.{noSlot, refusal, Said, gives, refuses}
 use Rattle.table.specs.Leave.{saysLeaving, leaveOf}
-use Rattle.table.specs.Cases.{running, parting, waiting, tableOf, tallied, talliedWith}
+use Rattle.table.specs.Cases.{running, parting, waiting, tableOf, tallied, talliedWith, ranLast}
 
 -- a table, the number named, what is said, and the table then
 pub record LeaveCase : Type 0 where
@@ -42,6 +42,21 @@ lets =
     (tableOf 21 (running 3 8 3 2 ∷ waiting 2 5 4 ∷ parting 3 8 7 0 ∷ (replicate 12 empty ++ (parting 1 9 0 1 ∷ [])))))
     ∷ []
 
+-- a line that runs beside one that waits, where slot k ran last
+abbrev beside : ℕ → Table
+beside k = ranLast k (tableOf 9 (running 3 8 2 2 ∷ waiting 2 5 4 ∷ []))
+
+-- R105: who ran last still did where it is asked to leave, or another is removed; where the waiting line of its slot is removed, nobody did; a refusal keeps it
+abbrev lasts : List LeaveCase
+lasts =
+    goes (beside 0) 0 6 (ranLast 0 (tableOf 9 (parting 3 8 2 2 ∷ waiting 2 5 4 ∷ [])))
+    ∷ goes (beside 0) 1 0 (ranLast 0 (tableOf 9 (running 3 8 2 2 ∷ [])))
+    ∷ goes (beside 1) 1 0 (ranLast noSlot (tableOf 9 (running 3 8 2 2 ∷ [])))
+    ∷ goes (beside 1) 0 6 (ranLast 1 (tableOf 9 (parting 3 8 2 2 ∷ waiting 2 5 4 ∷ [])))
+    ∷ goes (beside 2) 1 0 (ranLast 2 (tableOf 9 (running 3 8 2 2 ∷ [])))
+    ∷ keeps (beside 1) 2 16 2
+    ∷ []
+
 -- R36: already leaving, nothing there, and no such slot, up to the last number of 64 bits; the number itself is the place
 abbrev nobody : List LeaveCase
 nobody =
@@ -66,7 +81,7 @@ orders =
 
 -- all of them
 unfoldable pub leaveCases : List LeaveCase
-leaveCases = lets ++ (nobody ++ orders)
+leaveCases = lets ++ (lasts ++ (nobody ++ orders))
 
 -- R100: each table with the number named
 pub all-leave-cases :

@@ -16,7 +16,7 @@ use Rattle.table.specs.declared.Table.{Table}
 use Rattle.table.specs.declared.Refusal.{Refusal}
 use Rattle.table.specs.declared.Left.{Left}
 use Rattle.table.specs.declared.Leaving.the-variants.{In, Refused}
-use Rattle.table.specs.Words.{withSlots, withCountsOf, gives}
+use Rattle.table.specs.Words.{withSlots, bookedAs, gives}
 use Rattle.table.specs.Counts.{accounted, fault, settle}
 use Rattle.table.specs.Leave.{saysLeaving, refusedLeave, leaveUnless, letGoAt, leaveAt, leaveOf}
 use Rattle.table.proofs.Counts.{settle-accounted}
@@ -27,11 +27,11 @@ module _ (t : Table) (i : ℕ) (d : Slot) (h : i < length (t .slots)) {gone : Sl
   gone-is : gone ≡ letGoSlot (getD (t .slots) i empty)
   gone-is = g ∙ ap letGoSlot (read-any (t .slots) i d h)
 
-  let-go-by : withCountsOf (pick b (settle i t) t) (withSlots t (set (t .slots) i gone)) ≡ letGoAt i t
+  let-go-by : bookedAs (pick b (settle i t) t) (withSlots t (set (t .slots) i gone)) ≡ letGoAt i t
   let-go-by = rw (e, gone-is)
 
-  let-go-as : {x : Bool} → b ≡ x → withCountsOf (pick x (settle i t) t) (withSlots t (set (t .slots) i gone)) ≡ letGoAt i t
-  let-go-as z = ap (λ (x : Bool). withCountsOf (pick x (settle i t) t) (withSlots t (set (t .slots) i gone))) (sym z) ∙ let-go-by
+  let-go-as : {x : Bool} → b ≡ x → bookedAs (pick x (settle i t) t) (withSlots t (set (t .slots) i gone)) ≡ letGoAt i t
+  let-go-as z = ap (λ (x : Bool). bookedAs (pick x (settle i t) t) (withSlots t (set (t .slots) i gone))) (sym z) ∙ let-go-by
 
   -- R101: the line waited, and has departed
   pub let-go-waiting : {next : Table} → b ≡ true → next ≡ settle i t → withSlots next (set (next .slots) i gone) ≡ letGoAt i t

@@ -8,4 +8,5 @@ pub mod Edges
 pub mod Cases
 pub mod Faults
 pub mod StepCases
+pub mod LastCases
 pub mod LeaveCases

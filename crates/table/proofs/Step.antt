@@ -18,7 +18,7 @@ use Rattle.table.specs.declared.Which.the-variants.{None, At}
 use Rattle.table.specs.declared.Outcome.the-variants.{Ran, Refused}
 use Rattle.table.specs.declared.Stepped.{Stepped}
 use Rattle.line.specs.Slots.{pick, empty, slotAt, at, mapAt, lowestOf}
-use Rattle.table.specs.Words.{withSlots, withCountsOf, laterWith, slotOf, whichOf}
+use Rattle.table.specs.Words.{withSlots, bookedAs, laterWith, slotOf, whichOf}
 use Rattle.table.specs.Counts.{accounted, fault, counting, settle, settling}
 use Rattle.table.specs.Step.{choose, serve, servedAt, pass, refusedStep, stepUnless, departsIn, ticked, advance, stepOf}
 use Rattle.line.specs.Tick.{servedSlot, passedSlot, short, departs}
@@ -54,7 +54,7 @@ module _ {t₀ t : Table} (v : OnlySlots t₀ t) where
 
 -- the table t at another clock
 abbrev clocked : ℕ → Table → Table
-clocked k t = record { clock = k; slots = t .slots; had = t .had; idle = t .idle; departed = t .departed }
+clocked k t = record { clock = k; slots = t .slots; had = t .had; idle = t .idle; departed = t .departed; last = t .last }
 
 -- serving leaves the number of slots as it was
 pub length-serve : (o : Option ℕ) (l : List Slot) → length (serve o l) ≡ length l
@@ -165,8 +165,8 @@ module _ {o : Option ℕ} {t v : Table} {i : ℕ} (x : Ticking o t v i) where
           })
 
   -- R96: what is accounted for has room in 64 bits
-  pub tick-room : (t .clock < 2 ^ 48) × (accounted t ≤ t .clock) → accounted v < 2 ^ 64
-  tick-room w =
+  pub tick-room : t .clock < 2 ^ 48 → accounted t ≤ t .clock → accounted v < 2 ^ 64
+  tick-room h w =
       omega (arith, only-accounted (x .counted), settling-accounted (departsIn o (t .slots)) i (counting o t), tick-within o (t .had) (t .idle))
 
   -- all slots are passed: what is left is the clock
@@ -176,7 +176,7 @@ module _ {o : Option ℕ} {t v : Table} {i : ℕ} (x : Ticking o t v i) where
       let e = map-end (x .later) h ∙ map-from passedSlot (t .slots) (serve o (t .slots)) (sym n) in
       let m : i ≡ length (t .slots) = omega (arith, x .later .long, x .later .upto) in (
         look-end (x .fine) (omega (arith, x .later .long)),
-        ap (clocked (t .clock + 1)) (only-end (x .counted) e) ∙ ap (λ (k : ℕ). withCountsOf (bookedTo k o t) (laterWith t (pass (serve o (t .slots))))) m,
+        ap (clocked (t .clock + 1)) (only-end (x .counted) e) ∙ ap (λ (k : ℕ). bookedAs (bookedTo k o t) (laterWith t (pass (serve o (t .slots))))) m,
       )
 
 module _ (t : Table) (w : Which) where
@@ -202,16 +202,16 @@ module _ (t : Table) where
   step-late h = rw (le-leb (2 ^ 48) (t .clock) h)
 
   module _ (early : t .clock < 2 ^ 48) where
-    step-by : (o : Option ℕ) → fault t ≡ o → stepUnless o 4 t (advance (choose (t .slots)) t) ≡ stepOf t
+    step-by : (o : Option ℕ) → fault t ≡ o → stepUnless o 4 t (advance (choose t) t) ≡ stepOf t
     unfolding stepOf
-    step-by o e = rw (lt-leb (2 ^ 48) (t .clock) early) (ap (λ (p : Option ℕ). stepUnless p 4 t (advance (choose (t .slots)) t)) (sym e))
+    step-by o e = rw (lt-leb (2 ^ 48) (t .clock) early) (ap (λ (p : Option ℕ). stepUnless p 4 t (advance (choose t) t)) (sym e))
 
     -- R24: with an unsound line, or too many counts, it is refused with 4 there
     pub step-faulty : {k : ℕ} → fault t ≡ some k → refusedStep t 4 k ≡ stepOf t
     step-faulty {k} e = step-by (some k) e
 
     -- R44: else the tick goes to the choice
-    pub step-fine : (w : Which) → fault t ≡ none → slotOf w ≡ choose (t .slots) → advance (slotOf w) t ≡ stepOf t
+    pub step-fine : (w : Which) → fault t ≡ none → slotOf w ≡ choose t → advance (slotOf w) t ≡ stepOf t
     step-fine w e g = ap (λ (o : Option ℕ). advance o t) g ∙ step-by none e
 
 module _ (t : Table) (x : Refusal) where
@@ -238,5 +238,5 @@ module _ (t : Table) (x : Refusal) where
   pub refused-keeps : stepOf t .outcome ≡ Refused x → stepOf t .table ≡ t
   unfolding stepOf
   refused-keeps =
-      let s : Stepped = advance (choose (t .slots)) t in
-      keeps-pick (leb (2 ^ 48) (t .clock)) (stepUnless (fault t) 4 t s) (keeps-unless (fault t) 4 s (advance-keeps (choose (t .slots))))
+      let s : Stepped = advance (choose t) t in
+      keeps-pick (leb (2 ^ 48) (t .clock)) (stepUnless (fault t) 4 t s) (keeps-unless (fault t) 4 s (advance-keeps (choose t)))

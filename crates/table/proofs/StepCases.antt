@@ -7,10 +7,10 @@ use lib.ListN.{length, replicate}
 use Rattle.line.specs.declared.Slot.{Slot}
 use Rattle.table.specs.declared.Table.{Table}
 use Rattle.line.specs.Slots.{empty, lowest}
-use Rattle.table.specs.Words.{refusal, Said, gives, refuses}
+use Rattle.table.specs.Words.{noSlot, refusal, Said, gives, refuses}
 use Rattle.table.specs.Counts.{settling}
 use Rattle.table.specs.Step.{saysRan, chosen, advance, stepOf}
-use Rattle.table.specs.Cases.{running, parting, waiting, tableOf, tallied, talliedWith}
+use Rattle.table.specs.Cases.{running, parting, waiting, tableOf, tallied, talliedWith, ranLast}
 
 -- a table, what each step from it says, and the table that they leave
 pub record StepCase : Type 0 where
@@ -18,13 +18,14 @@ pub record StepCase : Type 0 where
   pub says : List (Said (Option ℕ))
   pub next : Table
 
-abbrev ran : ℕ → Said (Option ℕ)
+-- what a step says
+abbrev pub ran : ℕ → Said (Option ℕ)
 ran k = gives (some k)
 
-abbrev nobody : Said (Option ℕ)
+abbrev pub nobody : Said (Option ℕ)
 nobody = gives none
 
-abbrev refused : (number place : ℕ) → Said (Option ℕ)
+abbrev pub refused : (number place : ℕ) → Said (Option ℕ)
 refused n k = refuses (refusal n k)
 
 abbrev steps : Table → List (Said (Option ℕ)) → Table → StepCase
@@ -39,13 +40,14 @@ abbrev caseA : StepCase
 caseA =
     steps (tableOf 8 (running 8 32 8 0 ∷ running 8 16 8 8 ∷ waiting 1 4 5 ∷ []))
     (replicate 8 (ran 1) ++ (ran 2 ∷ ran 2 ∷ ran 1 ∷ ran 1 ∷ ran 1 ∷ ran 2 ∷ ran 1 ∷ ran 1 ∷ ran 1 ∷ ran 2 ∷ ran 1 ∷ ran 1 ∷ nobody ∷ ran 2 ∷ nobody ∷ nobody ∷ ran 1 ∷ ran 2 ∷ []))
-    (tallied (0 ∷ 17 ∷ 6 ∷ []) 3 (tableOf 34 (running 8 32 2 8 ∷ running 8 16 2 7 ∷ running 1 4 1 0 ∷ [])))
+    (ranLast 2 (tallied (0 ∷ 17 ∷ 6 ∷ []) 3 (tableOf 34 (running 8 32 2 8 ∷ running 8 16 2 7 ∷ running 1 4 1 0 ∷ []))))
 
--- R44: the lowest of equal ends
+-- R44, R105: the lowest of equal ends at first, and then who ran last, over the end of its period too: three hand-overs in twelve ticks, where the lowest slot alone makes five
 abbrev equalEnds : StepCase
 equalEnds =
-    steps (tableOf 0 (empty ∷ running 2 4 0 2 ∷ running 2 4 0 2 ∷ [])) (ran 1 ∷ ran 1 ∷ ran 2 ∷ ran 2 ∷ [])
-    (tallied (0 ∷ 2 ∷ 2 ∷ []) 0 (tableOf 4 (empty ∷ running 2 4 0 2 ∷ running 2 4 0 2 ∷ [])))
+    steps (tableOf 0 (empty ∷ running 2 4 0 2 ∷ running 2 4 0 2 ∷ []))
+    (ran 1 ∷ ran 1 ∷ ran 2 ∷ ran 2 ∷ ran 2 ∷ ran 2 ∷ ran 1 ∷ ran 1 ∷ ran 1 ∷ ran 1 ∷ ran 2 ∷ ran 2 ∷ [])
+    (ranLast 2 (tallied (0 ∷ 6 ∷ 6 ∷ []) 0 (tableOf 12 (empty ∷ running 2 4 0 2 ∷ running 2 4 0 2 ∷ []))))
 
 -- R44: the least end; nobody once nobody is owed
 abbrev leastEnd : StepCase
@@ -57,7 +59,7 @@ leastEnd =
 abbrev renewal : StepCase
 renewal =
     steps (tallied (7 ∷ 5 ∷ []) 3 (tableOf 20 (running 3 4 3 1 ∷ running 2 4 3 0 ∷ []))) (ran 0 ∷ [])
-    (tallied (8 ∷ 5 ∷ []) 3 (tableOf 21 (running 3 4 0 3 ∷ running 2 4 0 2 ∷ [])))
+    (ranLast 0 (tallied (8 ∷ 5 ∷ []) 3 (tableOf 21 (running 3 4 0 3 ∷ running 2 4 0 2 ∷ []))))
 
 -- R47: one line starts; the other waits on; their counts stay
 abbrev starts : StepCase
@@ -90,17 +92,17 @@ tallyAt k ns n = tallied ns n (tableOf k (running 2 9 1 1 ∷ []))
 -- in 64 bits do not
 abbrev tooMany : List StepCase
 tooMany =
-    steps (tallyAt 30 (12 ∷ 0 ∷ 8 ∷ []) 10) (ran 0 ∷ []) (tallied (13 ∷ 0 ∷ 8 ∷ []) 10 (tableOf 31 (running 2 9 2 0 ∷ [])))
+    steps (tallyAt 30 (12 ∷ 0 ∷ 8 ∷ []) 10) (ran 0 ∷ []) (ranLast 0 (tallied (13 ∷ 0 ∷ 8 ∷ []) 10 (tableOf 31 (running 2 9 2 0 ∷ []))))
     ∷ keeps (tallyAt 30 (13 ∷ 0 ∷ 8 ∷ []) 10) (refused 4 0)
     ∷ keeps (tallyAt 30 (12 ∷ 0 ∷ 9 ∷ []) 10) (refused 4 0)
     ∷ keeps (tallyAt 30 (12 ∷ 0 ∷ 8 ∷ []) 11) (refused 4 0)
     ∷ keeps (tallyAt 30 (replicate 15 0 ++ (31 ∷ [])) 0) (refused 4 0)
-    ∷ steps (tallyAt 30 (replicate 15 0 ++ (30 ∷ [])) 0) (ran 0 ∷ []) (tallied (1 ∷ (replicate 14 0 ++ (30 ∷ []))) 0 (tableOf 31 (running 2 9 2 0 ∷ [])))
+    ∷ steps (tallyAt 30 (replicate 15 0 ++ (30 ∷ [])) 0) (ran 0 ∷ []) (ranLast 0 (tallied (1 ∷ (replicate 14 0 ++ (30 ∷ []))) 0 (tableOf 31 (running 2 9 2 0 ∷ []))))
     ∷ keeps (tallyAt 30 ((2 ^ 63) ∷ (2 ^ 63) ∷ []) 0) (refused 4 0)
     ∷ keeps (tallyAt 30 (replicate 16 (2 ^ 60)) 5) (refused 4 0)
     ∷ keeps (tallyAt 30 ((2 ^ 64 - 1) ∷ []) 1) (refused 4 0)
     ∷ keeps (tallyAt (2 ^ 48 - 1) ((2 ^ 48) ∷ []) 0) (refused 4 0)
-    ∷ steps (tallyAt (2 ^ 48 - 1) ((2 ^ 48 - 1) ∷ []) 0) (ran 0 ∷ []) (tallied ((2 ^ 48) ∷ []) 0 (tableOf (2 ^ 48) (running 2 9 2 0 ∷ [])))
+    ∷ steps (tallyAt (2 ^ 48 - 1) ((2 ^ 48 - 1) ∷ []) 0) (ran 0 ∷ []) (ranLast 0 (tallied ((2 ^ 48) ∷ []) 0 (tableOf (2 ^ 48) (running 2 9 2 0 ∷ []))))
     ∷ []
 
 -- R48, R96: the lines before the counts, these before 14, and 15 before them; beside each the first fault is mended
@@ -113,15 +115,15 @@ countOrders =
     ∷ []
 
 -- a step of a line alone in slot 3, which nobody else's numbers touch: it has the tick, or nobody has
-abbrev third : Slot → Said (Option ℕ) → (had idle : ℕ) → Slot → StepCase
-third s a h n u =
-    steps (tableOf 0 (empty ∷ empty ∷ empty ∷ s ∷ [])) (a ∷ []) (tallied (0 ∷ 0 ∷ 0 ∷ h ∷ []) n (tableOf 1 (empty ∷ empty ∷ empty ∷ u ∷ [])))
+abbrev third : Slot → Said (Option ℕ) → (had idle last : ℕ) → Slot → StepCase
+third s a h n k u =
+    steps (tableOf 0 (empty ∷ empty ∷ empty ∷ s ∷ [])) (a ∷ []) (ranLast k (tallied (0 ∷ 0 ∷ 0 ∷ h ∷ []) n (tableOf 1 (empty ∷ empty ∷ empty ∷ u ∷ []))))
 
 abbrev serves : (before after : Slot) → StepCase
-serves s u = third s (ran 3) 1 0 u
+serves s u = third s (ran 3) 1 0 3 u
 
 abbrev rests : (before after : Slot) → StepCase
-rests s u = third s nobody 0 1 u
+rests s u = third s nobody 0 1 noSlot u
 
 abbrev unsound : Slot → StepCase
 unsound s = keeps (tableOf 0 (empty ∷ empty ∷ empty ∷ s ∷ [])) (refused 4 3)
@@ -151,12 +153,12 @@ soundness =
 -- tick included, has departed; two may go at once; a line that renews beside it goes on, and so does the count beside a slot that held nothing
 abbrev departures : List StepCase
 departures =
-    steps (tableOf 0 (parting 1 8 2 1 ∷ running 1 8 2 1 ∷ [])) (ran 0 ∷ ran 1 ∷ []) (tallied (1 ∷ 1 ∷ []) 0 (tableOf 2 (parting 1 8 4 0 ∷ running 1 8 4 0 ∷ [])))
-    ∷ steps (tableOf 0 (running 1 8 2 1 ∷ parting 1 8 2 1 ∷ [])) (ran 0 ∷ ran 1 ∷ []) (tallied (1 ∷ 1 ∷ []) 0 (tableOf 2 (running 1 8 4 0 ∷ parting 1 8 4 0 ∷ [])))
-    ∷ steps (tableOf 0 (running 1 8 2 1 ∷ parting 1 8 3 1 ∷ [])) (ran 1 ∷ []) (tallied (0 ∷ 1 ∷ []) 0 (tableOf 1 (running 1 8 3 1 ∷ parting 1 8 4 0 ∷ [])))
-    ∷ steps (tableOf 0 (parting 1 8 2 1 ∷ running 1 8 3 1 ∷ [])) (ran 1 ∷ []) (tallied (0 ∷ 1 ∷ []) 0 (tableOf 1 (parting 1 8 3 1 ∷ running 1 8 4 0 ∷ [])))
+    steps (tableOf 0 (parting 1 8 2 1 ∷ running 1 8 2 1 ∷ [])) (ran 0 ∷ ran 1 ∷ []) (ranLast 1 (tallied (1 ∷ 1 ∷ []) 0 (tableOf 2 (parting 1 8 4 0 ∷ running 1 8 4 0 ∷ []))))
+    ∷ steps (tableOf 0 (running 1 8 2 1 ∷ parting 1 8 2 1 ∷ [])) (ran 0 ∷ ran 1 ∷ []) (ranLast 1 (tallied (1 ∷ 1 ∷ []) 0 (tableOf 2 (running 1 8 4 0 ∷ parting 1 8 4 0 ∷ []))))
+    ∷ steps (tableOf 0 (running 1 8 2 1 ∷ parting 1 8 3 1 ∷ [])) (ran 1 ∷ []) (ranLast 1 (tallied (0 ∷ 1 ∷ []) 0 (tableOf 1 (running 1 8 3 1 ∷ parting 1 8 4 0 ∷ []))))
+    ∷ steps (tableOf 0 (parting 1 8 2 1 ∷ running 1 8 3 1 ∷ [])) (ran 1 ∷ []) (ranLast 1 (tallied (0 ∷ 1 ∷ []) 0 (tableOf 1 (parting 1 8 3 1 ∷ running 1 8 4 0 ∷ []))))
     ∷ steps (talliedWith (7 ∷ 5 ∷ []) 3 2 (tableOf 20 (parting 3 4 3 1 ∷ running 2 4 3 0 ∷ []))) (ran 0 ∷ []) (talliedWith (0 ∷ 5 ∷ []) 3 10 (tableOf 21 (empty ∷ running 2 4 0 2 ∷ [])))
-    ∷ steps (talliedWith (7 ∷ 5 ∷ []) 3 2 (tableOf 20 (parting 3 4 2 1 ∷ running 2 4 3 0 ∷ []))) (ran 0 ∷ []) (talliedWith (8 ∷ 5 ∷ []) 3 2 (tableOf 21 (parting 3 4 3 0 ∷ running 2 4 0 2 ∷ [])))
+    ∷ steps (talliedWith (7 ∷ 5 ∷ []) 3 2 (tableOf 20 (parting 3 4 2 1 ∷ running 2 4 3 0 ∷ []))) (ran 0 ∷ []) (ranLast 0 (talliedWith (8 ∷ 5 ∷ []) 3 2 (tableOf 21 (parting 3 4 3 0 ∷ running 2 4 0 2 ∷ []))))
     ∷ steps (tallied (4 ∷ 0 ∷ 6 ∷ 3 ∷ 5 ∷ []) 1 (tableOf 20 (parting 3 8 7 0 ∷ empty ∷ parting 3 4 3 0 ∷ empty ∷ running 2 9 1 0 ∷ []))) (nobody ∷ [])
     (talliedWith (0 ∷ 0 ∷ 0 ∷ 3 ∷ 5 ∷ []) 2 10 (tableOf 21 (empty ∷ empty ∷ empty ∷ empty ∷ running 2 9 2 0 ∷ [])))
     ∷ steps (tableOf 0 (parting 2 4 0 2 ∷ running 1 9 0 1 ∷ [])) (ran 0 ∷ ran 0 ∷ ran 1 ∷ nobody ∷ nobody ∷ []) (talliedWith (0 ∷ 1 ∷ []) 2 2 (tableOf 5 (empty ∷ running 1 9 5 0 ∷ [])))
@@ -167,7 +169,7 @@ departures =
 -- R96: the departed count too, alone and with the others
 abbrev tooManyDeparted : List StepCase
 tooManyDeparted =
-    steps (talliedWith (12 ∷ []) 10 8 (tableOf 30 (running 2 9 1 1 ∷ []))) (ran 0 ∷ []) (talliedWith (13 ∷ []) 10 8 (tableOf 31 (running 2 9 2 0 ∷ [])))
+    steps (talliedWith (12 ∷ []) 10 8 (tableOf 30 (running 2 9 1 1 ∷ []))) (ran 0 ∷ []) (ranLast 0 (talliedWith (13 ∷ []) 10 8 (tableOf 31 (running 2 9 2 0 ∷ []))))
     ∷ keeps (talliedWith (12 ∷ []) 10 9 (tableOf 30 (running 2 9 1 1 ∷ []))) (refused 4 0)
     ∷ keeps (talliedWith [] 0 31 (tableOf 30 (running 2 9 1 1 ∷ []))) (refused 4 0)
     ∷ keeps (talliedWith (1 ∷ []) 0 (2 ^ 64 - 1) (tableOf 30 (running 2 9 1 1 ∷ []))) (refused 4 0)
@@ -175,7 +177,7 @@ tooManyDeparted =
 
 -- R7, R35: the last tick is reached, and not left
 abbrev lastTick : StepCase
-lastTick = steps (tableOf (2 ^ 48 - 1) (running 1 4 0 1 ∷ [])) (ran 0 ∷ refused 15 0 ∷ []) (tallied (1 ∷ []) 0 (tableOf (2 ^ 48) (running 1 4 1 0 ∷ [])))
+lastTick = steps (tableOf (2 ^ 48 - 1) (running 1 4 0 1 ∷ [])) (ran 0 ∷ refused 15 0 ∷ []) (ranLast 0 (tallied (1 ∷ []) 0 (tableOf (2 ^ 48) (running 1 4 1 0 ∷ []))))
 
 -- all of them
 unfoldable pub stepCases : List StepCase

@@ -2,7 +2,7 @@
 ghost use mathlib.Core.Path.{_≡_};
 ghost use Prim.Native.Nat.{_^_, _≤_, _<_};
 ghost use Rattle.table.specs.Words.{slotOf};
-ghost use Rattle.table.specs.Counts.{accounted};
+ghost use Rattle.table.specs.Counts.{Inside, accounted};
 ghost use Rattle.table.specs.Turn.{Turns};
 ghost use Rattle.table.specs.Step.{servedAt, refusedStep, advance, stepOf};
 use crate::Outcome;
@@ -35,10 +35,17 @@ impl Which {
 }
 
 impl Table {
-    // R24, R44: the least end of those owed, the lowest slot among equals, if every line is sound. One loop for both: a table is copied for each.
+    // R24, R44: the least end of those owed, if every line is sound; among equals who ran last goes on, else the lowest slot has it. One loop for both:
+    // a table is copied for each. Who ran last is looked at before it, so that the comparison after it need not wait for that.
     fn choose(self) -> Turn
-        ensures { λ r. ⌜ Turns (self .slots) r ⌝ }
+        ensures { λ r. ⌜ Turns self r ⌝ }
     {
+        let last = self.last as usize;
+        let mut going: u32 = 65536;
+        if last < 16 {
+            let s = self.slots[last];
+            going = s.key();
+        }
         let mut best: usize = 16;
         let mut least: u32 = 65536;
         let mut i: usize = 0;
@@ -55,6 +62,9 @@ impl Table {
             i = i + 1;
         }
         if best < 16 {
+            if going <= least {
+                return Turn::Of(Which::At(last));
+            }
             return Turn::Of(Which::At(best));
         }
         Turn::Of(Which::None)
@@ -74,7 +84,7 @@ impl Table {
     // R45 to R48: a tick in which the slot named, or none, is served: what each slot holds then, or 14 at the lowest whose period ends short (R34).
     // What a line had that departs with it is counted so (R101).
     fn advance(self, w: Which) -> Stepped
-        requires { ⌜ (self .clock < 2 ^ 48) × (accounted self ≤ self .clock) ⌝ }
+        requires { ⌜ (self .clock < 2 ^ 48) × (accounted self ≤ self .clock) × Inside 16 (slotOf w) ⌝ }
         ensures { λ r. ⌜ r ≡ advance (slotOf w) self ⌝ }
     {
         let mut next = self.counting(w);

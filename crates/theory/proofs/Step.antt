@@ -22,7 +22,7 @@ use Rattle.line.specs.Tick.{short}
 use Rattle.line.proofs.Search.{true-false, none-found, lowest-none}
 use Rattle.line.proofs.Sound.{says-sound}
 use Rattle.table.proofs.Counts.{no-fault}
-use Rattle.table.proofs.Choice.{chosen-is, chosen-earliest}
+use Rattle.table.proofs.Choice.{choose-is, chooses-earliest}
 use Rattle.theory.specs.Fine.{Fine, Closes, Kept, Lag}
 use Rattle.theory.proofs.Numbers.{split}
 use Rattle.theory.proofs.Pump.{never-short, fine-kept}
@@ -63,8 +63,8 @@ pub none-unsound : (l : List Slot) → Each Sound l → lowestOf (λ h. not (sou
 none-unsound l a = none-found (λ i. not (sound (at l i))) (length l) (λ i b. ap not (says-sound (at l i) (a i b)))
 
 -- R44: the step's own choice is an earliest end
-pub choose-earliest : (l : List Slot) → Earliest (choose l) l
-choose-earliest l = chosen-earliest (choose l) l (chosen-is (length l) l)
+pub choose-earliest : (t : Table) → Earliest (choose t) (t .slots)
+choose-earliest t = chooses-earliest (t .last) (choose t) (t .slots) (choose-is t)
 
 -- a tick in which no line is short
 pub advanced : (o : Option ℕ) (t : Table) → Each Kept (serve o (t .slots)) → advance o t ≡ ticked o t
@@ -76,20 +76,20 @@ pub sound-faultless : (t : Table) → Each Sound (t .slots) → accounted t ≤ 
 sound-faultless t s w = no-fault t (none-unsound (t .slots) s) w
 
 -- R48, R74: the step of a fine table is not refused
-pub fine-step : {M : ℕ} (t : Table) → Fine M (t .clock) (t .slots) → accounted t ≤ t .clock → t .clock < 2 ^ 48 → stepOf t ≡ ticked (choose (t .slots)) t
+pub fine-step : {M : ℕ} (t : Table) → Fine M (t .clock) (t .slots) → accounted t ≤ t .clock → t .clock < 2 ^ 48 → stepOf t ≡ ticked (choose t) t
 unfolding stepOf
 fine-step t f w b =
     rw (lt-leb (2 ^ 48) (t .clock) b, sound-faultless t (f .sound) w)
-    (advanced (choose (t .slots)) t (never-short (choose (t .slots)) f (choose-earliest (t .slots))))
+    (advanced (choose t) t (never-short (choose t) f (choose-earliest t)))
 
 -- R74: and the table after it is fine
 pub fine-stepped : {M : ℕ} (t : Table) → Fine M (t .clock) (t .slots) → accounted t ≤ t .clock → t .clock < 2 ^ 48 → Fine M (stepOf t .table .clock) (stepOf t .table .slots)
 fine-stepped {M} t f w b =
-    rw (fine-step t f w b, add-one) (fine-kept (choose (t .slots)) f (choose-earliest (t .slots)))
+    rw (fine-step t f w b, add-one) (fine-kept (choose t) f (choose-earliest t))
 
 -- R29, R48: a step of a fine table leaves nobody further behind
 pub lag-stepped : {M : ℕ} (t : Table) → Fine M (t .clock) (t .slots) → accounted t ≤ t .clock → Lag M (t .slots) → t .clock < 2 ^ 48 → Lag M (stepOf t .table .slots)
 lag-stepped {M} t f w g b =
-    let o = choose (t .slots) in
-    let e = choose-earliest (t .slots) in
+    let o = choose t in
+    let e = choose-earliest t in
     rw (fine-step t f w b) (lag-kept o (f .sound) (f .shares) (earliest-busy o (t .slots) e) (never-short o f e) g)

@@ -1,5 +1,6 @@
 //! The benchmark's figures as Markdown: medians over the runs, and ratios with their least and greatest.
 
+use crate::digits::grouped;
 use std::process::Command;
 use std::{fs, thread};
 
@@ -57,19 +58,6 @@ impl Part {
     }
 }
 
-/// A whole number with a comma before every three digits.
-pub fn grouped(number: f64) -> String {
-    let digits = format!("{number:.0}");
-    let mut out = String::new();
-    for (k, digit) in digits.chars().enumerate() {
-        if k > 0 && (digits.len() - k) % 3 == 0 {
-            out.push(',');
-        }
-        out.push(digit);
-    }
-    out
-}
-
 fn sorted(numbers: impl Iterator<Item = f64>) -> Vec<f64> {
     let mut all: Vec<f64> = numbers.collect();
     all.sort_by(f64::total_cmp);
@@ -86,9 +74,8 @@ fn median(sorted: &[f64]) -> f64 {
 fn line(part: &Part, runs: &[&Row]) -> String {
     let mut cells = vec![runs[0].name.clone()];
     for way in 0..part.ways.len() {
-        cells.push(grouped(median(&sorted(
-            runs.iter().map(|row| row.times[way]),
-        ))));
+        let times = sorted(runs.iter().map(|row| row.times[way]));
+        cells.push(grouped(median(&times).round() as u64));
     }
     for way in part.rivals() {
         let ratios = sorted(runs.iter().map(|row| row.times[0] / row.times[way]));

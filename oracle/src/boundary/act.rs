@@ -7,7 +7,7 @@ use crate::types::{by_how_much, Refusal, Request};
 use std::fmt;
 
 /// R93: the version of the boundary.
-const VERSION: u64 = 5;
+const VERSION: u64 = 6;
 
 /// R63: the slot of a result that is none.
 pub const NO_SLOT: u64 = 255;
@@ -276,7 +276,7 @@ mod tests {
     #[test]
     fn numbers_alone() {
         let desk = on_table(&EMPTY);
-        changes_nothing(Act::Version, &desk, Told::value(5));
+        changes_nothing(Act::Version, &desk, Told::value(6));
         for (number, blinks) in [(0, 0), (3, 1), (4, 2), (15, 5), (16, 0), (1 << 32 | 1, 0)] {
             changes_nothing(Act::Lamp(number), &desk, Told::value(blinks));
         }
@@ -284,9 +284,9 @@ mod tests {
 
     #[test]
     fn the_empty_table_in_a_lent_buffer() {
-        changes_nothing(Act::Empty, &desk(&[FILL; 296], 0), refused(13, 0));
-        let mut lent = desk(&[FILL; 299], 0);
-        assert_eq!(should(&Act::Empty, &mut lent), Told::value(297));
+        changes_nothing(Act::Empty, &desk(&[FILL; 297], 0), refused(13, 0));
+        let mut lent = desk(&[FILL; 300], 0);
+        assert_eq!(should(&Act::Empty, &mut lent), Told::value(298));
         let wanted = [image::bytes(&EMPTY), vec![FILL; 2]].concat();
         assert_eq!(lent, desk(&wanted, 0));
     }
@@ -457,12 +457,13 @@ mod tests {
 
     #[test]
     fn a_card_to_its_table() {
-        changes_nothing(Act::ReadCard, &desk(&[FILL; 296], 0), refused(13, 0));
+        changes_nothing(Act::ReadCard, &desk(&[FILL; 297], 0), refused(13, 0));
         let mut cut = desk(&[], 0);
         cut.card = Lent::new(&CARD_A[..33], GUARD);
         changes_nothing(Act::ReadCard, &cut, refused(11, 22));
-        let mut now = desk(&[FILL; 298], 0);
-        assert_eq!(should(&Act::ReadCard, &mut now), Told::value(297));
+        // R56: where the last slot was, what was lent had another byte than none.
+        let mut now = desk(&[FILL; 299], 0);
+        assert_eq!(should(&Act::ReadCard, &mut now), Told::value(298));
         let mut wanted = desk(&[image::bytes(&case_a().0), vec![FILL]].concat(), 0);
         let mut numbers = [0; 18];
         (numbers[0], numbers[1]) = (32, 16);

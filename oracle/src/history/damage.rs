@@ -146,7 +146,7 @@ fn spoil(random: &mut Random, image: &mut Vec<u8>) {
     let any = random.below(image::LENGTH as u64) as usize;
     let drawn = byte(random);
     match random.below(8) {
-        0 => put(image, 0, drawn % 5),
+        0 => put(image, 0, drawn % 6),
         1 => put(image, slot, drawn % 5),
         2 => put(image, slot, drawn),
         3 => put(image, slot + 1 + any % 8, drawn),

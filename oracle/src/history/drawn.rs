@@ -9,6 +9,7 @@ use super::tally::Tally;
 use crate::boundary::{Act, NewLine, Told};
 use crate::card;
 use crate::draw;
+use crate::draw_last;
 use crate::draw_leaving;
 use crate::image;
 use crate::orders;
@@ -49,6 +50,7 @@ impl<'a> Drawn<'a> {
     pub fn first(&mut self) -> Done {
         self.numbers()?;
         self.leave_numbers()?;
+        self.last_slots()?;
         self.lengths()?;
         self.broken_cards()
     }
@@ -86,6 +88,21 @@ impl<'a> Drawn<'a> {
             for bit in 0..64 {
                 self.lay(&image)?;
                 self.call(Act::Leave(number ^ 1 << bit))?;
+            }
+        }
+        Ok(())
+    }
+
+    /// R105: every last slot, on a table of which most lines end together.
+    fn last_slots(&mut self) -> Done {
+        let (table, request) = draw_last::tied(self.random);
+        let line = self.request(&request)?;
+        let used = table.running().next().map_or(0, |(slot, _)| slot as u64);
+        for last in 0..=u8::MAX {
+            let image = image::bytes(&Table { last, ..table });
+            for act in [Act::Admit(line), Act::Leave(used), Act::Step] {
+                self.lay(&image)?;
+                self.call(act)?;
             }
         }
         Ok(())

@@ -11,7 +11,7 @@ fn whole_parts(bytes: usize, first: usize, length: usize, most: usize) -> usize 
     (bytes.saturating_sub(first) / length).min(most)
 }
 
-/// The operations that turn an image into another: clock, slots and counts in words as far as they can be, else bytes.
+/// The operations that turn an image into another: clock, slots, counts and last slot in words as far as they can be, else bytes.
 pub fn image(now: &[u8], wanted: &[u8]) -> Vec<Operation> {
     let mut operations = Vec::new();
     if now.len() > wanted.len() {
@@ -42,9 +42,13 @@ pub fn image(now: &[u8], wanted: &[u8]) -> Vec<Operation> {
     operations
 }
 
+/// R81: the last slot is one byte, which has words of its own.
 fn push_bytes(now: &[u8], wanted: &[u8], offsets: Range<usize>, operations: &mut Vec<Operation>) {
     let differing = offsets.filter(|at| now[*at] != wanted[*at]);
-    operations.extend(differing.map(|at| Operation::Byte(at, wanted[at])));
+    operations.extend(differing.map(|at| match at {
+        image::LAST => Operation::Last(wanted[at]),
+        _ => Operation::Byte(at, wanted[at]),
+    }));
 }
 
 fn push_counts(now: &[u8], wanted: &[u8], places: Range<usize>, operations: &mut Vec<Operation>) {

@@ -1,6 +1,7 @@
 //! What the calls of a comparison can meet. One that does not meet all of it has looked at less than it says.
 
 mod counts;
+mod last;
 mod late;
 mod leaving;
 
@@ -47,5 +48,6 @@ pub type Meeting = (&'static str, fn(&Call) -> bool);
 /// Each of them.
 pub fn all() -> impl Iterator<Item = Meeting> {
     let lines = leaving::ALL.into_iter().chain(late::ALL);
+    let lines = lines.chain(last::ALL);
     counts::ALL.into_iter().chain(lines)
 }

@@ -2,7 +2,7 @@
 
 use crate::boundary::{Act, Desk};
 use crate::image;
-use crate::types::{Content, Follows, Run, Wait, IDLE, SLOTS};
+use crate::types::{Content, Follows, Run, Wait, IDLE, NO_LAST, SLOTS};
 use std::fmt;
 
 #[derive(Clone, Debug, PartialEq, Eq)]
@@ -13,6 +13,8 @@ pub enum Operation {
     Slot(usize, Content),
     /// R95: a count in the image, by its place among the eighteen, where it is long enough to have it.
     Count(usize, u64),
+    /// R105: the last slot in the image, where it is long enough to have it.
+    Last(u8),
     /// One byte of the image, where it is there.
     Byte(usize, u8),
     /// The image is cut to so many bytes.
@@ -50,6 +52,7 @@ impl Operation {
             Operation::Clock(_) => "clock",
             Operation::Slot(..) => "slot",
             Operation::Count(..) => "count",
+            Operation::Last(_) => "last",
             Operation::Byte(..) => "byte",
             Operation::Cut(_) => "cut",
             Operation::More(_) => "more",
@@ -81,6 +84,7 @@ impl Operation {
             Operation::Count(place, ticks) => {
                 put(desk, image::count_at(*place), &ticks.to_le_bytes());
             }
+            Operation::Last(last) => put(desk, image::LAST, &[*last]),
             Operation::Byte(at, byte) => put(desk, *at, &[*byte]),
             Operation::Cut(length) => {
                 let mut cut = desk.image.part().to_vec();
@@ -110,6 +114,8 @@ impl Operation {
             ["slot", slot, ref holds @ ..] => Operation::Slot(slot_number(slot)?, content(holds)?),
             ["idle", ticks] => Operation::Count(IDLE, ticks.parse().ok()?),
             ["departed", ticks] => Operation::Count(IDLE + 1, ticks.parse().ok()?),
+            ["last", "none"] => Operation::Last(NO_LAST),
+            ["last", last] => Operation::Last(last.parse().ok()?),
             ["byte", at, byte] => Operation::Byte(at.parse().ok()?, byte.parse().ok()?),
             ["cut", length] => Operation::Cut(length.parse().ok()?),
             ["more", ref hex @ ..] => Operation::More(bytes(hex)?),
@@ -250,6 +256,8 @@ impl fmt::Display for Operation {
             Operation::Clock(clock) => write!(f, "{name} {clock}"),
             Operation::Slot(slot, content) => write!(f, "{name} {slot} {content}"),
             Operation::Count(place, ticks) => f.write_str(&counted(*place, *ticks)),
+            Operation::Last(NO_LAST) => write!(f, "{name} none"),
+            Operation::Last(last) => write!(f, "{name} {last}"),
             Operation::Byte(at, byte) => write!(f, "{name} {at} {byte}"),
             Operation::Cut(length) => write!(f, "{name} {length}"),
             Operation::More(bytes) => write!(f, "{name} {}", hex(bytes)),

@@ -223,6 +223,7 @@ fn simpler(operation: &Operation) -> Vec<Operation> {
             .into_iter()
             .map(|ticks| Operation::Count(*place, ticks))
             .collect(),
+        Operation::Last(last) => numbers((*last).into(), |n| Operation::Last(n as u8)),
         Operation::Byte(at, byte) => less((*byte).into())
             .into_iter()
             .map(|byte| Operation::Byte(*at, byte as u8))

@@ -1,13 +1,15 @@
 //! What happens in a drawn history, one turn after the other.
 
+mod meanwhile;
+
 use super::damage;
-use super::drawn::{on_images, Done, Drawn, LONGEST_LENT};
+use super::drawn::{Done, Drawn, LONGEST_LENT};
 use super::operation::Operation;
 use crate::boundary::Act;
 use crate::card;
 use crate::draw;
 use crate::draw_counts;
-use crate::draw_late;
+use crate::draw_last;
 use crate::draw_leaving;
 use crate::image;
 use crate::orders;
@@ -44,7 +46,7 @@ impl Drawn<'_> {
         self.step(steps)
     }
 
-    /// A table that mostly passes all refusals, with its request; R99: of half of them some lines leave.
+    /// A table that mostly passes all refusals, with its request, and any last slot; R99: of half of them some lines leave.
     fn open_question(&mut self) -> Done {
         let (mut table, request) = match self.random.below(64) {
             0 => draw::wide(self.random),
@@ -53,13 +55,14 @@ impl Drawn<'_> {
             _ => draw::near_full(self.random),
         };
         draw_counts::fitting(self.random, &mut table);
+        draw_last::any(self.random, &mut table);
         self.loads.go_by(&table, &request);
         self.lay(&image::bytes(&table))?;
         self.ask(&request)
     }
 
     pub fn turn(&mut self) -> Done {
-        match self.random.below(70) {
+        match self.random.below(73) {
             0..=22 => {
                 let request = self.draw_request();
                 self.ask(&request)
@@ -86,6 +89,7 @@ impl Drawn<'_> {
             }
             63 => self.call(Act::Version).map(|_| ()),
             64 | 65 => self.late_table(),
+            66..=68 => self.tied_table(),
             _ => self.leave(),
         }
     }
@@ -124,11 +128,9 @@ impl Drawn<'_> {
     /// R100: the number of a slot that holds a line, often one that waits; of any slot; or of none, up to 2^64 − 1.
     fn draw_number(&mut self) -> u64 {
         let table = self.table();
-        let used = (0..SLOTS).filter(|slot| table.slots[*slot] != Content::Nothing);
-        let used: Vec<usize> = used.collect();
         let any = self.random.below(SLOTS as u64);
-        let line = used.get(self.random.below(used.len() as u64) as usize);
-        let line = line.map_or(any, |slot| *slot as u64);
+        let used = |content: &Content| *content != Content::Nothing;
+        let line = draw::slot(self.random, &table, used) as u64;
         let waiting = table.lowest(Content::is_waiting);
         match self.random.below(16) {
             0..=6 => waiting.map_or(line, |slot| slot as u64),
@@ -218,79 +220,6 @@ impl Drawn<'_> {
         self.call(Act::ReadCard)?;
         self.loads.go_by(&self.table(), &request);
         self.ask(&request)
-    }
-
-    /// The table and the request are damaged for some calls, and then the table stands as it stood.
-    fn damaged_table(&mut self) -> Done {
-        let (before, mut table) = (self.image(), self.table());
-        let mut request = self.draw_request();
-        damage::table(self.random, &mut table, &mut request);
-        self.lay(&image::bytes(&table))?;
-        let line = self.request(&request)?;
-        match self.random.below(12) {
-            0..=3 => self.call(Act::Ask(line)).map(|_| ())?,
-            4 => self.call(Act::Admit(line)).map(|_| ())?,
-            5 | 6 => {
-                let times = 1 + self.random.below(4);
-                self.step(times)?;
-            }
-            7 => {
-                self.call(Act::Ready)?;
-                self.call(Act::WriteCard(line))?;
-            }
-            _ => {
-                let number = self.draw_number();
-                self.call(Act::Leave(number))?;
-            }
-        }
-        self.lay(&before)
-    }
-
-    /// R103: a table whose lines alone are late or just in time is asked and admitted to, and then the table stands as it stood.
-    fn late_table(&mut self) -> Done {
-        let before = self.image();
-        let (mut table, request) = draw_late::late(self.random);
-        draw_counts::fitting(self.random, &mut table);
-        self.lay(&image::bytes(&table))?;
-        self.ask(&request)?;
-        self.admit(&request)?;
-        self.lay(&before)
-    }
-
-    /// R24, R96: counts of any kind beside lines that may be damaged too, for every call on images; then the table stands as it
-    /// stood.
-    fn counted_table(&mut self) -> Done {
-        let (before, mut table) = (self.image(), self.table());
-        let mut request = self.draw_request();
-        if self.random.below(4) > 0 {
-            damage::table(self.random, &mut table, &mut request);
-        }
-        match self.random.below(4) {
-            0 => draw_counts::fitting(self.random, &mut table),
-            _ => draw_counts::too_many(self.random, &mut table),
-        }
-        let counted = image::bytes(&table);
-        self.lay(&counted)?;
-        let (line, number) = (self.request(&request)?, self.draw_number());
-        for act in on_images(line, number) {
-            self.lay(&counted)?;
-            self.call(act)?;
-        }
-        self.lay(&before)
-    }
-
-    /// R83: the image's bytes are spoilt for some calls, and then they are as they were.
-    fn broken_image(&mut self) -> Done {
-        let before = self.image();
-        let request = self.draw_request();
-        let acts = on_images(self.request(&request)?, self.draw_number());
-        let spoilt = damage::image(self.random, &before);
-        for _ in 0..=self.random.below(3) {
-            let act = acts[self.random.below(acts.len() as u64) as usize];
-            self.lay(&spoilt)?;
-            self.call(act)?;
-        }
-        self.lay(&before)
     }
 
     /// R7: the clock jumps, to where a run comes to the last ask or anywhere before, but not before what is counted (R96); the lines

@@ -3,7 +3,7 @@
 use super::operation::{counted, records, written, Operation};
 use crate::boundary::{reordered, Act, Desk, Told, NO_SLOT};
 use crate::image;
-use crate::types::{Content, SLOTS};
+use crate::types::{Content, NO_LAST, SLOTS};
 
 /// What an operation says; most of what is only laid on the desk says nothing.
 fn said(operation: &Operation, all: &[Told], desk: &Desk) -> Option<String> {
@@ -78,7 +78,7 @@ fn counts(all: &[u64]) -> String {
     words.collect()
 }
 
-/// R83: the clock, the slots that hold a line and the counts that are not 0, or where the image is broken.
+/// R83: the clock, the slots that hold a line, the counts that are not 0 and the last slot if it is not none, or where the image is broken.
 pub fn table(image: &[u8]) -> String {
     match image::read(image) {
         Err(refusal) => refusal.to_string(),
@@ -87,7 +87,11 @@ pub fn table(image: &[u8]) -> String {
             let held = slots.filter(|(_, content)| **content != Content::Nothing);
             let words = held.map(|(slot, content)| format!(", slot {slot} {content}"));
             let (slots, counts) = (words.collect::<String>(), counts(&table.counts.all()));
-            format!("clock {}{slots}{counts}", table.clock)
+            let last = match table.last {
+                NO_LAST => String::new(),
+                last => format!(", {}", Operation::Last(last)),
+            };
+            format!("clock {}{slots}{counts}{last}", table.clock)
         }
     }
 }

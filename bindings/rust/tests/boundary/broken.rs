@@ -2,8 +2,8 @@
 
 use crate::lent::Lent;
 use crate::samples::{
-    case_a, counted, image, leaving, offset, refused, running, waiting, Image, BENCH, DEPARTED,
-    IDLE, LAST_TICK,
+    case_a, counted, image, leaving, offset, ran_last, refused, running, waiting, Image, BENCH,
+    DEPARTED, IDLE, LAST_TICK,
 };
 use trimthuel::image::{admit, ask, counts, leave, ready, step, write_card};
 use trimthuel::{Pump, TABLE_SIZE};
@@ -47,7 +47,7 @@ fn tables() -> [Image; 7] {
 #[test]
 fn another_version() {
     for table in tables() {
-        for version in [0, 1, 2, 4, 0xFF] {
+        for version in [0, 1, 2, 3, 5, 0xFF] {
             broken(&with(table, 0, version), 0);
         }
     }
@@ -96,6 +96,15 @@ fn a_cut_and_a_byte_too_many() {
     }
 }
 
+/// R81: as version 3 had it, and with the version of now.
+#[test]
+fn an_image_without_a_last_slot() {
+    for table in tables() {
+        broken(&with(table, 0, 3)[..297], 0);
+        broken(&table[..297], 297);
+    }
+}
+
 #[test]
 fn the_lowest_offset_of_several() {
     let (kind, byte) = (offset(5), offset(4) + 8);
@@ -120,7 +129,9 @@ fn any_numbers_are_taken() {
     let table = image(u64::MAX, &lines);
     let all: Vec<_> = (0..=DEPARTED).map(|place| (place, u64::MAX)).collect();
     for table in [table, counted(table, &all)] {
-        assert_eq!(ready(&table), Ok(0b11));
-        assert_eq!(Pump::from_image(&table).unwrap().image(), &table);
+        for table in (0..=255).map(|slot| ran_last(table, slot)) {
+            assert_eq!(ready(&table), Ok(0b11));
+            assert_eq!(Pump::from_image(&table).unwrap().image(), &table);
+        }
     }
 }

@@ -2,8 +2,8 @@
 
 use crate::lent::Lent;
 use crate::samples::{
-    admitted, case_e_leaving, counted, image, leaving, offset, refused, running, waiting, Image,
-    CARD_LEAVING_TWIN, DEPARTED, IDLE, LAST_TICK,
+    admitted, case_e_leaving, counted, image, leaving, offset, ran_last, refused, running, waiting,
+    Image, CARD_LEAVING_TWIN, DEPARTED, IDLE, LAST_TICK, NONE,
 };
 use trimthuel::image::{admit, ask, counts, leave, ready, step, write_card};
 use trimthuel::{Answer, Request, SLOTS};
@@ -80,6 +80,22 @@ fn r100_a_waiting_line() {
     goes(counted(most, &[(0, u64::MAX)]), 0, 0, gone);
 }
 
+/// R105: the last slot is kept, whatever it is, but for that of the line that is removed.
+#[test]
+fn r105_the_last_slot() {
+    for slot in 0..=255 {
+        let before = ran_last(lines(20), slot);
+        let mut asked = before;
+        asked[offset(3)] = 3;
+        goes(before, 3, 8, asked);
+        let kept = if slot == 6 { NONE } else { slot };
+        let mut removed = ran_last(lines(20), kept);
+        removed[offset(6)..offset(7)].fill(0);
+        goes(before, 6, 0, removed);
+        stays(before, 4, 16, 4);
+    }
+}
+
 /// R36: an empty slot, one whose line leaves already, and numbers that are no slot's; the place is the number, not cut.
 #[test]
 fn r36_nobody_to_let_go() {
@@ -130,7 +146,8 @@ fn r46_up_to_its_end() {
     let ran: Vec<_> = (0..3).map(|_| step(&mut table).unwrap()).collect();
     assert_eq!(ran, [Some(5), Some(5), Some(2)]);
     let last = [(2, running(1, 4, 1, 0)), (5, leaving(2, 4, 3, 0))];
-    assert_eq!(table, counted(image(23, &last), &[(2, 4), (5, 8), (9, 7)]));
+    let last = counted(image(23, &last), &[(2, 4), (5, 8), (9, 7)]);
+    assert_eq!(table, ran_last(last, 2));
     assert_eq!(step(&mut table), Ok(None));
     let gone = [(2, 4), (9, 7), (IDLE, 1), (DEPARTED, 8)];
     assert_eq!(

@@ -2,8 +2,8 @@
 
 use crate::lent::{overwritten, writes, Lent, FILL};
 use crate::samples::{
-    admitted, case_a, case_e_leaving, counted, image, leaving, refused, running, Image, BENCH,
-    CARD_A, CARD_A_MIXED, CARD_A_OLD, CARD_LEAVING, CARD_LEAVING_TWIN, NUMBERS_A,
+    admitted, case_a, case_e_leaving, counted, image, leaving, ran_last, refused, running, Image,
+    BENCH, CARD_A, CARD_A_MIXED, CARD_A_OLD, CARD_LEAVING, CARD_LEAVING_TWIN, NUMBERS_A,
 };
 use std::fmt::Debug;
 use trimthuel::image::{admit, ask, counts, empty, leave, read_card, ready, step, write_card};
@@ -42,7 +42,7 @@ fn r86_ask_and_r87_admit() {
 #[test]
 fn r88_step() {
     let next = image(9, &[(0, running(8, 16, 9, 0)), (1, running(8, 16, 9, 7))]);
-    reads(step, Some(1), counted(next, &[(1, 1)]));
+    reads(step, Some(1), ran_last(counted(next, &[(1, 1)]), 1));
 }
 
 #[test]

@@ -4,6 +4,7 @@ mod broken;
 mod cards;
 mod counts;
 mod header;
+mod last;
 mod late;
 mod leave;
 mod lengths;

@@ -1,8 +1,8 @@
 //! The pump that owns its table, and requests.
 
 use crate::samples::{
-    admitted, case_a, case_e_leaving, counted, image, leaving, refused, running, BENCH, CARD_A,
-    CARD_A_OLD, CARD_LEAVING, CARD_LEAVING_TWIN, DEPARTED, IDLE, LAST_TICK,
+    admitted, case_a, case_e_leaving, counted, image, leaving, ran_last, refused, running, BENCH,
+    CARD_A, CARD_A_OLD, CARD_LEAVING, CARD_LEAVING_TWIN, DEPARTED, IDLE, LAST_TICK,
 };
 use trimthuel::{Answer, Pump, Refusal, Request, CARD_MAX, TABLE_SIZE};
 
@@ -20,7 +20,7 @@ fn r4_a_new_pump_is_the_empty_table() {
 }
 
 /// A character for each tick.
-fn row_of(pump: &mut Pump, ticks: usize) -> Result<String, Refusal> {
+pub fn row_of(pump: &mut Pump, ticks: usize) -> Result<String, Refusal> {
     let digit = |slot: usize| char::from_digit(slot as u32, 10).unwrap_or('?');
     let ticks = (0..ticks).map(|_| Ok(pump.step()?.map_or('.', digit)));
     ticks.collect()
@@ -44,16 +44,16 @@ fn case_a_from_the_empty_table() -> Result<(), Refusal> {
     for _ in 0..8 {
         assert_eq!(pump.step(), Ok(Some(0)));
     }
-    // R97: the first line has had all ticks so far.
-    let eight = [(0, 8)];
-    assert_eq!(pump.image(), &counted(case_a(), &eight));
+    // R97, R105: the first line has had all ticks so far.
+    let ran = |table| ran_last(counted(table, &[(0, 8)]), 0);
+    assert_eq!(pump.image(), &ran(case_a()));
     let bench = pump.request(1, 4).stretch(0, 32);
     assert_eq!(bench, BENCH);
     let answer = Answer { start: 13, slot: 2 };
     assert_eq!(pump.ask(&bench), Ok(answer));
-    assert_eq!(pump.image(), &counted(case_a(), &eight));
+    assert_eq!(pump.image(), &ran(case_a()));
     assert_eq!(pump.admit(&bench), Ok(answer));
-    assert_eq!(pump.image(), &counted(admitted(), &eight));
+    assert_eq!(pump.image(), &ran(admitted()));
     let row = row_of(&mut pump, 56)?;
     assert_eq!(stored("step 56: "), Some(row.as_str()));
     // R79: each count is how often the row names it, the first eight ticks before it.
@@ -110,8 +110,9 @@ fn r23_a_waiting_line_is_kept_in_the_image_and_refused_on_a_card() {
 fn r72_there_and_back() {
     let (pump, request) = Pump::from_card(CARD_A).unwrap();
     assert_eq!((pump.image(), request), (&case_a(), BENCH));
-    // R72: a table that was read has every count 0, also where the one that was written had not.
-    let full = Pump::from_image(&counted(case_a(), &[(0, 8), (9, u64::MAX)])).unwrap();
+    // R72: a table that was read has every count 0 and no last slot, whatever the one that was written had.
+    let full = ran_last(counted(case_a(), &[(0, 8), (9, u64::MAX)]), 0);
+    let full = Pump::from_image(&full).unwrap();
     let mut card = [0; CARD_MAX];
     assert_eq!(full.write_card(&request, &mut card), Ok(40));
     assert_eq!(&card[..40], CARD_A);

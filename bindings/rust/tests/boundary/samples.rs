@@ -30,10 +30,11 @@ pub fn waiting(need: u16, period: u16, wait: u16) -> Line {
     (2, [need, period, wait, 0])
 }
 
-/// R81: the image of a clock and some slots; the others hold nothing, and nothing is counted.
+/// R81: the image of a clock and some slots; the others hold nothing, nothing is counted, and the last slot is none.
 pub fn image(clock: u64, lines: &[(usize, Line)]) -> Image {
     let mut image = [0; TABLE_SIZE];
-    image[0] = 3;
+    image[0] = 4;
+    image[297] = NONE;
     image[1..9].copy_from_slice(&clock.to_le_bytes());
     for (slot, (kind, numbers)) in lines {
         let at = offset(*slot);
@@ -55,6 +56,15 @@ pub fn counted(mut image: Image, counts: &[(usize, u64)]) -> Image {
         let at = 153 + 8 * place;
         image[at..at + 8].copy_from_slice(&ticks.to_le_bytes());
     }
+    image
+}
+
+/// R105: the last slot that is none.
+pub const NONE: u8 = 255;
+
+/// R81: the same with another last slot.
+pub fn ran_last(mut image: Image, slot: u8) -> Image {
+    image[297] = slot;
     image
 }
 

@@ -2,7 +2,7 @@
 
 use crate::lent::Lent;
 use crate::samples::{
-    admitted, counted, image, offset, refused, running, waiting, Image, IDLE, LAST_TICK,
+    admitted, counted, image, offset, ran_last, refused, running, waiting, Image, IDLE, LAST_TICK,
 };
 use trimthuel::image::step;
 use trimthuel::Refusal;
@@ -42,10 +42,11 @@ fn r24_an_unsound_line() {
 #[test]
 fn r34_a_period_that_ends_short() {
     let late = running(1, 4, 3, 1);
-    stays(
-        image(0, &[(0, late), (5, late), (14, late)]),
-        refused(14, 5),
-    );
+    let table = image(0, &[(0, late), (5, late), (14, late)]);
+    stays(table, refused(14, 5));
+    // R44: where another line goes on, slot 0 is the first that is short.
+    stays(ran_last(table, 0), refused(14, 5));
+    stays(ran_last(table, 14), refused(14, 0));
 }
 
 #[test]

@@ -18,7 +18,7 @@ fn is_nobody(held: Option<&Content>) -> bool {
 
 impl Call<'_> {
     /// The number that leave is called with.
-    fn number(&self) -> Option<u64> {
+    pub(super) fn number(&self) -> Option<u64> {
         match self.act {
             Act::Leave(number) => Some(*number),
             _ => None,
@@ -31,11 +31,11 @@ impl Call<'_> {
         self.told.number == told && held.is_some_and(question)
     }
 
-    fn lets_waiting_go(&self) -> bool {
+    pub(super) fn lets_waiting_go(&self) -> bool {
         self.leave(0, |held| held.is_some_and(Content::is_waiting))
     }
 
-    fn lets_running_go(&self, question: impl Fn(&Run) -> bool) -> bool {
+    pub(super) fn lets_running_go(&self, question: impl Fn(&Run) -> bool) -> bool {
         self.leave(
             0,
             |held| matches!(held, Some(Content::Running(run)) if question(run)),
@@ -43,7 +43,7 @@ impl Call<'_> {
     }
 
     /// R46: the slots whose line is gone after this step.
-    fn gone(&self) -> Vec<usize> {
+    pub(super) fn gone(&self) -> Vec<usize> {
         let granted = *self.act == Act::Step && self.is_granted();
         let lines = self.table.running();
         let ends = lines.filter(|(_, run)| granted && run.leaves() && run.age + 1 == run.period);

@@ -32,7 +32,8 @@ fn uncounted(act: &Act, desk: &mut Desk, is_wrong: fn(u64) -> bool) -> Told {
         if *act == Act::Step && granted(told) && is_wrong(told.value) {
             let place = (told.value as usize).min(SLOTS);
             let ticks = image::count(desk.image.part(), place);
-            put(desk, place, ticks - 1);
+            // R101: of a line that is gone with its tick nothing stands there any more.
+            put(desk, place, ticks.saturating_sub(1));
         }
     })
 }

@@ -27,7 +27,7 @@ pub const FAULTS: [Fault; 17] = [
 ];
 
 /// A change of what a granted call of leave leaves, with the slot and what it held.
-fn left(act: &Act, desk: &mut Desk, change: fn(&mut Desk, usize, &Table)) -> Told {
+pub fn left(act: &Act, desk: &mut Desk, change: fn(&mut Desk, usize, &Table)) -> Told {
     let before = table(desk);
     with(act, desk, |told, desk| {
         if let (Act::Leave(number), true, Some(table)) = (act, granted(told), before) {
@@ -116,7 +116,7 @@ fn fifteen_tested(act: &Act, desk: &mut Desk) -> Told {
 }
 
 /// A change of what a step leaves after which a line is gone, with its slot, the line before and the slot that ran.
-fn gone(act: &Act, desk: &mut Desk, change: fn(&mut Desk, usize, &Table, u64)) -> Told {
+pub fn gone(act: &Act, desk: &mut Desk, change: fn(&mut Desk, usize, &Table, u64)) -> Told {
     let before = table(desk);
     with(act, desk, |told, desk| {
         let (Act::Step, true, Some(before)) = (act, granted(told), before) else {

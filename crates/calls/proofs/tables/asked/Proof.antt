@@ -1,9 +1,10 @@
 -- A start has the lowest empty slot beside it.
 use mathlib.Core.Path.{sym, ap, _∙_}
 use Prim.Native.Nat.{ℕ}
+use Rattle.table.specs.Words.{slotNumber}
 use Rattle.table.specs.declared.Answer.{Answer}
 use Rattle.table.specs.Ask.{says}
-use Rattle.calls.specs.Results.{grantedAs, slotNumber}
+use Rattle.calls.specs.Results.{grantedAs}
 use Rattle.calls.specs.Tables.{askedAs}
 use borrow.Author.Needs.{needs}
 use Rattle.calls.proofs.tables.asked.Statement.{statement}
