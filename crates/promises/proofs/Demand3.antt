@@ -1,27 +1,26 @@
 -- The third demand, R73 to R77, is kept.
 use mathlib.Core.Path.{_≡_, sym, ap, _∙_}
 use mathlib.Core.List.{List}
-use Prim.Native.Nat.{ℕ, _+_, _-_, _^_, _≤_, _<_}
+use Prim.Native.Nat.{ℕ, _+_, _-_, _^_, _<_}
 use native.Mathlib.Omega.{arith}
 use lib.ListN.{length}
 use Rattle.table.specs.declared.Table.{Table}
 use Rattle.table.specs.declared.Request.{Request}
-use Rattle.table.specs.declared.Stepped.{Stepped}
-use Rattle.table.specs.Words.{emptyTable, slotOf, refusal, gives, refuses, whichOf}
+use Rattle.table.specs.Words.{emptyTable, refusal, gives}
 use Rattle.line.specs.Slots.{at}
 use Rattle.table.specs.Ask.{says, askOf}
 use Rattle.table.specs.Admit.{newLine, admitWith}
-use Rattle.table.specs.Step.{saysRan, stepOf, choose}
+use Rattle.table.specs.Step.{choose}
 use Rattle.table.specs.Runs.{Act, admitting, run}
 use Rattle.theory.proofs.Numbers.{split}
 use Rattle.theory.proofs.Start.{least-by-last}
 use Rattle.theory.proofs.Granted.{says-start, granted}
 use Rattle.theory.proofs.Answers.{ask-answers}
 use Rattle.theory.proofs.Unique.{answers-unique}
-use Rattle.theory.proofs.Step.{sound-faultless, fine-step}
+use Rattle.theory.proofs.Step.{sound-faultless}
 use Rattle.promises.specs.Demand3.{Unfailing, NeverMissed, Admission, admitted-table, StartsByLastEnd, RunsFromStart, HasAllItsNeed, NoEarlierStart, NoEarlierThanAnswered}
-use Rattle.promises.proofs.Good.{Good, at-last, good-reached, good-after, slot-empty}
-use Rattle.promises.proofs.Kept.{admit-clock, admit-length, admitted-new}
+use Rattle.promises.proofs.Good.{Good, good-reached, good-after, slot-empty}
+use Rattle.promises.proofs.Kept.{admit-clock, admit-length, admitted-new, says-choice, says-last}
 use Rattle.promises.proofs.Gets.{gets-need, at-start}
 use Rattle.promises.proofs.Early.{no-earlier}
 
@@ -30,19 +29,13 @@ unfailing t g = record {
   sound = g .fine .sound;
   no-fault = sound-faultless t (g .fine .sound) (g .within);
   clock-in = g .clock-in;
-  goes-on = λ h. (slotOf (whichOf (choose t)), goes h);
+  goes-on = λ h. (choose t, says-choice t g h);
   only-fifteen = λ x e.
       split (2 ^ 48) (t .clock)
-      (λ h. let p = last h in let z : x ≡ refusal 15 0 = cc in (z, omega (arith, g .clock-in)))
-      (λ h. let p = goes h in let z : _≡_ {A = ℕ} 0 1 = cc in absurd (omega arith));
-  at-the-last = λ e. last (omega arith);
+      (λ h. let p = says-last t h in let z : x ≡ refusal 15 0 = cc in (z, omega (arith, g .clock-in)))
+      (λ h. let p = says-choice t g h in let z : _≡_ {A = ℕ} 0 1 = cc in absurd (omega arith));
+  at-the-last = λ e. says-last t (omega arith);
 }
-  where
-    goes : t .clock < 2 ^ 48 → saysRan (stepOf t .outcome) ≡ gives (slotOf (whichOf (choose t)))
-    goes h = ap (λ (s : Stepped). saysRan (s .outcome)) (fine-step t (g .fine) (g .within) h)
-
-    last : 2 ^ 48 ≤ t .clock → saysRan (stepOf t .outcome) ≡ refuses (refusal 15 0)
-    last h = ap (λ (s : Stepped). saysRan (s .outcome)) (at-last t h)
 
 -- R74: after any run every step goes on, up to the last tick
 pub never-missed : NeverMissed

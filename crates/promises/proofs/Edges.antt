@@ -18,7 +18,7 @@ use Rattle.line.proofs.Search.{true-false}
 use Rattle.table.specs.Words.{requestWith, emptyTable, gives}
 use Rattle.table.specs.Ask.{says, askIn, askOf}
 use Rattle.table.specs.Counts.{settling}
-use Rattle.table.specs.Step.{Earliest, chosen, advance, stepOf}
+use Rattle.table.specs.Step.{saysRan, Earliest, chosen, advance, stepOf}
 use Rattle.table.specs.Leave.{leaveOf}
 use Rattle.table.specs.Runs.{Act, asking, admitting, stepping, leaving, run, trace, times, idles, since}
 use Rattle.table.specs.Cases.{running, tableOf, caseA}
@@ -30,6 +30,7 @@ use Rattle.promises.specs.Counted.{Unplaced, Occupied}
 use Rattle.promises.specs.Example.{toCaseA, onFromCaseA}
 use Rattle.promises.proofs.Demand3.{has-all-its-need}
 use Rattle.promises.proofs.Example.{case-A-admitted}
+use Rattle.promises.proofs.Last.{who-ran-goes-on}
 
 -- ---- who ran goes on
 
@@ -46,6 +47,10 @@ pub goes-on-met : Got halves 1 × (trace (asking (half (2 ∷ 2 ∷ [])) ∷ lea
     × Earliest (some 1) (run (asking (half (2 ∷ 2 ∷ [])) ∷ leaving 1 ∷ []) (ran-table halves) .slots) × (run (asking (half (2 ∷ 2 ∷ [])) ∷ leaving 1 ∷ []) (ran-table halves) .clock < 2 ^ 48)
 unfolding euclid gcdOf lcmOf frameFrom total lowest due lastEnd mapAt periodsIn every endsBefore endsOf slack bound greatest soonestOf firstShort start askIn askOf chosen settling advance stepOf leaveOf
 goes-on-met = (record { ran = refl; there = refl }, refl, choose-earliest (run (asking (half (2 ∷ 2 ∷ [])) ∷ leaving 1 ∷ []) (ran-table halves)), omega arith)
+
+-- R106: so that tick is promised to it, with an ask and a leave between the two
+pub goes-on-held : saysRan (stepOf (run (asking (half (2 ∷ 2 ∷ [])) ∷ leaving 1 ∷ []) (ran-table halves)) .outcome) ≡ gives (some 1)
+goes-on-held = who-ran-goes-on halves 1 (goes-on-met .0) (asking (half (2 ∷ 2 ∷ [])) ∷ leaving 1 ∷ []) (goes-on-met .1) (goes-on-met .2) (goes-on-met .3)
 
 -- R106: so the third tick is slot 1's; where its line is gone with the second, and another is admitted in its place, it is slot 0's
 pub gone-edges : (trace (halves ++ (stepping ∷ stepping ∷ stepping ∷ [])) emptyTable ≡ some 0 ∷ some 1 ∷ some 1 ∷ some 0 ∷ [])

@@ -25,10 +25,12 @@ use Rattle.line.specs.Leave.{letGo, letGoSlot}
 use Rattle.line.proofs.Sound.{not-barred}
 use Rattle.table.specs.Counts.{settle}
 use Rattle.table.proofs.LettingGo.{may-inside, left-is}
+use Rattle.table.proofs.Step.{slot-of-which}
 use Rattle.table.specs.Ask.{says, askOf}
 use Rattle.table.specs.Admit.{newLine, putAt, admittedAt, admitWith}
 use Rattle.line.specs.Tick.{served}
-use Rattle.table.specs.Step.{choose, serve, ticked, stepOf}
+use Rattle.table.specs.Words.{refusal, gives, refuses}
+use Rattle.table.specs.Step.{saysRan, choose, serve, ticked, stepOf}
 use Rattle.table.specs.Runs.{Act, asking, admitting, stepping, leaving, after}
 use Rattle.theory.specs.Fine.{May}
 use Rattle.theory.specs.Given.{Granted}
@@ -186,6 +188,14 @@ leave-waiting t n j C P w e r =
 -- before the last tick it is the tick of the step's own choice
 pub step-table : (t : Table) → Good t → t .clock < 2 ^ 48 → stepOf t ≡ ticked (choose t) t
 step-table t g h = fine-step t (g .fine) (g .within) h
+
+-- and says whom it chose
+pub says-choice : (t : Table) → Good t → t .clock < 2 ^ 48 → saysRan (stepOf t .outcome) ≡ gives (choose t)
+says-choice t g h = ap (λ (s : Stepped). saysRan (s .outcome)) (step-table t g h) ∙ ap gives (slot-of-which (choose t))
+
+-- at the last tick it says 15
+pub says-last : (t : Table) → 2 ^ 48 ≤ t .clock → saysRan (stepOf t .outcome) ≡ refuses (refusal 15 0)
+says-last t h = ap (λ (s : Stepped). saysRan (s .outcome)) (at-last t h)
 
 -- the choice serves nobody who is not owed
 pub choice-may : (t : Table) → May (choose t) (t .slots)

@@ -23,7 +23,7 @@ use Rattle.table.specs.declared.Answer.{Answer}
 use Rattle.table.specs.declared.Answer.the-variants.{Start, Refused}
 use Rattle.table.specs.declared.Admitted.{Admitted}
 use Rattle.table.specs.declared.Stepped.{Stepped}
-use Rattle.table.specs.Words.{emptyTable, withLast, refusal, gives, refuses}
+use Rattle.table.specs.Words.{emptyTable, withLast, gives}
 use Rattle.table.specs.Grounds.{Answers}
 use Rattle.table.specs.Counts.{counting, settle}
 use Rattle.table.specs.Ask.{says, askOf}
@@ -34,15 +34,14 @@ use Rattle.table.specs.Runs.{Act, asking, admitting, stepping, leaving, after, 
 use Rattle.table.proofs.Choice.{last-goes-on}
 use Rattle.table.proofs.Counts.{settle-other, settling-last}
 use Rattle.table.proofs.LettingGo.{left-is}
-use Rattle.table.proofs.Step.{slot-of-which}
 use Rattle.theory.specs.Fine.{May}
 use Rattle.theory.proofs.Numbers.{split}
 use Rattle.theory.proofs.Answers.{ask-answers}
 use Rattle.theory.proofs.Unique.{answers-unique}
 use Rattle.theory.proofs.Trace.{at-pass, at-served, length-tick}
 use Rattle.promises.specs.Last.{ran-table, WhoRanGoesOn, LastNotAsked}
-use Rattle.promises.proofs.Good.{Good, at-last, good-after, good-run, good-reached}
-use Rattle.promises.proofs.Kept.{admit-length, admit-last, admit-running, leave-length, leave-running, step-table, choice-may}
+use Rattle.promises.proofs.Good.{Good, good-after, good-run, good-reached}
+use Rattle.promises.proofs.Kept.{admit-length, admit-last, admit-running, leave-length, leave-running, step-table, says-choice, says-last, choice-may}
 use Rattle.promises.proofs.Gets.{by-tick, by-last}
 use Rattle.promises.proofs.Booking.{stayed}
 
@@ -128,15 +127,11 @@ kept-last (leaving n ∷ rest) t k g v = kept-last rest (after (leaving n) t) k 
 
 -- ---- who ran goes on
 
--- before the last tick a step says whom it chose
-says-choice : (t : Table) → Good t → t .clock < 2 ^ 48 → saysRan (stepOf t .outcome) ≡ gives (choose t)
-says-choice t g h = ap (λ (s : Stepped). saysRan (s .outcome)) (step-table t g h) ∙ ap gives (slot-of-which (choose t))
-
 -- a step that says slot k chose it, and made the table a tick later
 chose : (t : Table) (k : ℕ) → Good t → saysRan (stepOf t .outcome) ≡ gives (some k) → (choose t ≡ some k) × (stepOf t ≡ ticked (some k) t)
 chose t k g e =
     split (2 ^ 48) (t .clock)
-    (λ h. let p : saysRan (stepOf t .outcome) ≡ refuses (refusal 15 0) = ap (λ (s : Stepped). saysRan (s .outcome)) (at-last t h) in
+    (λ h. let p = says-last t h in
     let z : _≡_ {A = ℕ} 0 1 = cc in absurd (omega arith))
     (λ h. let p = says-choice t g h in
     let z : choose t ≡ some k = cc in
