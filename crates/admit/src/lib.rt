@@ -1,4 +1,6 @@
 // Admit (R42): ask's answer, and the table with the new line in it.
+#![tactic(auto)]
+
 mod place; // the table with the new line in it
 
 ghost use Rattle.std.specs.Prelude.{◌≡◌};

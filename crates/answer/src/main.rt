@@ -1,4 +1,6 @@
 // The answering program (R60): one card in, one line out. Trouble outside the card is a message on standard error, and no line.
+#![tactic(auto)]
+
 ghost use Rattle.std.specs.Prelude.{◌≤◌};
 
 // R61: whether the first `len` bytes of the line were written.

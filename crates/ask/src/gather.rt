@@ -5,7 +5,7 @@ ghost use Rattle.ask.specs.Gathered.{Gathers};
 
 // R9: line k, for k below `count`: its first end, counted from the clock; what remains of its need, its need, its T', and the gap from one of
 // its ends to the next.
-#[derive(Drop)]
+#[derive(Clone, Copy)]
 pub(crate) struct Gathered {
     pub(crate) count: usize,
     pub(crate) end: [u32; 16],

@@ -1,4 +1,6 @@
 // Ask (R41): the answer to a request.
+#![tactic(auto)]
+
 mod answer; // the grounds in their order, or the start
 mod gather; // the lines, counted from the clock
 

@@ -1,4 +1,6 @@
 // What the board shows: the ready word, R49, and the front lamp, R50.
+#![tactic(auto)]
+
 ghost use Rattle.std.specs.Prelude.{◌≡◌};
 ghost use Rattle.board.specs.Board.{blinks, ReadyWord};
 

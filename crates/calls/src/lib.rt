@@ -1,5 +1,7 @@
 // What a call over the boundary answers, R63, and the work of each call on a table or a card that has been read: what it answers, and what it leaves
 // in what is lent. `house` exports the calls.
+#![tactic(auto)]
+
 ghost use Rattle.std.specs.Prelude.{◌≡◌};
 ghost use Rattle.table.specs.Words.{slot_of, slot_number};
 ghost use Rattle.card.specs.Answers.{said_written};
@@ -14,7 +16,7 @@ pub mod tables; // a table asked, admitted to and stepped
 
 // R63: what a call answers. Number 0: what was asked for is granted, and is the value. R103: refusal 10 has a tick and an excess, all else 0 for both.
 #[repr(C)]
-#[derive(Drop)]
+#[derive(Clone, Copy)]
 pub struct Result {
     pub number: u64,
     pub place: u64,

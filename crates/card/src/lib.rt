@@ -1,4 +1,6 @@
 // The words of the card: its layout, what stands in it, what a slot's record means, and what its reader and its writer answer.
+#![tactic(auto)]
+
 ghost use Rattle.std.specs.Prelude.{◌≡◌, ◌≤◌};
 ghost use Rattle.line.specs.declared.Held.TheVariants.{Running};
 ghost use Rattle.line.specs.Slots.{run_then, holding};
@@ -11,7 +13,7 @@ use table::{Refusal, Request, Table};
 pub mod layout;
 
 // R53: the marks of a slot's record.
-#[derive(Drop)]
+#[derive(Clone, Copy)]
 pub enum Mark {
     TA,
     TB,
@@ -20,7 +22,7 @@ pub enum Mark {
 }
 
 // R53: a slot's record: its mark and its five numbers as they stand. The mark says what the two last of them are and what follows the period; under TF all are 0.
-#[derive(Drop)]
+#[derive(Clone, Copy)]
 pub struct SlotRecord {
     pub mark: Mark,
     pub need: u16,
@@ -31,7 +33,7 @@ pub struct SlotRecord {
 }
 
 // R53, R57: what stands where a slot's record or RQ may stand: one of them, or a refusal's number.
-#[derive(Drop)]
+#[derive(Clone, Copy)]
 pub enum Record {
     Slot(SlotRecord),
     Last(u16, u16),
@@ -39,21 +41,21 @@ pub enum Record {
 }
 
 // R23, R53: the record of what a slot holds. A waiting line has none.
-#[derive(Drop)]
+#[derive(Clone, Copy)]
 pub enum Recorded {
     As(SlotRecord),
     No,
 }
 
 // R56: the card was read, or refused.
-#[derive(Drop)]
+#[derive(Clone, Copy)]
 pub enum CardAnswer {
     Read,
     Refused(Refusal),
 }
 
 // R56: what the reader hands out. The table and the request stand beside the answer, as they are there with a refusal too.
-#[derive(Drop)]
+#[derive(Clone, Copy)]
 pub struct ReadCard {
     pub table: Table,
     pub request: Request,
@@ -63,7 +65,7 @@ pub struct ReadCard {
 }
 
 // R59: the card's length, or a refusal.
-#[derive(Drop)]
+#[derive(Clone, Copy)]
 pub enum WriteAnswer {
     Length(usize),
     Refused(Refusal),

@@ -1,9 +1,11 @@
 // The decision on numbers alone: the grounds that the lines gathered decide (R26 to R30) in their order (R18), and the least smooth start (R14).
+#![tactic(auto)]
+
 ghost use Rattle.std.specs.Prelude.{◌≡◌};
 ghost use Rattle.decide.specs.Decided.{decided_in, Near};
 
 // R14, R17: the start, counted from the clock, or the number of the ground; R103: of ground 10 the first tick that is short, and its excess.
-#[derive(Drop)]
+#[derive(Clone, Copy)]
 pub enum Decision {
     Start(u32),
     Refused(u16),

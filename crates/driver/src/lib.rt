@@ -1,4 +1,6 @@
 // The pump driver (R51): one table, lent to be stepped.
+#![tactic(auto)]
+
 ghost use Rattle.std.specs.Prelude.{◌≡◌};
 ghost use Rattle.table.specs.Step.{step_of};
 ghost use Rattle.driver.specs.Driven.{has_run, driven_of};

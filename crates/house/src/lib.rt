@@ -1,5 +1,7 @@
 // The boundary for C and Rust: numbers and lent bytes only. Cards go over it whole, tables as their images: each call reads what it is lent, and hands
 // on what it read to the work in `calls`.
+#![tactic(auto)]
+
 ghost use Rattle.std.specs.Prelude.{◌≡◌};
 ghost use Rattle.board.specs.Board.{blinks};
 ghost use Rattle.house.specs.Version.{boundary_version};

@@ -1,4 +1,6 @@
 // The table as bytes: any bytes of any length loaded as a table or refused, and a table stored.
+#![tactic(auto)]
+
 ghost use Rattle.std.specs.Prelude.{◌≡◌, ◌≤◌, ◌++◌, length, drop};
 ghost use Rattle.card.specs.Answers.{said_written};
 ghost use Rattle.image.specs.Image.{image_of};
@@ -16,14 +18,14 @@ mod numbers; // numbers of eight bytes
 mod slots; // the slots in an image
 
 // R84: the image was read, or refused.
-#[derive(Drop)]
+#[derive(Clone, Copy)]
 pub enum LoadAnswer {
     Read,
     Refused(Refusal),
 }
 
 // R84: what loading hands out. The table stands beside the answer, as it is there with a refusal too.
-#[derive(Drop)]
+#[derive(Clone, Copy)]
 pub struct Loaded {
     pub table: Table,
     pub answer: LoadAnswer,

@@ -1,10 +1,12 @@
 // What the programs that take one card read from standard input (R60, R94). A read that fails is told from the end of the input, which
 // `io::read_full` does not do.
+#![tactic(auto)]
+
 ghost use Rattle.std.specs.Prelude.{◌+◌, ◌≤◌, length};
 ghost use Rattle.io.specs.Counts.{IsPrefixLen};
 
 // What standard input gave: so many bytes, and whether it failed then.
-#[derive(Drop)]
+#[derive(Clone, Copy)]
 pub struct Taken {
     pub len: usize,
     pub failed: bool,

@@ -1,4 +1,6 @@
 // The pass over the running lines' ends in time order, counted from the clock: the excess at each end gives refusal 10 (R30, R103) or the start (R14).
+#![tactic(auto)]
+
 ghost use Rattle.std.specs.Prelude.{◌≡◌, ◌≤◌, min, max, length};
 ghost use Rattle.std.proofs.Math.IntN.{sub_ℕ};
 ghost use Rattle.line.specs.Ends.{bound};
@@ -7,14 +9,14 @@ ghost use Rattle.pass.specs.Pass.{greatest_end, pass_to, pass_in, passed_in, Fit
 ghost use Rattle.pass.specs.Order.{nth, StartsWith, Soonest, Moved, added_at, Places, lines_from, FitFrom};
 
 // R103: the first tick at which the running lines have an excess above 0, counted from the clock, and that excess.
-#[derive(Drop)]
+#[derive(Clone, Copy)]
 pub struct FirstExcess {
     pub after: u32,
     pub excess: u32,
 }
 
 // R14, R30: the start that the ends leave; where an end is short, the first such end; of lines that are not fit neither.
-#[derive(Drop)]
+#[derive(Clone, Copy)]
 pub enum Pass {
     Start(u32),
     Short(FirstExcess),
@@ -71,7 +73,7 @@ fn last_end(ends: &[u32]) -> u32
 }
 
 // R6, R15: the new line, and the last end.
-#[derive(Drop)]
+#[derive(Clone, Copy)]
 struct New {
     need: u32,
     period: u32,
@@ -102,7 +104,7 @@ fn line_up<'a>(
 }
 
 // R12: what a tick brings: the demand that falls due at it, and the tick that comes next.
-#[derive(Drop)]
+#[derive(Clone, Copy)]
 struct Brought {
     added: u32,
     soonest: u32,

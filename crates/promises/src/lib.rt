@@ -1,1 +1,2 @@
 // The promises have no code: specs/ states them, proofs/ keeps them.
+#![tactic(auto)]

@@ -1,4 +1,6 @@
 // The card reader: any bytes of any length in, a table and a request or a refusal out.
+#![tactic(auto)]
+
 ghost use Rattle.std.specs.Prelude.{◌≡◌, false, ◌+◌, ◌-◌, ◌*◌, ◌^◌, ◌≤◌, ◌<◌, length, drop};
 ghost use Rattle.table.specs.Words.{refusal, refuses};
 ghost use Rattle.card.specs.Bytes.{value, mark_of, marked};

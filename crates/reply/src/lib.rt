@@ -1,4 +1,6 @@
 // The line that the answering program prints.
+#![tactic(auto)]
+
 ghost use Rattle.std.specs.Prelude.{◌≡◌, ◌+◌, ◌≤◌, ◌<◌, length};
 ghost use Rattle.table.specs.Words.{gives, refuses};
 ghost use Rattle.table.specs.Ask.{says};
@@ -7,14 +9,14 @@ ghost use Rattle.reply.specs.Line.{digits, carries, lateness_of, answer_line, la
 use table::{Answer, Refusal};
 
 // R61: a line in an array that is long enough for every answer: its first `len` bytes are the line, and the rest are 0.
-#[derive(Drop)]
+#[derive(Clone, Copy)]
 pub struct Reply {
     pub bytes: [u8; 72],
     pub len: usize,
 }
 
 // R33, R62: what putting a line into a lent buffer answers: the line's length, or that the buffer is too short for it.
-#[derive(Drop)]
+#[derive(Clone, Copy)]
 pub enum Written {
     Length(usize),
     Short,

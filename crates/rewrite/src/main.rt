@@ -1,5 +1,7 @@
 // The rewriting program (R94): one card in, the same card with TB alone out. All that is said of it goes to standard error: the slots whose records
 // were TA, a refusal, or trouble outside the card.
+#![tactic(auto)]
+
 ghost use Rattle.std.specs.Prelude.{◌≤◌};
 
 fn say(text: &[u8]) {

@@ -1,4 +1,6 @@
 // Lines gathered as slices of numbers: whether they are fit, their frame (R8), and the grounds that their sums decide, every term taken times the frame (R16).
+#![tactic(auto)]
+
 ghost use Rattle.std.specs.Prelude.{◌≡◌, ◌∷◌, ◌*◌, ◌/◌, ◌≤◌};
 ghost use Rattle.periods.specs.Multiples.{frame_of};
 ghost use Rattle.line.specs.Slots.{both};
@@ -16,7 +18,7 @@ pub const MOST: usize = 16;
 pub const LONGEST: u32 = 65_536;
 
 // R28, R29: shares, claims and whole needs, of one line or of all, times the frame.
-#[derive(Drop)]
+#[derive(Clone, Copy)]
 struct Weights {
     shares: u64,
     claims: u64,

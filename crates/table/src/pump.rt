@@ -8,7 +8,7 @@ ghost use Rattle.table.specs.Step.{served_at, refused_step, advance, step_of};
 use crate::{Outcome, Refusal, Stepped, Table, Which};
 
 // R24, R44: to whom the tick goes, or the lowest slot whose line is unsound.
-#[derive(Drop)]
+#[derive(Clone, Copy)]
 enum Turn {
     Of(Which),
     Unsound(usize),

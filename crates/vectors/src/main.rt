@@ -1,5 +1,7 @@
 // The stored set of cards, answered one after the other as the answering program (R60) answers one card: by `calls::cards::answer`.
 // A card is its length in two bytes, low byte first, and that many bytes; the length 65,535 ends the set.
+#![tactic(auto)]
+
 ghost use Rattle.std.specs.Prelude.{◌≡◌, ◌+◌, ◌≤◌, length, take};
 
 use table::Answer;

@@ -1,4 +1,6 @@
 // The card writer: each record goes into the part of the buffer after the last one.
+#![tactic(auto)]
+
 ghost use Rattle.std.specs.Prelude.{◌≡◌, ◌++◌, ◌+◌, ◌≤◌, length, drop};
 ghost use Rattle.card.specs.Bytes.{le, mark_of};
 ghost use Rattle.card.specs.Layout.{clock_length, line_length, last_length, record_length};
@@ -13,7 +15,7 @@ use line::Slot;
 use table::{Refusal, Request, Table};
 
 // R23, R55: how many slots have a record on the card and how long these records are, or the lowest slot that can have none: its line waits.
-#[derive(Drop)]
+#[derive(Clone, Copy)]
 enum Measured {
     Used(usize, usize),
     Without(usize),
