@@ -1,0 +1,6 @@
+-- `Table::refused_leave` meets its contract: the refusal is the one that `Refusal::new` makes.
+use borrow.Author.Rules.{rules}
+use Rattle.table.proofs.Table.refused_leave.Goals as goal
+
+pub returns : goal.returns
+returns c = simp c.new-refusal.ensures
