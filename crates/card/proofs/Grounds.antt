@@ -61,7 +61,7 @@ one_step k left gap at l next (Refused n) f h = ap (λ (m : ℕ). refusal m at) 
 
 records_refuse : (k left : ℕ) (gap : Bool) (at : ℕ) (l : List ℕ) → Refuses (records_of k left gap at l)
 unfolding records_of
-records_refuse k zero gap at l = one_step k 0 gap at l _ (record_of 0 l) (record_fails 0 l) (λ g a x. refl)
+records_refuse k zero gap at l = one_step k 0 gap at l (λ g a x. broken {A = Records} at) (record_of 0 l) (record_fails 0 l) (λ g a x. refl)
 records_refuse k (suc n) gap at l = one_step k (suc n) gap at l (records_of k n) (record_of (suc n) l) (record_fails (suc n) l) (records_refuse k n)
 
 -- R32, R57: the reader refuses with 11 alone

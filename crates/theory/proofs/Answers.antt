@@ -77,7 +77,7 @@ first_is t q d w =
       from_clock = w.short.from_clock;
       by = excess_over all (d - t0) (omega arith) ∙ ap pos (sym (ticks_short_lem all (d - t0)));
       above = omega (arith, ticks_short_lem all (d - t0));
-      first = λ u h b. within_excess (demands t0 (asked t q) u) (u - t0) (w.none-before u h b);
+      first = λ u h b. within_excess (demands t0 (asked t q) u) (u - t0) (w.none_before u h b);
     }
 
 -- ---- ground 4, which has two parts
@@ -103,18 +103,46 @@ fault_fails t q e k (inr h) = omega (arith, (faultless t e).1, h.1)
 
 -- ---- grounds 7 to 10
 
+-- the grounds that are left to test, from each number on
+abbrev rows_from_ten : List Row
+rows_from_ten = row_short ∷ []
+
+abbrev rows_from_nine : List Row
+rows_from_nine = row 9 Behind ∷ rows_from_ten
+
+abbrev rows_from_eight : List Row
+rows_from_eight = row 8 Overload ∷ rows_from_nine
+
+abbrev rows_from_seven : List Row
+rows_from_seven = row 7 Wide ∷ rows_from_eight
+
+abbrev rows_from_six : List Row
+rows_from_six = row 6 Misfit ∷ rows_from_seven
+
+abbrev rows_from_five : List Row
+rows_from_five = row 5 Misstretched ∷ rows_from_six
+
+abbrev rows_from_four : List Row
+rows_from_four = row 4 Unsound ∷ rows_from_five
+
+abbrev rows_from_three : List Row
+rows_from_three = row 3 Waiters ∷ rows_from_four
+
+abbrev rows_from_two : List Row
+rows_from_two = row 2 Full ∷ rows_from_three
+
 module _ (t : Table) (q : Request) (sound : Each Sound (asked t q))
     (some : 1 ≤ q.need) (fits : q.need ≤ q.period) where
   abbrev F : ℕ
   F = frame (asked t q) q.period
 
-  from_seven : AnswersBy (row 7 Wide ∷ row 8 Overload ∷ row 9 Behind ∷ row_short ∷ []) t q
+  from_seven : AnswersBy rows_from_seven t q
       (says (ask_in t.clock F (asked t q) q.need q.period))
   unfolding ask_in
   from_seven =
-      row_if 7 Wide _ t q (ltb 1000000 F) _ (λ e. (ltb-true 1000000 F e, refl)) (λ e k h. omega (arith, ltb-false 1000000 F e, h.0))
-      (λ e7. row_if 8 Overload _ t q (ltb F all_shares) _ (λ e. (ltb-true F all_shares e, refl)) (λ e k h. omega (arith, ltb-false F all_shares e, h.0))
-      (λ e8. row_if 9 Behind _ t q (ltb need due) _ (λ e. (ltb-true need due e, refl)) (λ e k h. omega (arith, ltb-false need due e, h.0))
+      row_if 7 Wide rows_from_eight t q (ltb 1000000 F) _ (λ e. (ltb-true 1000000 F e, refl)) (λ e k h. omega (arith, ltb-false 1000000 F e, h.0))
+      (λ e7. row_if 8 Overload rows_from_nine t q (ltb F all_shares) _ (λ e. (ltb-true F all_shares e, refl)) (λ e k h. omega (arith, ltb-false F all_shares e, h.0))
+      (λ e8. row_if 9 Behind rows_from_ten t q (ltb need due) _ (λ e. (ltb-true need due e, refl)) (λ e k h. omega (arith, ltb-false need due e, h.0))
       (λ e9. let g = given t q sound some fits (ltb-false F all_shares e8) (ltb-false need due e9) in
       row_short_lem t q _ (first_short t.clock (asked t q)) _
       (λ d e. first_is t q d (found_short F t.clock (asked t q) q.need q.period d g e))
@@ -142,21 +170,21 @@ module _ (t : Table) (q : Request) (sound : Each Sound (asked t q))
 pub ask_answers : (t : Table) (q : Request) → Answers t q (says (ask_of t q))
 unfolding ask_of
 ask_answers t q =
-    row_if 1 Late _ t q (ltb (2 ^ 48 - 65536) t.clock) _
+    row_if 1 Late rows_from_two t q (ltb (2 ^ 48 - 65536) t.clock) _
     (λ e. (ltb-true (2 ^ 48 - 65536) t.clock e, refl)) (λ e k h. omega (arith, ltb-false (2 ^ 48 - 65536) t.clock e, h.0))
-    (λ e1. row_if 2 Full _ t q (is_none (lowest_of is_nothing l)) _
+    (λ e1. row_if 2 Full rows_from_three t q (is_none (lowest_of is_nothing l)) _
     (λ e. ((λ i b z. true_false (ap is_nothing z) (lowest_none (λ i. is_nothing (at l i)) n (none_is (lowest_of is_nothing l) e) i b)), refl))
     (λ e k h. let w = some_of (lowest_of is_nothing l) e in
     let v = lowest_is (λ i. is_nothing (at l i)) n w.1 in
     h.0 w.0 v.inside (nothing_says (at l w.0) v.here))
-    (λ e2. row_at 3 Waiters _ t q (lowest_of is_waiting l) _
+    (λ e2. row_at 3 Waiters rows_from_four t q (lowest_of is_waiting l) _
     (λ k e. lowest_of_lem (λ i. Waits (at l i)) (λ i. is_waiting (at l i)) n k (λ i v. v) (λ i v e. true_false v e) e)
     (λ e k h. none_of (λ i. Waits (at l i)) (λ i. is_waiting (at l i)) n (λ i v e. true_false v e) e k h.inside h.here)
-    (λ e3. row_at 4 Unsound _ t q (fault t) _ (fault_holds t q) (fault_fails t q)
-    (λ e4. row_at 5 Misstretched _ t q (lowest (λ i. barred (entry q i) (at l i)) n) _
+    (λ e3. row_at 4 Unsound rows_from_five t q (fault t) _ (fault_holds t q) (fault_fails t q)
+    (λ e4. row_at 5 Misstretched rows_from_six t q (lowest (λ i. barred (entry q i) (at l i)) n) _
     (λ k e. lowest_of_lem (λ i. Barred (entry q i) (at l i)) (λ i. barred (entry q i) (at l i)) n k (λ i. barred_says (entry q i) (at l i)) (λ i. barred_not (entry q i) (at l i)) e)
     (λ e k h. none_of (λ i. Barred (entry q i) (at l i)) (λ i. barred (entry q i) (at l i)) n (λ i. barred_not (entry q i) (at l i)) e k h.inside h.here)
-    (λ e5. row_if 6 Misfit _ t q (not (both (leb 1 q.need) (leb q.need q.period))) _
+    (λ e5. row_if 6 Misfit rows_from_seven t q (not (both (leb 1 q.need) (leb q.need q.period))) _
     (λ e. (fits_not q.need q.period (not-true (both (leb 1 q.need) (leb q.need q.period)) e), refl))
     (λ e k h. h.0 (fits_says q.need q.period (not-false (both (leb 1 q.need) (leb q.need q.period)) e)))
     (λ e6. let f = fits_says q.need q.period (not-false (both (leb 1 q.need) (leb q.need q.period)) e6) in

@@ -104,7 +104,7 @@ fine_kept {M} {k} {l} o f e =
 -- so no run by the earliest end has a line short
 pub fine_safe : {M k : ℕ} {l : List Slot} (n : ℕ) → Fine M k l → Safe n l
 fine_safe zero f = tt
-fine_safe (suc n) f = λ o e. (never_short o f e, fine_safe n (fine_kept o f e))
+fine_safe {M} {k} {l} (suc n) f = λ o e. (never_short o f e, fine_safe {M = M} {k = suc k} {l = pass (serve o l)} n (fine_kept o f e))
 
 -- a tick pays for one at most
 pub serve_pays : (k : ℕ) (o : Option ℕ) (l : List Slot) (t : ℕ) → May o l → demands k l t ≤ suc (demands k (serve o l) t)
