@@ -1,0 +1,13 @@
+-- `last_end` meets its contract: the greatest of the ends passed, by the laws of `Last`.
+use Prim.Native.Nat.{◌-◌}
+use native.Mathlib.Omega.{arith}
+use lib.ListN.{length}
+use borrow.Author.Rules.{rules}
+use Rattle.pass.proofs.LastEnd.{Last, last_start, last_on, last_end}
+use Rattle.pass.proofs.last_end.Given as goal
+
+abbrev pub invariant-loop-i : goal.invariant-loop-i
+invariant-loop-i l = Last l.ends l.i l.last
+
+abbrev pub decreases-loop-i : goal.decreases-loop-i
+decreases-loop-i l = length l.ends - l.i

@@ -1,0 +1,43 @@
+use Prim.Native.Nat.{◌-◌}
+use mathlib.Core.Logic.{⊎_elim}
+use native.Mathlib.Omega.{arith}
+use borrow.Author.Rules.{rules}
+use lib.ListN.{length}
+use Rattle.pass.proofs.TakingEnds.{TakingEnds, taking_start, taking_hit, taking_miss, taking_end}
+use Rattle.pass.proofs.take_ends.Goals as goal
+
+pub overflow_add-added : goal.overflow_add-added
+overflow_add-added c =
+    let l = c.loop-i in
+    let pre = c.requires in
+    omega (arith, l.invariant.sums.small, l.invariant.owes.left l.i (omega arith), pre.0.small l.i (omega arith))
+
+pub overflow_add-end : goal.overflow_add-end
+overflow_add-end c =
+    let l = c.loop-i in
+    let pre = c.requires in
+    omega (arith, pre.0.near l.i (omega arith))
+
+pub loop-i-preserved : goal.loop-i-preserved
+loop-i-preserved c =
+    let pre = c.requires in
+    let h = c.loop-i-test.true in
+    ⊎_elim
+    (λ w. taking_hit _ _ _ _ _ _ _ c.loop-i.invariant h pre.0.nexts pre.0.owing (pre.0.small c.loop-i.i h) w.0.taken w.4 w.5 w.6 w.7 (omega arith))
+    (λ w. taking_miss _ _ _ _ _ _ _ c.loop-i.invariant h w.0.left w.1 w.2 w.3 w.4 (omega arith))
+    c.if-end-d.branch
+
+pub returns : goal.returns
+returns c =
+    let pre = c.requires in
+    let e = taking_end _ _ _ _ _ _ _ c.loop-i.invariant pre.0.few c.loop-i-test.false in
+    (e.0, (e.1, e.2))
+
+pub loop-i-init : goal.loop-i-init
+loop-i-init c = taking_start _ _ _ _ _ _ _
+
+pub shape_of-next : goal.shape_of-next
+shape_of-next c = c.loop-i.invariant.ends.long
+
+pub shape_of-owed : goal.shape_of-owed
+shape_of-owed c = c.loop-i.invariant.owes.long

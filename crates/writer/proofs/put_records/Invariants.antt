@@ -1,0 +1,15 @@
+-- `put_records`: the loop keeps `Put`; each record goes into the part after the last one.
+use borrow.Author.Rules.{rules}
+use mathlib.Core.Path.{◌≡◌, ap}
+use Prim.Native.Nat.{◌-◌}
+use native.Mathlib.Omega.{arith}
+use lib.ListN.{length, length-drop}
+use Rattle.card.proofs.Parts.{part_all}
+use Rattle.writer.proofs.Slots.{Put, put_start, put_same, put_room, put_next, put_end}
+use Rattle.writer.proofs.put_records.Given as goal
+
+abbrev pub invariant-loop-i : goal.invariant-loop-i
+invariant-loop-i l = Put l.initial.out l.slots l.stretched l.n l.out l.at l.i
+
+abbrev pub decreases-loop-i : goal.decreases-loop-i
+decreases-loop-i l = l.n - l.i
