@@ -17,7 +17,7 @@ returns c =
     let loop = c.loop-i in
     let v = loop.invariant in
     let z : loop.i ≡ length c.args.ends.now = omega arith in
-    ((record { same = λ k h. v.1.done k (omega arith) }, record { same = λ k h. v.2.done k (omega arith) }), rw z at v.3)
+    record { starts_with = (record { same = λ k h. v.1.done k (omega arith) }, record { same = λ k h. v.2.done k (omega arith) }); soonest = rw z at v.3 }
 
 pub loop-i-init : goal.loop-i-init
 loop-i-init c = (omega arith, write_start _ _, write_start _ _, soon_start _ _)

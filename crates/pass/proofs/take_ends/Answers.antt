@@ -5,6 +5,7 @@ use borrow.Author.Rules.{rules}
 use lib.ListN.{length}
 use Rattle.pass.proofs.TakingEnds.{TakingEnds, taking_start, taking_hit, taking_miss, taking_end}
 use Rattle.pass.proofs.take_ends.Goals as goal
+use Rattle.pass.proofs.take_ends.Goals.{then-end-d, else-end-d}
 
 pub overflow_add-added : goal.overflow_add-added
 overflow_add-added c =
@@ -22,16 +23,15 @@ pub loop-i-preserved : goal.loop-i-preserved
 loop-i-preserved c =
     let pre = c.requires in
     let h = c.loop-i-test.true in
-    ⊎_elim
-    (λ w. taking_hit _ _ _ _ _ _ _ c.loop-i.invariant h pre.0.nexts pre.0.owing (pre.0.small c.loop-i.i h) w.0.taken w.4 w.5 w.6 w.7 (omega arith))
-    (λ w. taking_miss _ _ _ _ _ _ _ c.loop-i.invariant h w.0.left w.1 w.2 w.3 w.4 (omega arith))
-    c.if-end-d.branch
+    elim c.if-end-d.branch [
+    | then-end-d w ↦ taking_hit _ _ _ _ _ _ _ c.loop-i.invariant h pre.0.nexts pre.0.owing (pre.0.small c.loop-i.i h) w.if-end-d.true w.next-is w.owed-is w.added-is w.end-is (omega arith)
+    | else-end-d w ↦ taking_miss _ _ _ _ _ _ _ c.loop-i.invariant h w.if-end-d.false w.next-is w.owed-is w.added-is w.end-is (omega arith) ]
 
 pub returns : goal.returns
 returns c =
     let pre = c.requires in
     let e = taking_end _ _ _ _ _ _ _ c.loop-i.invariant pre.0.few c.loop-i-test.false in
-    (e.0, (e.1, e.2))
+    record { moved = e.0; added_value = e.1; soonest = e.2 }
 
 pub loop-i-init : goal.loop-i-init
 loop-i-init c = taking_start _ _ _ _ _ _ _
