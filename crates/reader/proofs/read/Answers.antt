@@ -17,9 +17,9 @@ returns-then-card-lt-CLOCK_LENGTH c =
 pub returns-then-not-opens : goal.returns-then-not-opens
 returns-then-not-opens c =
     let l = c.args.card.now in
-    c.refused-then-not-opens.ensures ∙ ap (handed (turned_of l)) (sym (no_clock 16 l (sym c.opens.ensures ∙ not-true _ c.if-not-opens.true)))
+    c.refused-then-not-opens.ensures ∙ ap (handed (turned_of l)) (sym (no_clock 16 l (sym c.opens.ensures ∙ c.if-not-opens.true)))
 
 pub returns : goal.returns
 returns c =
     let l = c.args.card.now in
-    c.records.ensures ∙ read_clock l (omega arith) (sym c.opens.ensures ∙ not-false _ c.if-not-opens.false)
+    c.records.ensures ∙ read_clock l (omega arith) (sym c.opens.ensures ∙ c.if-not-opens.false)

@@ -24,7 +24,7 @@ overflow_add-at c =
     omega (arith, slot_room c.loop-x.invariant.mid c.record_at-r.ensures c.in-Slot.is, c.length-at.ensures.0)
 
 pub loop-x-smaller : goal.loop-x-smaller
-loop-x-smaller c = omega (arith, bounds-request-i c)
+loop-x-smaller c = omega (arith, slot_room c.loop-x.invariant.mid c.record_at-r.ensures c.in-Slot.is)
 
 pub loop-x-preserved : goal.loop-x-preserved
 loop-x-preserved c =
@@ -47,13 +47,13 @@ pub record_at-r-requires : goal.record_at-r-requires
 record_at-r-requires c = omega (arith, c.loop-x.invariant.mid.room)
 
 pub offset_bounds-request-i : goal.offset_bounds-request-i
-offset_bounds-request-i c = omega (arith, bounds-request-i c)
+offset_bounds-request-i c = omega (arith, slot_room c.loop-x.invariant.mid c.record_at-r.ensures c.in-Slot.is)
 
 pub offset_bounds-table-i : goal.offset_bounds-table-i
-offset_bounds-table-i c = omega (arith, loop-x-smaller c)
+offset_bounds-table-i c = omega (arith, slot_room c.loop-x.invariant.mid c.record_at-r.ensures c.in-Slot.is)
 
 pub bounds-table-i : goal.bounds-table-i
-bounds-table-i c = bounds-request-i c.before
+bounds-table-i c = (slot_room c.loop-x.invariant.mid c.record_at-r.ensures c.in-Slot.is).0
 
 pub overflow_add-i : goal.overflow_add-i
-overflow_add-i c = omega (arith, loop-x-smaller c)
+overflow_add-i c = omega (arith, slot_room c.loop-x.invariant.mid c.record_at-r.ensures c.in-Slot.is)

@@ -9,7 +9,7 @@ use Rattle.writer.proofs.measure.Goals as goal
 
 pub loop-i-init : goal.loop-i-init
 loop-i-init c =
-    let h : length c.args.self ≡ 16 = search rules in
+    let h : length c.args.slots ≡ 16 = search rules in
     (h, counted_start _ _)
 
 pub overflow_add-all : goal.overflow_add-all
@@ -18,14 +18,12 @@ overflow_add-all c = omega (arith, counted_small c.loop-i.invariant.1, c.length-
 pub loop-i-preserved-then-not-is_free : goal.loop-i-preserved-then-not-is_free
 loop-i-preserved-then-not-is_free c =
     let q = c.loop-i in
-    let x = c.x-1.given in
-    (q.invariant.0, counted_line q.invariant.1 (omega (arith, q.invariant.0)) x.0.0 (sym c.of-x.ensures ∙ x.1) _ c.length-all.ensures.0 (sym c.is_free.ensures ∙ not-true _ c.if-not-is_free.true))
+    (q.invariant.0, counted_line q.invariant.1 (omega (arith, q.invariant.0)) c.in-As.r (sym c.of-x.ensures ∙ c.in-As.is) _ c.length-all.ensures.0 (sym c.is_free.ensures ∙ c.if-not-is_free.true))
 
 pub loop-i-preserved : goal.loop-i-preserved
 loop-i-preserved c =
     let q = c.loop-i in
-    let x = c.x-1.given in
-    (q.invariant.0, counted_free q.invariant.1 (omega (arith, q.invariant.0)) x.0.0 (sym c.of-x.ensures ∙ x.1) _ c.length-all.ensures.0 (sym c.is_free.ensures ∙ not-false _ c.if-not-is_free.false))
+    (q.invariant.0, counted_free q.invariant.1 (omega (arith, q.invariant.0)) c.in-As.r (sym c.of-x.ensures ∙ c.in-As.is) _ c.length-all.ensures.0 (sym c.is_free.ensures ∙ c.if-not-is_free.false))
 
 pub returns-in-No : goal.returns-in-No
 returns-in-No c =

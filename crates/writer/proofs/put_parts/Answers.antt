@@ -20,14 +20,14 @@ pub slice_bounds-put_request-count : goal.slice_bounds-put_request-count
 slice_bounds-put_request-count c =
     let p = c.put_records-at in
     let l = c.put_clock.new.out in
-    let m = same_len_mid clock_length (length l - clock_length) l p.new.out p.auto.0 in
+    let m = same_len_mid clock_length (length l - clock_length) l p.new.out p.auto.out in
     omega (arith, m, p.ensures.0)
 
 pub put_request-requires : goal.put_request-requires
 put_request-requires c =
     let p = c.put_records-at in
     let l = c.put_clock.new.out in
-    let m = same_len_mid clock_length (length l - clock_length) l p.new.out p.auto.0 in
+    let m = same_len_mid clock_length (length l - clock_length) l p.new.out p.auto.out in
     let o = put_mid clock_length (length l - clock_length) l p.new.out in
     omega (arith, m, p.ensures.0, ap length (part_all o (clock_length + p.result)), length-drop (clock_length + p.result) o)
 

@@ -10,8 +10,8 @@ use Rattle.writer.proofs.put_records.Goals as goal
 pub loop-i-init : goal.loop-i-init
 loop-i-init c =
     let a = c.args in
-    let h : length a.t2 ≡ 16 = search rules in
-    put_start a.out.now a.t2 a.t3 a.n (omega (arith, c.requires.0)) c.requires.1
+    let h : length a.slots ≡ 16 = search rules in
+    put_start a.out.now a.slots a.stretched a.n (omega (arith, c.requires.0)) c.requires.1
 
 pub put_slot-at-requires : goal.put_slot-at-requires
 put_slot-at-requires c =

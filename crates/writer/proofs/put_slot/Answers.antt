@@ -8,16 +8,14 @@ use Rattle.writer.proofs.put_slot.Goals as goal
 pub put_record-requires : goal.put_record-requires
 put_record-requires c =
     let a = c.args in
-    let x = c.x-1.given in
-    omega (arith, recorded_length a.s.held a.stretched x.0.0 (sym c.of-x.ensures ∙ x.1))
+    omega (arith, recorded_length a.s.held a.stretched c.in-As.r (sym c.of-x.ensures ∙ c.in-As.is))
 
 pub returns-in-As : goal.returns-in-As
 returns-in-As c =
     let a = c.args in
-    let x = c.x-1.given in
-    let e = sym c.of-x.ensures ∙ x.1 in (
-      c.length.ensures.0 ∙ recorded_length a.s.held a.stretched x.0.0 e,
-      put_recorded a.s.held a.stretched x.0.0 e a.out.now _ c.put_record.ensures,
+    let e = sym c.of-x.ensures ∙ c.in-As.is in (
+      c.length.ensures.0 ∙ recorded_length a.s.held a.stretched c.in-As.r e,
+      put_recorded a.s.held a.stretched c.in-As.r e a.out.now _ c.put_record.ensures,
     )
 
 pub returns-in-No : goal.returns-in-No

@@ -13,11 +13,12 @@ overflow_add-len-2 c =
 pub returns-then-out-len : goal.returns-then-out-len
 returns-then-out-len c =
     let a = c.args in
-    short_writing a.t a.q a.out.now c.new.result c.new.ensures
-    (omega (arith, card_length a.t a.q a.n c.requires.1 a.m c.requires.2))
+    let p = short_writing a.t a.q a.out.now c.new.result c.new.ensures (omega (arith, card_length a.t a.q a.n c.requires.1 a.m c.requires.2)) in
+    record { answered = p.0; filled = p.1 }
 
 pub returns : goal.returns
 returns c =
     let a = c.args in
     let k = card_length a.t a.q a.n c.requires.1 a.m c.requires.2 in
-    whole_writing a.t a.q a.n c.requires.1 a.out.now _ _ k (omega (arith, k)) c.put_parts.ensures
+    let p = whole_writing a.t a.q a.n c.requires.1 a.out.now _ _ k (omega (arith, k)) c.put_parts.ensures in
+    record { answered = p.0; filled = p.1 }
