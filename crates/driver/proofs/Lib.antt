@@ -1,4 +1,3 @@
--- The laws of what the pump driver holds, and of calls by value.
+-- The laws of what the pump driver holds.
 pub mod Keeps
-pub mod ByValue
 pub mod Edges

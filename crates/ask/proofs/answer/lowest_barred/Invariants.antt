@@ -1,0 +1,12 @@
+-- `lowest_barred` meets its contract: a search that cites the laws of `Barring`.
+use Prim.Native.Nat.{◌-◌}
+use lib.ListN.{length-map}
+use borrow.Author.Rules.{rules}
+use Rattle.ask.proofs.Deciding.{Barring, bar_start, bar_on, bar_stop, bar_end}
+use Rattle.ask.proofs.answer.lowest_barred.Given as goal
+
+abbrev pub invariant-loop-i : goal.invariant-loop-i
+invariant-loop-i l = Barring l.t l.q l.i
+
+abbrev pub decreases-loop-i : goal.decreases-loop-i
+decreases-loop-i l = 16 - l.i
