@@ -178,8 +178,8 @@ fn put_parts(out: &mut [u8], t: Table, q: Request, n: usize)
 // R33, R59: the length is known before a byte is written, so that a refusal leaves the buffer alone.
 fn write_card(t: Table, q: Request, n: usize, m: usize, out: &mut [u8]) -> WriteAnswer
     requires { (n ≤ 16) × (n ≡ used t.slots) × (m ≡ length (slot_records n t.slots q.stretched)) }
-    ensures answered { said_written result ≡ length_of t q (length out.old) }
-    ensures filled { out.new ≡ filled (card_of t q) out.old (length_of t q (length out.old)) }
+    ensures length_said { said_written result ≡ length_of t q (length out.old) }
+    ensures buffer_after { out.new ≡ filled (card_of t q) out.old (length_of t q (length out.old)) }
 {
     let len = layout::CLOCK_LENGTH + layout::LAST_LENGTH + m;
     if out.len() < len {

@@ -24,4 +24,4 @@ pub returns-in-Used : goal.returns-in-Used
 returns-in-Used c =
     let a = c.args in
     other_writing a.t a.q (rw c.in-Used.is at c.measure.ensures).0 a.out.now _
-    (said_written c.write_card.result) (c.write_card.ensures.answered, c.write_card.ensures.filled)
+    (said_written c.write_card.result) (c.write_card.ensures.length_said, c.write_card.ensures.buffer_after)

@@ -14,11 +14,11 @@ pub returns-then-out-len : goal.returns-then-out-len
 returns-then-out-len c =
     let a = c.args in
     let p = short_writing a.t a.q a.out.now c.new.result c.new.ensures (omega (arith, card_length a.t a.q a.n c.requires.1 a.m c.requires.2)) in
-    record { answered = p.0; filled = p.1 }
+    record { length_said = p.0; buffer_after = p.1 }
 
 pub returns : goal.returns
 returns c =
     let a = c.args in
     let k = card_length a.t a.q a.n c.requires.1 a.m c.requires.2 in
     let p = whole_writing a.t a.q a.n c.requires.1 a.out.now _ _ k (omega (arith, k)) c.put_parts.ensures in
-    record { answered = p.0; filled = p.1 }
+    record { length_said = p.0; buffer_after = p.1 }
