@@ -34,8 +34,8 @@ pub fn reply_to(a: Answer) -> Reply
 
 // R33, R62: puts the line for an answer at the start of a lent buffer. One that is too short keeps every byte.
 pub fn put_reply(a: Answer, out: &mut [u8]) -> Written
-    ensures result_value { said_length result ≡ length_for (answer_line (says a)) out.old }
-    ensures out_after { out.new ≡ held_after (answer_line (says a)) out.old }
+    ensures length_said { said_length result ≡ length_for (answer_line (says a)) out.old }
+    ensures buffer_after { out.new ≡ held_after (answer_line (says a)) out.old }
 {
     let len = line_len(a);
     if out.len() < len {

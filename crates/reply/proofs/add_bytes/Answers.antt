@@ -2,11 +2,10 @@
 use Prim.Native.Nat.{ℕ, ◌+◌}
 use mathlib.Core.Path.{ap}
 use Rattle.reply.proofs.Laid.{lay_part}
-use borrow.Author.Rules.{rules}
 use Rattle.reply.proofs.add_bytes.Goals as goal
 
 pub returns : goal.returns
 returns c =
     let a = c.args in
     let p = c.put.ensures in
-    (ap (λ (n : ℕ). a.at + n) p.0, lay_part a.out-1.now a.s.now a.at p.1)
+    (ap (λ (n : ℕ). a.at + n) p.0, lay_part a.out.now a.s.now a.at p.1)

@@ -3,11 +3,10 @@ use Prim.Native.Nat.{ℕ, ◌+◌}
 use mathlib.Core.Path.{ap}
 use Rattle.reply.specs.Line.{digits}
 use Rattle.reply.proofs.Laid.{lay_part}
-use borrow.Author.Rules.{rules}
 use Rattle.reply.proofs.add_number.Goals as goal
 
 pub returns : goal.returns
 returns c =
     let a = c.args in
     let p = c.put_digits.ensures in
-    (ap (λ (n : ℕ). a.at + n) p.0, lay_part a.out-1.now (digits a.n) a.at p.1)
+    (ap (λ (n : ℕ). a.at + n) p.0, lay_part a.out.now (digits a.n) a.at p.1)

@@ -1,20 +1,17 @@
 -- `reply::line_len` meets its contract, in each case of the answer: the number of a refusal has 16 bits, so at most 5 digits.
 use native.Mathlib.Omega.{arith}
-use borrow.Author.Rules.{rules}
 use Rattle.reply.proofs.Digits.{digits_short}
 use Rattle.reply.proofs.Line.{start_length, refused_length}
 use Rattle.reply.proofs.line_len.Goals as goal
 
 pub returns-in-Start : goal.returns-in-Start
 returns-in-Start c =
-    let b = c.a-1.given in
-    (start_length b.0.0 _ b.1 c.places.ensures.0, omega arith)
+    (start_length c.in-Start.start _ c.in-Start.is c.places.ensures.0, omega arith)
 
 pub returns-in-Refused : goal.returns-in-Refused
 returns-in-Refused c =
-    let b = c.a-in-Refused-1.given in
     let m = c.places-in-Refused.ensures.0 in
     let p = c.places-in-Refused-2.ensures in (
-      refused_length b.0.0 _ _ _ _ b.1 c.wide.ensures.0 m p.0 c.lateness_len.ensures.0,
+      refused_length c.in-Refused.x _ _ _ _ c.in-Refused.is c.wide.ensures.0 m p.0 c.lateness_len.ensures.0,
       omega (arith, p.2, c.lateness_len.ensures.1, digits_short 4 c.wide.result (omega arith)),
     )

@@ -1,6 +1,6 @@
 use native.Mathlib.Omega.{arith}
 use Rattle.reply.proofs.Digits.{digits_some}
-use Rattle.reply.proofs.Laid.{Counting, count_start, count_small, count_on, count_end}
+use Rattle.reply.proofs.Laid.{count_start, count_small, count_on, count_end}
 use Rattle.reply.proofs.places.Goals as goal
 
 pub loop-rest-init : goal.loop-rest-init

@@ -1,7 +1,5 @@
 -- `reply::places` meets its contract: the loop cites the laws of `Counting`.
-use native.Mathlib.Omega.{arith}
-use Rattle.reply.proofs.Digits.{digits_some}
-use Rattle.reply.proofs.Laid.{Counting, count_start, count_small, count_on, count_end}
+use Rattle.reply.proofs.Laid.{Counting}
 use Rattle.reply.proofs.places.Given as goal
 
 abbrev pub invariant-loop-rest : goal.invariant-loop-rest

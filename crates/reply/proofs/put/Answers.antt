@@ -1,7 +1,5 @@
-use Prim.Native.Nat.{◌-◌}
 use native.Mathlib.Omega.{arith}
-use lib.ListN.{length}
-use Rattle.reply.proofs.Laid.{Copying, copy_start, copy_on, copy_end}
+use Rattle.reply.proofs.Laid.{copy_start, copy_on, copy_end}
 use Rattle.reply.proofs.put.Goals as goal
 
 pub loop-i-init : goal.loop-i-init

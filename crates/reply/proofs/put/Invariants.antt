@@ -1,8 +1,7 @@
 -- `reply::put` meets its contract: the loop cites the laws of `Copying`.
 use Prim.Native.Nat.{◌-◌}
-use native.Mathlib.Omega.{arith}
 use lib.ListN.{length}
-use Rattle.reply.proofs.Laid.{Copying, copy_start, copy_on, copy_end}
+use Rattle.reply.proofs.Laid.{Copying}
 use Rattle.reply.proofs.put.Given as goal
 
 abbrev pub invariant-loop-i : goal.invariant-loop-i

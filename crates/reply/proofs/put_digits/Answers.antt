@@ -1,9 +1,5 @@
-use mathlib.Core.Path.{◌≡◌}
-use native.Mathlib.Omega.{arith}
-use lib.ListN.{length, length-set}
-use borrow.Author.Rules.{rules}
-use Rattle.reply.specs.Line.{digits}
-use Rattle.reply.proofs.Laid.{Spelling, spell_start, spell_on, spell_last, spell_end}
+use lib.ListN.{length-set}
+use Rattle.reply.proofs.Laid.{spell_start, spell_on, spell_last, spell_end}
 use Rattle.reply.proofs.put_digits.Goals as goal
 
 pub loop-left-init : goal.loop-left-init

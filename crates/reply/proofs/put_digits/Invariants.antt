@@ -1,10 +1,8 @@
 -- `reply::put_digits` meets its contract: the loop cites the laws of `Spelling`.
 use mathlib.Core.Path.{◌≡◌}
-use native.Mathlib.Omega.{arith}
-use lib.ListN.{length, length-set}
-use borrow.Author.Rules.{rules}
+use lib.ListN.{length}
 use Rattle.reply.specs.Line.{digits}
-use Rattle.reply.proofs.Laid.{Spelling, spell_start, spell_on, spell_last, spell_end}
+use Rattle.reply.proofs.Laid.{Spelling}
 use Rattle.reply.proofs.put_digits.Given as goal
 
 abbrev pub invariant-loop-left : goal.invariant-loop-left

@@ -1,5 +1,4 @@
 -- `reply::put_line` meets its contract, in each case of the answer.
-use borrow.Author.Rules.{rules}
 use Rattle.reply.proofs.put_line.Goals as goal
 
 pub put_release-requires : goal.put_release-requires
@@ -12,4 +11,4 @@ pub returns-in-Start : goal.returns-in-Start
 returns-in-Start c = rw c.in-Start.is c.put_release.ensures
 
 pub returns-in-Refused : goal.returns-in-Refused
-returns-in-Refused c = rw c.in-Refused.is c.Put-refused.ensures
+returns-in-Refused c = rw c.in-Refused.is c.put_refused.ensures

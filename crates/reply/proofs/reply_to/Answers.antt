@@ -2,7 +2,6 @@
 use Rattle.table.specs.Ask.{says}
 use Rattle.reply.specs.Line.{answer_line}
 use Rattle.reply.proofs.Laid.{replied}
-use borrow.Author.Rules.{rules}
 use Rattle.reply.proofs.reply_to.Goals as goal
 
 pub returns : goal.returns
