@@ -1,0 +1,12 @@
+-- The reader hands out what was read, and ask answers it, or a refusal, which stands.
+use mathlib.Core.Path.{sym, ap, ◌∙◌}
+use Rattle.calls.specs.Cards.{answer_for}
+use Rattle.calls.proofs.Said.{was_read, was_refused}
+use borrow.Author.Rules.{rules}
+use Rattle.calls.proofs.cards.answer.Goals as goal
+
+pub returns-in-Read : goal.returns-in-Read
+returns-in-Read c = c.ask.ensures.0.computed ∙ ap answer_for (sym (was_read c.args.card.now c.read-c.ensures c.in-Read.is))
+
+pub returns-in-Refused : goal.returns-in-Refused
+returns-in-Refused c = ap answer_for (sym (was_refused c.args.card.now c.read-c.ensures _ c.in-Refused.is))

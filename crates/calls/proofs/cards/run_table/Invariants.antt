@@ -1,0 +1,14 @@
+-- Each tick moves from what is left to what was counted; the measure is the ticks that are left.
+use Prim.Native.Nat.{◌-◌, ◌≤◌}
+use mathlib.Core.Path.{◌≡◌, ap, ◌∙◌}
+use Rattle.calls.specs.Results.{result_of}
+use Rattle.calls.specs.Cards.{more, ticks_run}
+use Rattle.calls.proofs.Run.{run_start, run_on, run_stop, run_end}
+use borrow.Author.Rules.{rules}
+use Rattle.calls.proofs.cards.run_table.Given as goal
+
+abbrev pub invariant-loop-i : goal.invariant-loop-i
+invariant-loop-i l = (l.i ≤ l.ticks) × (l.ran ≤ l.i) × (more l.ran (ticks_run (l.ticks - l.i) l.t) ≡ ticks_run l.ticks l.initial.t)
+
+abbrev pub decreases-loop-i : goal.decreases-loop-i
+decreases-loop-i l = l.ticks - l.i

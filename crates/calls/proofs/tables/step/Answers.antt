@@ -1,0 +1,14 @@
+-- A step's slot with the new table stored, or a refusal, which stores nothing.
+use Rattle.calls.proofs.Operations.{step_ran, step_refused}
+use borrow.Author.Rules.{rules}
+use Rattle.calls.proofs.tables.step.Goals as goal
+
+pub returns-in-Ran : goal.returns-in-Ran
+returns-in-Ran c =
+    let x = c.args in
+    step_ran x.t c.driven-s.ensures x.out.now _ c.in-Ran.is c.slot_number.ensures c.granted.ensures c.store.ensures.1
+
+pub returns-in-Refused : goal.returns-in-Refused
+returns-in-Refused c =
+    let x = c.args in
+    step_refused x.t c.driven-s.ensures x.out.now c.in-Refused.is c.refused.ensures
