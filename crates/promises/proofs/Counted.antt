@@ -99,10 +99,10 @@ since_had a t k g b h =
     go : (p c : Bool) → (is_nothing (at (after a t).slots k) ≡ true → had_by (after a t) k ≡ 0)
         → (is_nothing (at (after a t).slots k) ≡ false → had_by (after a t) k ≡ pick p 0 (had_by t k + times k (ran_by a t)))
         → is_nothing (at (after a t).slots k) ≡ c → had_by (after a t) k ≡ pick (pick p true c) 0 (had_by t k + times k (ran_by a t))
-    go true false empty there e = there e
-    go false false empty there e = there e
-    go true true empty there e = empty e
-    go false true empty there e = empty e
+    go true false gone there e = there e
+    go false false gone there e = there e
+    go true true gone there e = gone e
+    go false true gone there e = gone e
 
 -- R79: where `ran` told the count before a run, what ran since tells it after
 each_from : (acts : List Act) (t : Table) (k : ℕ) (ran : List (Option ℕ)) → Good t → Booked t → k < length t.had → had_by t k ≡ times k ran

@@ -10,32 +10,26 @@ use Rattle.calls.specs.Tables.{request_of}
 use Rattle.calls.specs.Moves.{write_card_for, card_after}
 use Rattle.calls.proofs.Said.{was_loaded, not_loaded}
 use borrow.Author.Rules.{rules}
-use Rattle.house.proofs.moves.trimthuel_write_card.Statement.{statement}
-use Rattle.house.proofs.moves.trimthuel_write_card.Tie as tie
+use Rattle.house.proofs.moves.trimthuel_write_card.Goals as goal
 
-returns : tie.Need-returns
-returns c =
-    let x = c.before.before.before.before.before.before.before.before.before.before.before.before.args in
+pub returns-in-Read : goal.returns-in-Read
+returns-in-Read c =
+    let x = c.args in
     let l = x.card.now in
     let q = request_of x.need x.period x.stretched.now in
-    let i = c.before.before.before.before.before.before.before.before.before.load in
+    let i = c.load-i in
     let t = i.result.table in
-    let p = c.before.before.before.write.ensures in
-    let e = c.before.before.before.before.before.new.ensures in
-    let h = sym (was_loaded x.table.now i.ensures c.before.before.before.before.before.before.before.enum_told.given.1) in (
+    let p = c.write.ensures in
+    let e = c.new-q.ensures in
+    let h = sym (was_loaded x.table.now i.ensures c.in-Read.is) in (
       c.written.ensures ∙ ap result_of (p.0 ∙ ap (λ (r : Request). write_of t r (length l)) e) ∙ ap (λ (s : Said Table). result_of (write_card_for s q (length l))) h,
       p.1 ∙ ap (λ (r : Request). buffer_of t r l) e ∙ ap (λ (s : Said Table). card_after s q l) h,
     )
 
-returns-2 : tie.Need-returns-2
-returns-2 c =
-    let x = c.before.before.before.before.before.before.before.args in
+pub returns-in-Refused : goal.returns-in-Refused
+returns-in-Refused c =
+    let x = c.args in
     let l = x.card.now in
     let q = request_of x.need x.period x.stretched.now in
-    let h = sym (not_loaded x.table.now c.before.before.before.before.load.ensures _ c.before.before.said.given.1) in
+    let h = sym (not_loaded x.table.now c.load-i.ensures _ c.in-Refused.is) in
     (c.refused.ensures ∙ ap (λ (s : Said Table). result_of (write_card_for s q (length l))) h, ap (λ (s : Said Table). card_after s q l) h)
-
-pub trimthuel_write_card_spec : {M : Type 1} → statement M
-trimthuel_write_card_spec =
-    tie.close
-    (tie.spec (λ c κs. search rules) (λ c. search rules) (λ c κs. search rules) (λ c κs. search rules) (λ c κs. search rules) (λ c. search rules) (λ c κs. search rules) (λ c. search rules) returns returns-2)

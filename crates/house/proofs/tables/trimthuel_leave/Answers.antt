@@ -1,0 +1,23 @@
+-- What was loaded has its line let go; an image that is refused stays.
+use mathlib.Core.Path.{sym, ap, ◌∙◌}
+use Rattle.table.specs.declared.Table.{Table}
+use Rattle.table.specs.Words.{Said}
+use Rattle.calls.specs.Tables.{leave_for, after_leave}
+use Rattle.calls.proofs.Said.{was_loaded, not_loaded}
+use borrow.Author.Rules.{rules}
+use Rattle.house.proofs.tables.trimthuel_leave.Goals as goal
+
+pub returns-in-Read : goal.returns-in-Read
+returns-in-Read c =
+    let x = c.args in
+    let l = x.table.now in
+    let p = c.leave.ensures in
+    let h = sym (was_loaded l c.load-i.ensures c.in-Read.is) in
+    (p.0 ∙ ap (λ (s : Said Table). leave_for s x.number) h, p.1 ∙ ap (λ (s : Said Table). after_leave s x.number l) h)
+
+pub returns-in-Refused : goal.returns-in-Refused
+returns-in-Refused c =
+    let x = c.args in
+    let l = x.table.now in
+    let h = sym (not_loaded l c.load-i.ensures _ c.in-Refused.is) in
+    (c.refused.ensures ∙ ap (λ (s : Said Table). leave_for s x.number) h, ap (λ (s : Said Table). after_leave s x.number l) h)
