@@ -1,11 +1,9 @@
-use borrow.Author.Rules.{rules}
 use native.Mathlib.Omega.{arith}
 use native.Mathlib.Nat.{pos_of_ne-zero}
-use Prim.Native.Nat.{◌-◌, ◌≤◌}
+use Prim.Native.Nat.{◌≤◌}
 use mathlib.Core.Path.{◌∙◌}
-use mathlib.Core.Logic.{⊎_elim}
-use lib.ListN.{length, get_or}
-use Rattle.periods.proofs.Frames.{Framing, frame_first_zero, framing_start, framing_on, framing_past, framing_stop, framing_end}
+use lib.ListN.{get_or}
+use Rattle.periods.proofs.Frames.{frame_first_zero, framing_start, framing_on, framing_past, framing_stop, framing_end}
 use Rattle.periods.proofs.frame.Goals as goal
 use Rattle.periods.proofs.frame.Goals.{then-m-le-LIMIT, else-m-le-LIMIT}
 
@@ -23,8 +21,9 @@ loop-i-preserved c =
     let l = c.loop-i in
     let p : 1 ≤ get_or ps l.i 0 = pos_of_ne-zero c.if-p-eq0.false in
     elim c.if-m-le-LIMIT.branch [
-    | then-m-le-LIMIT w ↦ framing_on ps l.i l.m l.invariant c.if-m-le-LIMIT.m (omega arith) p (w.m-is ∙ w.lcm-m-then-m-le-LIMIT.ensures.value)
-    | else-m-le-LIMIT w ↦ rw w.m-is (framing_past ps l.i l.m l.invariant (omega arith) p w.if-m-le-LIMIT.false) ]
+      | then-m-le-LIMIT w ↦ framing_on ps l.i l.m l.invariant c.if-m-le-LIMIT.m (omega arith) p (w.m-is ∙ w.lcm-m-then-m-le-LIMIT.ensures.value)
+      | else-m-le-LIMIT w ↦ rw w.m-is (framing_past ps l.i l.m l.invariant (omega arith) p w.if-m-le-LIMIT.false)
+    ]
 
 pub returns : goal.returns
 returns c =

@@ -1,13 +1,8 @@
 -- `frame` meets its contract. The invariant is `Framing`: what is left of the periods, taken from m, gives the frame; each way through the loop
 -- is one of its laws. The measure is what is left of the length.
-use borrow.Author.Rules.{rules}
-use native.Mathlib.Omega.{arith}
-use native.Mathlib.Nat.{pos_of_ne-zero}
-use Prim.Native.Nat.{◌-◌, ◌≤◌}
-use mathlib.Core.Path.{◌∙◌}
-use mathlib.Core.Logic.{⊎_elim}
-use lib.ListN.{length, get_or}
-use Rattle.periods.proofs.Frames.{Framing, frame_first_zero, framing_start, framing_on, framing_past, framing_stop, framing_end}
+use Prim.Native.Nat.{◌-◌}
+use lib.ListN.{length}
+use Rattle.periods.proofs.Frames.{Framing}
 use Rattle.periods.proofs.frame.Given as goal
 
 abbrev pub invariant-loop-i : goal.invariant-loop-i

@@ -1,6 +1,5 @@
 -- `lcm` meets its contract: with a 0 the multiple is 0, and otherwise it is no less than either factor, so that a factor above the limit
 -- puts it above too, and two factors within the limit have a product that fits.
-use borrow.Author.Rules.{rules}
 use native.Mathlib.Omega.{arith}
 use native.Mathlib.Nat.{mul-le-mul, div-le_self, pos_of_dvd_of_pos}
 use Prim.Native.Nat.{ℕ, ◌*◌, ◌/◌}

@@ -1,8 +1,4 @@
-use Prim.Native.Nat.{◌-◌}
-use native.Mathlib.Omega.{arith}
-use lib.ListN.{length}
-use Rattle.sums.specs.Lines.{line_at}
-use Rattle.sums.proofs.Adding.{AddingUp, up_start, up_on, up_end}
+use Rattle.sums.proofs.Adding.{up_start, up_on, up_end}
 use Rattle.sums.proofs.add_up.Goals as goal
 
 pub line_weights-w-requires : goal.line_weights-w-requires

@@ -1,9 +1,8 @@
 -- `add_up` meets its contract: three sums at once, which cite the laws of `AddingUp`.
 use Prim.Native.Nat.{◌-◌}
-use native.Mathlib.Omega.{arith}
 use lib.ListN.{length}
 use Rattle.sums.specs.Lines.{line_at}
-use Rattle.sums.proofs.Adding.{AddingUp, up_start, up_on, up_end}
+use Rattle.sums.proofs.Adding.{AddingUp}
 use Rattle.sums.proofs.add_up.Given as goal
 
 abbrev pub invariant-loop-i : goal.invariant-loop-i

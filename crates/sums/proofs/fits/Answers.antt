@@ -1,8 +1,4 @@
-use Prim.Native.Nat.{◌-◌}
-use native.Mathlib.Omega.{arith}
-use lib.ListN.{length}
-use borrow.Author.Rules.{rules}
-use Rattle.sums.proofs.Weighing.{FitTo, fit_apart, fit_many, fit_start, fit_on, fit_stop, fit_end}
+use Rattle.sums.proofs.Weighing.{fit_apart, fit_many, fit_start, fit_on, fit_stop, fit_end}
 use Rattle.sums.proofs.fits.Goals as goal
 
 pub returns-then-not-same_length : goal.returns-then-not-same_length

@@ -1,9 +1,7 @@
 -- `fits` meets its contract: a search for a line that is not fit, which cites the laws of `FitTo`.
 use Prim.Native.Nat.{◌-◌}
-use native.Mathlib.Omega.{arith}
 use lib.ListN.{length}
-use borrow.Author.Rules.{rules}
-use Rattle.sums.proofs.Weighing.{FitTo, fit_apart, fit_many, fit_start, fit_on, fit_stop, fit_end}
+use Rattle.sums.proofs.Weighing.{FitTo}
 use Rattle.sums.proofs.fits.Given as goal
 
 abbrev pub invariant-loop-i : goal.invariant-loop-i

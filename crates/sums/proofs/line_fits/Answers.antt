@@ -1,5 +1,4 @@
 -- `line_fits` meets its contract: the tests, joined as the contract joins them.
-use borrow.Author.Rules.{rules}
 use Rattle.sums.proofs.line_fits.Goals as goal
 
 pub returns : goal.returns

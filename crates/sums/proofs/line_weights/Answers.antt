@@ -1,5 +1,4 @@
 -- `line_weights` meets its contract: the share and the products that the calls gave.
-use borrow.Author.Rules.{rules}
 use Rattle.sums.proofs.Adding.{line_weighs}
 use Rattle.sums.proofs.line_weights.Goals as goal
 

@@ -1,5 +1,4 @@
 -- `same_length` meets its contract: the tests, joined as the contract joins them.
-use borrow.Author.Rules.{rules}
 use Rattle.sums.proofs.same_length.Goals as goal
 
 pub returns : goal.returns

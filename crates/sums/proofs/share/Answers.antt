@@ -1,7 +1,6 @@
 -- `share` meets its contract: at most the whole frame, as C ≤ T'.
 use mathlib.Core.Path.{refl}
 use native.Mathlib.Omega.{arith}
-use borrow.Author.Rules.{rules}
 use Rattle.sums.proofs.Adding.{share_small}
 use Rattle.sums.proofs.share.Goals as goal
 

@@ -1,5 +1,4 @@
 -- `weigh_fit` meets its contract: each way out is one case of `weighed_fit`, over the values that the calls gave.
-use borrow.Author.Rules.{rules}
 use Rattle.sums.proofs.Weighing.{weigh_7, weigh_8, weigh_9, weigh_0}
 use Rattle.sums.proofs.weigh_fit.Goals as goal
 

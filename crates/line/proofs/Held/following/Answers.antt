@@ -1,6 +1,5 @@
 -- `line::Held::following` meets its contract: the next period, or nothing.
 use mathlib.Core.Path.{sym, ap, ◌∙◌}
-use borrow.Author.Rules.{rules}
 use Rattle.line.specs.Slots.{following}
 use Rattle.line.proofs.Held.following.Goals as goal
 

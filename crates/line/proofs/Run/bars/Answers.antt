@@ -1,7 +1,6 @@
 -- `line::Run::bars` meets its contract: by what follows the period.
 use mathlib.Core.Bool.{not}
 use mathlib.Core.Path.{sym, ap}
-use borrow.Author.Rules.{rules}
 use lib.Dec.{ltb, eqb}
 use Rattle.line.specs.Slots.{by_follows}
 use Rattle.line.proofs.Run.bars.Goals as goal

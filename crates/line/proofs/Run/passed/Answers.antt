@@ -1,7 +1,6 @@
 -- `line::Run::passed` meets its contract: the test says whether the period goes on, and so which line the tick leaves.
 use mathlib.Core.Path.{◌∙◌}
 use native.Mathlib.Omega.{arith}
-use borrow.Author.Rules.{rules}
 use Rattle.line.proofs.Tick.{goes_on, passed_on, passed_end}
 use Rattle.line.proofs.Run.passed.Goals as goal
 

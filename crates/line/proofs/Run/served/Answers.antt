@@ -1,5 +1,4 @@
 -- `Run::served` meets its contract: where nothing remains, the code keeps the line and the definition takes 1 from 0.
-use borrow.Author.Rules.{rules}
 use Rattle.line.proofs.Tick.{served_none}
 use Rattle.line.proofs.Run.served.Goals as goal
 

@@ -1,6 +1,5 @@
 -- `line::Slot::asks` meets its contract: one arm for each thing that a slot holds.
 use mathlib.Core.Path.{ap, sym, ◌∙◌}
-use borrow.Author.Rules.{rules}
 use Rattle.line.specs.Streams.{stream_then}
 use Rattle.line.proofs.Keys.{read}
 use Rattle.line.proofs.Slot.asks.Goals as goal

@@ -1,6 +1,5 @@
 -- `line::Slot::bars` meets its contract: only a running line is barred from a period.
 use mathlib.Core.Path.{ap, sym, ◌∙◌}
-use borrow.Author.Rules.{rules}
 use Rattle.line.specs.Stretch.{barred}
 use Rattle.line.proofs.Slot.bars.Goals as goal
 

@@ -1,6 +1,5 @@
 -- `line::Slot::departs` meets its contract: nobody departs before the end of his period, and then whoever leaves does.
 use mathlib.Core.Path.{◌∙◌}
-use borrow.Author.Rules.{rules}
 use Rattle.line.proofs.Keys.{departs_on, departs_end}
 use Rattle.line.proofs.Slot.departs.Goals as goal
 

@@ -1,6 +1,5 @@
 -- `line::Slot::let_go` meets its contract: a running line is changed, a waiting one is removed.
 use mathlib.Core.Path.{refl}
-use borrow.Author.Rules.{rules}
 use Rattle.line.specs.Leave.{let_go}
 use Rattle.line.proofs.Changed.{stays, changes}
 use Rattle.line.proofs.Slot.let_go.Goals as goal

@@ -1,5 +1,4 @@
 -- `line::Slot::owed` meets its contract: what remains of the stream is looked at.
-use borrow.Author.Rules.{rules}
 use Rattle.line.proofs.Keys.{reads_owed}
 use Rattle.line.proofs.Slot.owed.Goals as goal
 

@@ -1,6 +1,5 @@
 -- `line::Slot::passed` meets its contract: each line is changed as its own function does it, and nothing stays nothing.
 use mathlib.Core.Path.{refl}
-use borrow.Author.Rules.{rules}
 use Rattle.line.specs.Tick.{passed}
 use Rattle.line.proofs.Changed.{stays, changes}
 use Rattle.line.proofs.Slot.passed.Goals as goal

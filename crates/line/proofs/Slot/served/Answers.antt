@@ -1,6 +1,5 @@
 -- `line::Slot::served` meets its contract: a running line is changed, anything else stays.
 use mathlib.Core.Path.{refl}
-use borrow.Author.Rules.{rules}
 use Rattle.line.specs.Tick.{served}
 use Rattle.line.proofs.Changed.{stays, changes}
 use Rattle.line.proofs.Slot.served.Goals as goal

@@ -1,5 +1,4 @@
 -- `line::Slot::short` meets its contract: a period that goes on is not short, and one that ends is short where ticks remain.
-use borrow.Author.Rules.{rules}
 use Rattle.line.proofs.Keys.{short_on, short_end}
 use Rattle.line.proofs.Slot.short.Goals as goal
 

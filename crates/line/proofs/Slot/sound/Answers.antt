@@ -1,5 +1,4 @@
 -- `line::Slot::sound` meets its contract: each arm answers what its line's test ensures.
-use borrow.Author.Rules.{rules}
 use Rattle.line.proofs.Slot.sound.Goals as goal
 
 pub returns-in-Running : goal.returns-in-Running

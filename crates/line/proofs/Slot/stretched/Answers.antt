@@ -1,6 +1,5 @@
 -- `line::Slot::stretched` meets its contract: a running line is changed, anything else stays.
 use mathlib.Core.Path.{refl}
-use borrow.Author.Rules.{rules}
 use Rattle.line.specs.Stretch.{stretch}
 use Rattle.line.proofs.Changed.{stays, changes}
 use Rattle.line.proofs.Slot.stretched.Goals as goal

@@ -1,6 +1,5 @@
 -- `line::Slot::ticks_left` meets its contract: the ticks to the end of a running line's period, and none of anything else.
 use mathlib.Core.Path.{sym, ap, ◌∙◌}
-use borrow.Author.Rules.{rules}
 use Rattle.line.specs.Leave.{ticks_left}
 use Rattle.line.proofs.Slot.ticks_left.Goals as goal
 

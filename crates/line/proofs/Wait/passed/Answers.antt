@@ -1,6 +1,5 @@
 -- `line::Wait::passed` meets its contract: the last tick of the wait starts the line.
 use mathlib.Core.Path.{◌∙◌}
-use borrow.Author.Rules.{rules}
 use Rattle.line.proofs.Tick.{waits_on, waits_end}
 use Rattle.line.proofs.Wait.passed.Goals as goal
 

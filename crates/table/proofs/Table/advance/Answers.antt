@@ -1,10 +1,5 @@
-use Prim.Native.Nat.{◌-◌}
-use mathlib.Core.Logic.{⊎_elim}
 use mathlib.Core.Path.{◌∙◌}
-use lib.ListN.{length-map}
-use borrow.Author.Rules.{rules}
-use Rattle.table.specs.Words.{slot_of}
-use Rattle.table.proofs.Step.{Ticking, tick_start, tick_short, tick_on, tick_off, tick_room, tick_end, advance_short, advance_fine}
+use Rattle.table.proofs.Step.{tick_start, tick_short, tick_on, tick_off, tick_room, tick_end, advance_short, advance_fine}
 use Rattle.table.proofs.Table.advance.Goals as goal
 use Rattle.table.proofs.Table.advance.Goals.{then-departs, else-departs}
 
@@ -25,8 +20,9 @@ settled-next-requires c =
 pub loop-i-preserved : goal.loop-i-preserved
 loop-i-preserved c =
     elim c.if-departs.branch [
-    | then-departs w ↦ rw w.next-is (tick_off c.loop-i.invariant _ c.loop-i-test.true c.served-s.ensures c.short.ensures c.if-short.false c.passed-later.ensures c.departs.ensures w.if-departs.true w.settled-next.ensures)
-    | else-departs w ↦ rw w.next-is (tick_on c.loop-i.invariant _ c.loop-i-test.true c.served-s.ensures c.short.ensures c.if-short.false c.passed-later.ensures c.departs.ensures w.if-departs.false) ]
+      | then-departs w ↦ rw w.next-is (tick_off c.loop-i.invariant _ c.loop-i-test.true c.served-s.ensures c.short.ensures c.if-short.false c.passed-later.ensures c.departs.ensures w.if-departs.true w.settled-next.ensures)
+      | else-departs w ↦ rw w.next-is (tick_on c.loop-i.invariant _ c.loop-i-test.true c.served-s.ensures c.short.ensures c.if-short.false c.passed-later.ensures c.departs.ensures w.if-departs.false)
+    ]
 
 pub returns : goal.returns
 returns c =

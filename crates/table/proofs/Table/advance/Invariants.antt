@@ -1,11 +1,7 @@
 -- `Table::advance` meets its contract: the loop cites the laws of `Ticking`.
 use Prim.Native.Nat.{◌-◌}
-use mathlib.Core.Logic.{⊎_elim}
-use mathlib.Core.Path.{◌∙◌}
-use lib.ListN.{length-map}
-use borrow.Author.Rules.{rules}
 use Rattle.table.specs.Words.{slot_of}
-use Rattle.table.proofs.Step.{Ticking, tick_start, tick_short, tick_on, tick_off, tick_room, tick_end, advance_short, advance_fine}
+use Rattle.table.proofs.Step.{Ticking}
 use Rattle.table.proofs.Table.advance.Given as goal
 
 abbrev pub invariant-loop-i : goal.invariant-loop-i

@@ -1,16 +1,12 @@
-use Prim.Native.Nat.{◌-◌, ◌<◌}
+use Prim.Native.Nat.{◌<◌}
 use mathlib.Core.Bool.{not}
 use mathlib.Core.Path.{◌≡◌}
-use mathlib.Core.Logic.{⊎_elim}
 use native.Mathlib.Omega.{arith}
-use lib.ListN.{length, length-map}
-use borrow.Author.Rules.{rules}
-use Rattle.line.specs.Slots.{at}
+use lib.ListN.{length}
 use Rattle.line.specs.Sound.{sound}
-use Rattle.line.proofs.Keys.{Key}
 use Rattle.line.proofs.Read.{seen}
-use Rattle.line.proofs.Search.{Looking, look_start, look_on, look_stop, look_end}
-use Rattle.table.proofs.Choice.{Choosing, choose_start, choose_take, choose_keep, choose_last, choose_other, choose_none, key_nowhere}
+use Rattle.line.proofs.Search.{look_start, look_on, look_stop, look_end}
+use Rattle.table.proofs.Choice.{choose_start, choose_take, choose_keep, choose_last, choose_other, choose_none, key_nowhere}
 use Rattle.table.proofs.Table.choose.Goals as goal
 use Rattle.table.proofs.Table.choose.Goals.{then-key-least, else-key-least, then-last-lt16, else-last-lt16}
 
@@ -20,8 +16,9 @@ loop-i-init c =
       choose_start n,
       look_start _ _,
       elim c.if-last-lt16.branch [
-      | then-last-lt16 w ↦ rw w.going-is w.key-going.ensures
-      | else-last-lt16 w ↦ rw w.going-is (key_nowhere c.args.self.slots c.args.self.last (omega (arith, w.if-last-lt16.false))) ],
+        | then-last-lt16 w ↦ rw w.going-is w.key-going.ensures
+        | else-last-lt16 w ↦ rw w.going-is (key_nowhere c.args.self.slots c.args.self.last (omega (arith, w.if-last-lt16.false)))
+      ],
     )
 
 pub returns-then-is : goal.returns-then-is
@@ -39,8 +36,9 @@ loop-i-preserved c =
     let h : c.loop-i.i < length ss = omega (arith, v.0.long) in
     let o = look_on v.1 h (seen (λ x. not (sound x)) ss c.loop-i.i _ c.is.ensures c.if-is.false h) in
     elim c.if-key-least.branch [
-    | then-key-least w ↦ rw (w.least-is, w.best-is) (choose_take v.0 t c.key-key.ensures w.if-key-least.true, o, v.2)
-    | else-key-least w ↦ rw (w.least-is, w.best-is) (choose_keep v.0 t c.key-key.ensures w.if-key-least.false, o, v.2) ]
+      | then-key-least w ↦ rw (w.least-is, w.best-is) (choose_take v.0 t c.key-key.ensures w.if-key-least.true, o, v.2)
+      | else-key-least w ↦ rw (w.least-is, w.best-is) (choose_keep v.0 t c.key-key.ensures w.if-key-least.false, o, v.2)
+    ]
 
 pub returns-then-going-least : goal.returns-then-going-least
 returns-then-going-least c =

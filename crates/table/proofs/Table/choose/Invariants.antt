@@ -1,17 +1,12 @@
 -- `Table::choose` meets its contract: the loop cites the laws of `Choosing`, and those of `Looking` for an unsound line.
-use Prim.Native.Nat.{◌-◌, ◌<◌}
+use Prim.Native.Nat.{◌-◌}
 use mathlib.Core.Bool.{not}
-use mathlib.Core.Path.{◌≡◌}
-use mathlib.Core.Logic.{⊎_elim}
-use native.Mathlib.Omega.{arith}
-use lib.ListN.{length, length-map}
-use borrow.Author.Rules.{rules}
+use lib.ListN.{length}
 use Rattle.line.specs.Slots.{at}
 use Rattle.line.specs.Sound.{sound}
 use Rattle.line.proofs.Keys.{Key}
-use Rattle.line.proofs.Read.{seen}
-use Rattle.line.proofs.Search.{Looking, look_start, look_on, look_stop, look_end}
-use Rattle.table.proofs.Choice.{Choosing, choose_start, choose_take, choose_keep, choose_last, choose_other, choose_none, key_nowhere}
+use Rattle.line.proofs.Search.{Looking}
+use Rattle.table.proofs.Choice.{Choosing}
 use Rattle.table.proofs.Table.choose.Given as goal
 
 abbrev pub invariant-loop-i : goal.invariant-loop-i

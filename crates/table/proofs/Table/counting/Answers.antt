@@ -1,9 +1,8 @@
 -- `Table::counting` meets its contract: the slot named has one more, or the idle count has, and it ran last, or nobody did.
 use mathlib.Core.Path.{◌≡◌}
-use lib.ListN.{length, length-map}
+use lib.ListN.{length}
 use native.Mathlib.Omega.{arith}
 use Rattle.table.proofs.Counts.{count_within, count_idle, count_at, named_inside}
-use borrow.Author.Rules.{rules}
 use Rattle.table.proofs.Table.counting.Goals as goal
 
 pub offset_bounds-self-k : goal.offset_bounds-self-k

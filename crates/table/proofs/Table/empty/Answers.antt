@@ -1,5 +1,4 @@
 -- `table::Table::empty` meets its contract: sixteen times the slot that `Slot::empty` makes.
-use borrow.Author.Rules.{rules}
 use Rattle.table.proofs.Table.empty.Goals as goal
 
 pub returns : goal.returns

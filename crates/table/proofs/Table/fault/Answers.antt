@@ -1,6 +1,5 @@
 -- `Table::fault` meets its contract: one law of ground 4 for each way out.
 use mathlib.Core.Path.{sym, ap, ◌∙◌}
-use borrow.Author.Rules.{rules}
 use borrow.Author.Tests.{ltb-false}
 use Rattle.table.specs.Words.{slot_of}
 use Rattle.table.proofs.Counts.{fault_line, fault_counts, no_fault}

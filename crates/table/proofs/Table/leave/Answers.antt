@@ -1,9 +1,7 @@
 -- `Table::leave` meets its contract: one law of leaving for each way out.
 use mathlib.Core.Path.{◌≡◌, refl, sym, ap, ◌∙◌}
 use native.Mathlib.Omega.{arith}
-use lib.ListN.{length, length-map}
-use borrow.Author.Rules.{rules}
-use borrow.Author.Tests.{not-true, not-false}
+use lib.ListN.{length}
 use Rattle.line.specs.Leave.{may_leave, ticks_left}
 use Rattle.line.proofs.Read.{seen}
 use Rattle.table.specs.Words.{slot_of}

@@ -1,9 +1,7 @@
 -- `Table::let_go` meets its contract: a line that waited has departed, one that runs stays for now.
 use mathlib.Core.Path.{◌≡◌}
-use mathlib.Core.Logic.{⊎_elim}
 use native.Mathlib.Omega.{arith}
-use lib.ListN.{length, length-map}
-use borrow.Author.Rules.{rules}
+use lib.ListN.{length}
 use Rattle.table.proofs.LettingGo.{let_go_waiting, let_go_running}
 use Rattle.table.proofs.Table.let_go.Goals as goal
 use Rattle.table.proofs.Table.let_go.Goals.{then-is_empty, else-is_empty}
@@ -14,5 +12,6 @@ returns c =
     let g = c.let_go-gone.ensures in
     let e = c.is_empty.ensures in
     elim c.if-is_empty.branch [
-    | then-is_empty w ↦ rw w.next-is (let_go_waiting c.args.self c.args.i _ (omega (arith, c.requires)) g e w.if-is_empty.true w.settled-next.ensures)
-    | else-is_empty w ↦ rw w.next-is (let_go_running c.args.self c.args.i _ (omega (arith, c.requires)) g e w.if-is_empty.false) ]
+      | then-is_empty w ↦ rw w.next-is (let_go_waiting c.args.self c.args.i _ (omega (arith, c.requires)) g e w.if-is_empty.true w.settled-next.ensures)
+      | else-is_empty w ↦ rw w.next-is (let_go_running c.args.self c.args.i _ (omega (arith, c.requires)) g e w.if-is_empty.false)
+    ]

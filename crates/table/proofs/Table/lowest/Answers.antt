@@ -1,12 +1,8 @@
-use Prim.Native.Nat.{◌-◌}
-use mathlib.Core.Path.{◌≡◌, sym}
-use lib.ListN.{length, length-map}
+use mathlib.Core.Path.{sym}
 use native.Mathlib.Omega.{arith}
-use borrow.Author.Rules.{rules}
-use Rattle.line.specs.Slots.{at}
 use Rattle.line.specs.Tick.{is}
 use Rattle.line.proofs.Read.{seen}
-use Rattle.line.proofs.Search.{Looking, look_start, look_on, look_stop, look_end}
+use Rattle.line.proofs.Search.{look_start, look_on, look_stop, look_end}
 use Rattle.table.proofs.Table.lowest.Goals as goal
 
 pub loop-i-init : goal.loop-i-init

@@ -1,13 +1,10 @@
 -- `table::Table::lowest` meets its contract: a search that cites the laws of `Looking`, whatever it looks for.
 use Prim.Native.Nat.{◌-◌}
-use mathlib.Core.Path.{◌≡◌, sym}
-use lib.ListN.{length, length-map}
-use native.Mathlib.Omega.{arith}
-use borrow.Author.Rules.{rules}
+use mathlib.Core.Path.{◌≡◌}
+use lib.ListN.{length}
 use Rattle.line.specs.Slots.{at}
 use Rattle.line.specs.Tick.{is}
-use Rattle.line.proofs.Read.{seen}
-use Rattle.line.proofs.Search.{Looking, look_start, look_on, look_stop, look_end}
+use Rattle.line.proofs.Search.{Looking}
 use Rattle.table.proofs.Table.lowest.Given as goal
 
 abbrev pub invariant-loop-i : goal.invariant-loop-i

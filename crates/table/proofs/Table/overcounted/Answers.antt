@@ -1,7 +1,4 @@
-use Prim.Native.Nat.{◌-◌}
-use lib.ListN.{length-map}
-use borrow.Author.Rules.{rules}
-use Rattle.table.proofs.Counts.{Taking, take_start, take_stop, take_on, take_idle, take_end}
+use Rattle.table.proofs.Counts.{take_start, take_stop, take_on, take_idle, take_end}
 use Rattle.table.proofs.Table.overcounted.Goals as goal
 
 pub loop-i-init : goal.loop-i-init

@@ -1,8 +1,6 @@
 -- `Table::overcounted` meets its contract: the loop cites the laws of `Taking`.
 use Prim.Native.Nat.{◌-◌}
-use lib.ListN.{length-map}
-use borrow.Author.Rules.{rules}
-use Rattle.table.proofs.Counts.{Taking, take_start, take_stop, take_on, take_idle, take_end}
+use Rattle.table.proofs.Counts.{Taking}
 use Rattle.table.proofs.Table.overcounted.Given as goal
 
 abbrev pub invariant-loop-i : goal.invariant-loop-i

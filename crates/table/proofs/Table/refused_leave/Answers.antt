@@ -1,5 +1,4 @@
 -- `Table::refused_leave` meets its contract: the refusal is the one that `Refusal::new` makes.
-use borrow.Author.Rules.{rules}
 use Rattle.table.proofs.Table.refused_leave.Goals as goal
 
 pub returns : goal.returns

@@ -1,8 +1,7 @@
 -- `Table::settled` meets its contract: what is accounted for has room in 64 bits, and so has a part of it; who is gone is forgotten if it ran last.
 use mathlib.Core.Path.{◌≡◌}
-use lib.ListN.{length, length-map}
+use lib.ListN.{length}
 use native.Mathlib.Omega.{arith}
-use borrow.Author.Rules.{rules}
 use Rattle.table.proofs.Counts.{count_within, settle_last, settle_other}
 use Rattle.table.proofs.Table.settled.Goals as goal
 

@@ -1,7 +1,6 @@
 -- `Table::step` meets its contract: one law of the step for each way out.
 use mathlib.Core.Path.{◌≡◌, sym, ◌∙◌}
-use lib.ListN.{length, length-map}
-use borrow.Author.Rules.{rules}
+use lib.ListN.{length}
 use borrow.Author.Tests.{ltb-false}
 use Rattle.table.proofs.Choice.{turn_inside}
 use Rattle.table.proofs.Counts.{fault_line, fault_counts, no_fault}

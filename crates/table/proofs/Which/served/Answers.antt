@@ -1,6 +1,5 @@
 -- `Which::served` meets its contract: nobody is named, this slot, another.
 use mathlib.Core.Path.{◌∙◌}
-use borrow.Author.Rules.{rules}
 use Rattle.table.proofs.Step.{served_here, served_other}
 use Rattle.table.proofs.Which.served.Goals as goal
 
