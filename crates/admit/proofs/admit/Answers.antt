@@ -1,6 +1,5 @@
 -- `admit` meets its contract: a start is admitted, a refusal leaves the table.
 use mathlib.Core.Path.{◌∙◌}
-use borrow.Author.Rules.{rules}
 use Rattle.admit.proofs.Placing.{admit_start, admit_refused}
 use Rattle.admit.proofs.Right.{admits}
 use Rattle.admit.proofs.admit.Goals as goal

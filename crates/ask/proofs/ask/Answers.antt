@@ -1,5 +1,4 @@
 -- `ask` meets its contract: the answer is the computed one, which the theory shows to be the right one.
-use borrow.Author.Rules.{rules}
 use Rattle.ask.proofs.Right.{asked}
 use Rattle.ask.proofs.ask.Goals as goal
 

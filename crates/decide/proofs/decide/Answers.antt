@@ -1,5 +1,4 @@
 -- `decide` meets its contract: each way out is one case of `decided_in`, over the values that the calls gave.
-use borrow.Author.Rules.{rules}
 use Rattle.decide.proofs.Deciding.{decide_apart, decide_weighed, decide_starts, decide_short, decide_unfit, start_within}
 use Rattle.decide.proofs.decide.Goals as goal
 

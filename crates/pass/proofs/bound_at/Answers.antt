@@ -1,6 +1,5 @@
 -- `bound_at` meets its contract. The product fits: at most 65,536 periods of at most 65,535.
 use native.Mathlib.Omega.{arith}
-use borrow.Author.Rules.{rules}
 use Rattle.pass.proofs.Point.{bound_fits, bound_none, bound_some}
 use Rattle.pass.proofs.bound_at.Goals as goal
 

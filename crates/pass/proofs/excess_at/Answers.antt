@@ -1,5 +1,4 @@
 -- `excess_at` meets its contract: numbers of 32 bits have a difference in 64.
-use borrow.Author.Rules.{rules}
 use Rattle.pass.proofs.Point.{excess_fits, excess_said}
 use Rattle.pass.proofs.excess_at.Goals as goal
 

@@ -1,12 +1,9 @@
-use Prim.Native.Nat.{ℕ, ◌+◌, ◌-◌, ◌^◌, ◌<◌}
-use mathlib.Core.Path.{◌≡◌, refl, ap, ◌∙◌}
+use Prim.Native.Nat.{ℕ, ◌+◌, ◌^◌, ◌<◌}
+use mathlib.Core.Path.{refl, ap, ◌∙◌}
 use native.Mathlib.Omega.{arith}
-use borrow.Author.Rules.{rules}
-use lib.ListN.{length}
-use Rattle.sums.specs.Lines.{line_at}
 use Rattle.pass.specs.declared.Pass.TheVariants.{Short}
 use Rattle.pass.proofs.Point.{point_short, point_passed, point_over, point_fits}
-use Rattle.pass.proofs.Order.{Visited, order_start, order_on, order_short, order_end, order_places, tick_later}
+use Rattle.pass.proofs.Order.{order_start, order_on, order_short, order_end, order_places, tick_later}
 use Rattle.pass.proofs.in_order.Goals as goal
 
 pub loop-d-init : goal.loop-d-init

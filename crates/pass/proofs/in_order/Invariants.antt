@@ -1,13 +1,9 @@
 -- `in_order` meets its contract: the ticks visited cite the laws of `Visited`.
-use Prim.Native.Nat.{ℕ, ◌+◌, ◌-◌, ◌^◌, ◌<◌}
-use mathlib.Core.Path.{◌≡◌, refl, ap, ◌∙◌}
-use native.Mathlib.Omega.{arith}
-use borrow.Author.Rules.{rules}
+use Prim.Native.Nat.{◌-◌}
+use mathlib.Core.Path.{◌≡◌}
 use lib.ListN.{length}
 use Rattle.sums.specs.Lines.{line_at}
-use Rattle.pass.specs.declared.Pass.TheVariants.{Short}
-use Rattle.pass.proofs.Point.{point_short, point_passed, point_over, point_fits}
-use Rattle.pass.proofs.Order.{Visited, order_start, order_on, order_short, order_end, order_places, tick_later}
+use Rattle.pass.proofs.Order.{Visited}
 use Rattle.pass.proofs.in_order.Given as goal
 
 abbrev pub invariant-loop-d : goal.invariant-loop-d

@@ -1,8 +1,4 @@
-use Prim.Native.Nat.{◌-◌}
-use native.Mathlib.Omega.{arith}
-use lib.ListN.{length}
-use borrow.Author.Rules.{rules}
-use Rattle.pass.proofs.LastEnd.{Last, last_start, last_on, last_end}
+use Rattle.pass.proofs.LastEnd.{last_start, last_on, last_end}
 use Rattle.pass.proofs.last_end.Goals as goal
 
 pub loop-i-init : goal.loop-i-init

@@ -1,9 +1,7 @@
 -- `last_end` meets its contract: the greatest of the ends passed, by the laws of `Last`.
 use Prim.Native.Nat.{◌-◌}
-use native.Mathlib.Omega.{arith}
 use lib.ListN.{length}
-use borrow.Author.Rules.{rules}
-use Rattle.pass.proofs.LastEnd.{Last, last_start, last_on, last_end}
+use Rattle.pass.proofs.LastEnd.{Last}
 use Rattle.pass.proofs.last_end.Given as goal
 
 abbrev pub invariant-loop-i : goal.invariant-loop-i

@@ -1,10 +1,7 @@
-use Prim.Native.Nat.{◌-◌, ◌≤◌}
 use mathlib.Core.Path.{◌≡◌, refl}
 use native.Mathlib.Omega.{arith}
-use borrow.Author.Rules.{rules}
 use lib.ListN.{length}
-use Rattle.pass.specs.Order.{nth, Soonest}
-use Rattle.pass.proofs.TakingEnds.{WrittenTo, write_start, write_on, soon_start, soon_on}
+use Rattle.pass.proofs.TakingEnds.{write_start, write_on, soon_start, soon_on}
 use Rattle.pass.proofs.line_up.Goals as goal
 
 pub loop-i-preserved : goal.loop-i-preserved

@@ -1,11 +1,8 @@
 -- `line_up` meets its contract: two arrays that are written by the laws of `WrittenTo`, and the soonest of the ends passed.
 use Prim.Native.Nat.{◌-◌, ◌≤◌}
-use mathlib.Core.Path.{◌≡◌, refl}
-use native.Mathlib.Omega.{arith}
-use borrow.Author.Rules.{rules}
 use lib.ListN.{length}
 use Rattle.pass.specs.Order.{nth, Soonest}
-use Rattle.pass.proofs.TakingEnds.{WrittenTo, write_start, write_on, soon_start, soon_on}
+use Rattle.pass.proofs.TakingEnds.{WrittenTo}
 use Rattle.pass.proofs.line_up.Given as goal
 
 abbrev pub invariant-loop-i : goal.invariant-loop-i

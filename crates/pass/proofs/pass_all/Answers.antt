@@ -1,6 +1,5 @@
 -- `pass_all` meets its contract: the pass in time order over the lines that were loaded, up to their last end.
 use native.Mathlib.Omega.{arith}
-use borrow.Author.Rules.{rules}
 use Rattle.pass.proofs.LastEnd.{last_near}
 use Rattle.pass.proofs.LinedUp.{lined_fit, lined_room, lined_first, lined_passed}
 use Rattle.pass.proofs.pass_all.Goals as goal

@@ -1,9 +1,5 @@
-use Prim.Native.Nat.{◌-◌}
-use mathlib.Core.Logic.{⊎_elim}
 use native.Mathlib.Omega.{arith}
-use borrow.Author.Rules.{rules}
-use lib.ListN.{length}
-use Rattle.pass.proofs.TakingEnds.{TakingEnds, taking_start, taking_hit, taking_miss, taking_end}
+use Rattle.pass.proofs.TakingEnds.{taking_start, taking_hit, taking_miss, taking_end}
 use Rattle.pass.proofs.take_ends.Goals as goal
 use Rattle.pass.proofs.take_ends.Goals.{then-end-d, else-end-d}
 
@@ -24,8 +20,9 @@ loop-i-preserved c =
     let pre = c.requires in
     let h = c.loop-i-test.true in
     elim c.if-end-d.branch [
-    | then-end-d w ↦ taking_hit _ _ _ _ _ _ _ c.loop-i.invariant h pre.0.nexts pre.0.owing (pre.0.small c.loop-i.i h) w.if-end-d.true w.next-is w.owed-is w.added-is w.end-is (omega arith)
-    | else-end-d w ↦ taking_miss _ _ _ _ _ _ _ c.loop-i.invariant h w.if-end-d.false w.next-is w.owed-is w.added-is w.end-is (omega arith) ]
+      | then-end-d w ↦ taking_hit _ _ _ _ _ _ _ c.loop-i.invariant h pre.0.nexts pre.0.owing (pre.0.small c.loop-i.i h) w.if-end-d.true w.next-is w.owed-is w.added-is w.end-is (omega arith)
+      | else-end-d w ↦ taking_miss _ _ _ _ _ _ _ c.loop-i.invariant h w.if-end-d.false w.next-is w.owed-is w.added-is w.end-is (omega arith)
+    ]
 
 pub returns : goal.returns
 returns c =

@@ -1,10 +1,7 @@
 -- `take_ends` meets its contract: the lines passed cite the laws of `TakingEnds`.
 use Prim.Native.Nat.{◌-◌}
-use mathlib.Core.Logic.{⊎_elim}
-use native.Mathlib.Omega.{arith}
-use borrow.Author.Rules.{rules}
 use lib.ListN.{length}
-use Rattle.pass.proofs.TakingEnds.{TakingEnds, taking_start, taking_hit, taking_miss, taking_end}
+use Rattle.pass.proofs.TakingEnds.{TakingEnds}
 use Rattle.pass.proofs.take_ends.Given as goal
 
 abbrev pub invariant-loop-i : goal.invariant-loop-i

@@ -1,5 +1,4 @@
 -- `closed`: the two tests are those of the definition.
-use borrow.Author.Rules.{rules}
 use mathlib.Core.Path.{sym, ap, ◌∙◌}
 use Rattle.card.specs.Card.{carrying}
 use Rattle.card.specs.Answers.{handed}

@@ -1,5 +1,4 @@
 -- `front`: RQ, no slot left, or a slot's record.
-use borrow.Author.Rules.{rules}
 use mathlib.Core.Path.{sym, ◌∙◌}
 use native.Mathlib.Omega.{arith}
 use Rattle.card.proofs.Records.{at_last, at_end, at_slot}

@@ -1,5 +1,4 @@
 -- `get16`: the two bytes are what the definition adds up.
-use borrow.Author.Rules.{rules}
 use native.Mathlib.Omega.{arith}
 use Rattle.card.proofs.Numbers.{value_two}
 use Rattle.reader.proofs.get16.Goals as goal

@@ -1,5 +1,4 @@
 -- `last`: the record for each outcome of the test.
-use borrow.Author.Rules.{rules}
 use mathlib.Core.Path.{sym}
 use native.Mathlib.Omega.{arith}
 use Rattle.card.proofs.Records.{last_cut, last_of_lem}

@@ -1,5 +1,4 @@
 -- `line`: the record for each outcome of the test.
-use borrow.Author.Rules.{rules}
 use mathlib.Core.Path.{sym, ap, ◌∙◌}
 use native.Mathlib.Omega.{arith}
 use Rattle.card.specs.declared.Record.TheVariants.{Slot}

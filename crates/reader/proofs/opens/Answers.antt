@@ -1,5 +1,4 @@
 -- `opens`: the two tests are those of the mark's two bytes.
-use borrow.Author.Rules.{rules}
 use mathlib.Core.Path.{sym}
 use native.Mathlib.Omega.{arith}
 use Rattle.card.proofs.Marks.{marked_short, marked_not, marked_first}

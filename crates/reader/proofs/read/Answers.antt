@@ -1,8 +1,6 @@
 -- `read`: the clock's record is missing, cut or whole.
-use borrow.Author.Rules.{rules}
 use mathlib.Core.Path.{sym, ap, ◌∙◌}
 use native.Mathlib.Omega.{arith}
-use borrow.Author.Tests.{not-true, not-false}
 use Rattle.card.specs.Twin.{turned_of}
 use Rattle.card.specs.Answers.{handed}
 use Rattle.card.proofs.Refusals.{no_clock, cut_clock}

@@ -1,5 +1,4 @@
 -- `record_at`: the part from `at` to the end is what `drop` leaves.
-use borrow.Author.Rules.{rules}
 use mathlib.Core.Path.{ap, ◌∙◌}
 use Rattle.card.specs.Reading.{record_of}
 use Rattle.card.proofs.Parts.{part_all}

@@ -1,9 +1,7 @@
-use borrow.Author.Rules.{rules}
 use mathlib.Core.Path.{sym, ap, ◌∙◌}
-use Prim.Native.Nat.{◌-◌}
 use native.Mathlib.Omega.{arith}
 use Rattle.card.specs.Answers.{handed_of}
-use Rattle.reader.proofs.Loop.{slot_room, last_room, mid_refused, Kept, kept_start, kept_room, kept_slot, kept_last}
+use Rattle.reader.proofs.Loop.{slot_room, last_room, mid_refused, kept_start, kept_room, kept_slot, kept_last}
 use Rattle.reader.proofs.records.Goals as goal
 
 pub loop-x-init : goal.loop-x-init

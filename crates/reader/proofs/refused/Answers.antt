@@ -1,5 +1,4 @@
 -- `refused`: its parts are the callees'.
-use borrow.Author.Rules.{rules}
 use Rattle.reader.proofs.refused.Goals as goal
 
 pub returns : goal.returns

@@ -1,5 +1,4 @@
 -- `slot_record`: one law for each of the marks.
-use borrow.Author.Rules.{rules}
 use mathlib.Core.Path.{sym, ap, ◌∙◌}
 use Rattle.card.specs.declared.Record.TheVariants.{Slot}
 use Rattle.card.proofs.Records.{slot_line_lem, slot_leaving, slot_free, slot_old, slot_unknown}

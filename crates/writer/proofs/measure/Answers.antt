@@ -1,10 +1,8 @@
 use borrow.Author.Rules.{rules}
 use mathlib.Core.Path.{◌≡◌, sym, ◌∙◌}
-use Prim.Native.Nat.{◌-◌}
 use native.Mathlib.Omega.{arith}
 use lib.ListN.{length}
-use borrow.Author.Tests.{not-true, not-false}
-use Rattle.writer.proofs.Slots.{Counted, counted_start, counted_small, counted_free, counted_line, counted_stop, counted_end}
+use Rattle.writer.proofs.Slots.{counted_start, counted_small, counted_free, counted_line, counted_stop, counted_end}
 use Rattle.writer.proofs.measure.Goals as goal
 
 pub loop-i-init : goal.loop-i-init

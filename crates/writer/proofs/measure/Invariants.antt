@@ -1,11 +1,8 @@
 -- `measure`: what is counted so far is `Counted`; each way through the loop is one law.
-use borrow.Author.Rules.{rules}
-use mathlib.Core.Path.{◌≡◌, sym, ◌∙◌}
+use mathlib.Core.Path.{◌≡◌}
 use Prim.Native.Nat.{◌-◌}
-use native.Mathlib.Omega.{arith}
 use lib.ListN.{length}
-use borrow.Author.Tests.{not-true, not-false}
-use Rattle.writer.proofs.Slots.{Counted, counted_start, counted_small, counted_free, counted_line, counted_stop, counted_end}
+use Rattle.writer.proofs.Slots.{Counted}
 use Rattle.writer.proofs.measure.Given as goal
 
 abbrev pub invariant-loop-i : goal.invariant-loop-i

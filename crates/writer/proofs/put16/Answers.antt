@@ -1,5 +1,4 @@
 -- `put16`: two stores, and the high byte of a sixteen-bit number is below 256.
-use borrow.Author.Rules.{rules}
 use mathlib.Core.Path.{◌≡◌, ap, ◌∙◌}
 use mathlib.Core.List.{[], ◌∷◌}
 use Prim.Native.Nat.{ℕ, ◌/◌, ◌%◌}

@@ -1,7 +1,6 @@
 -- `put_line`: the mark, then each number into the part after the last.
 use mathlib.Core.Path.{refl}
 use mathlib.Core.List.{◌++◌}
-use native.Mathlib.Omega.{arith}
 use Rattle.card.specs.Bytes.{le, mark_of}
 use Rattle.card.specs.Layout.{need_at, stretched_at, fifth_at}
 use Rattle.card.proofs.Parts.{put_at_lem}

@@ -1,5 +1,4 @@
 -- `put_mark`: two stores.
-use borrow.Author.Rules.{rules}
 use native.Mathlib.Omega.{arith}
 use lib.Seq.{sets-eq}
 use Rattle.card.specs.Bytes.{mark_of}

@@ -1,5 +1,4 @@
 -- `put_record`: one arm for each mark.
-use borrow.Author.Rules.{rules}
 use mathlib.Core.Path.{ap}
 use native.Mathlib.Omega.{arith}
 use Rattle.card.specs.declared.Mark.{Mark}

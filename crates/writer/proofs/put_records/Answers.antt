@@ -1,10 +1,9 @@
 use borrow.Author.Rules.{rules}
 use mathlib.Core.Path.{◌≡◌, ap}
-use Prim.Native.Nat.{◌-◌}
 use native.Mathlib.Omega.{arith}
 use lib.ListN.{length, length-drop}
 use Rattle.card.proofs.Parts.{part_all}
-use Rattle.writer.proofs.Slots.{Put, put_start, put_same, put_room, put_next, put_end}
+use Rattle.writer.proofs.Slots.{put_start, put_same, put_room, put_next, put_end}
 use Rattle.writer.proofs.put_records.Goals as goal
 
 pub loop-i-init : goal.loop-i-init

@@ -1,11 +1,6 @@
 -- `put_records`: the loop keeps `Put`; each record goes into the part after the last one.
-use borrow.Author.Rules.{rules}
-use mathlib.Core.Path.{◌≡◌, ap}
 use Prim.Native.Nat.{◌-◌}
-use native.Mathlib.Omega.{arith}
-use lib.ListN.{length, length-drop}
-use Rattle.card.proofs.Parts.{part_all}
-use Rattle.writer.proofs.Slots.{Put, put_start, put_same, put_room, put_next, put_end}
+use Rattle.writer.proofs.Slots.{Put}
 use Rattle.writer.proofs.put_records.Given as goal
 
 abbrev pub invariant-loop-i : goal.invariant-loop-i

@@ -1,7 +1,6 @@
 -- `put_request`: the mark, then the part of the two numbers.
 use mathlib.Core.Path.{refl}
 use mathlib.Core.List.{◌++◌}
-use native.Mathlib.Omega.{arith}
 use Rattle.card.specs.Bytes.{le}
 use Rattle.card.specs.Layout.{RQ, need_at}
 use Rattle.card.proofs.Parts.{put_at_lem}

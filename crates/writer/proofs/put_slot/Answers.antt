@@ -1,5 +1,4 @@
 -- `put_slot`: the record of what the slot holds, or no byte.
-use borrow.Author.Rules.{rules}
 use mathlib.Core.Path.{sym, ◌∙◌}
 use native.Mathlib.Omega.{arith}
 use Rattle.writer.proofs.Slots.{recorded_length, put_recorded, unrecorded_length, put_unrecorded}

@@ -1,6 +1,5 @@
 -- `put_two`: the second number goes into the part after the first.
 use mathlib.Core.Path.{refl}
-use native.Mathlib.Omega.{arith}
 use Rattle.card.specs.Bytes.{le}
 use Rattle.card.proofs.Parts.{put_at_lem}
 use Rattle.writer.proofs.put_two.Goals as goal

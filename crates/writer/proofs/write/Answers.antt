@@ -1,8 +1,7 @@
 -- `write`: a waiting line is refused first, whatever the room.
-use borrow.Author.Rules.{rules}
 use mathlib.Core.Path.{◌≡◌}
 use native.Mathlib.Omega.{arith}
-use lib.ListN.{length, length-map}
+use lib.ListN.{length}
 use Rattle.card.specs.Answers.{said_written}
 use Rattle.card.proofs.Length.{used_slots}
 use Rattle.writer.proofs.Whole.{waiting_writing, other_writing}

@@ -1,5 +1,4 @@
 -- `write_card`: the length decides.
-use borrow.Author.Rules.{rules}
 use native.Mathlib.Omega.{arith}
 use Rattle.card.proofs.Length.{records_length}
 use Rattle.writer.proofs.Whole.{card_length, short_writing, whole_writing}

@@ -1,8 +1,7 @@
 -- `admitted` meets its contract: the new line stands in the slot that the search named.
 use mathlib.Core.Path.{◌≡◌, ap, sym, ◌∙◌}
 use native.Mathlib.Omega.{arith}
-use lib.ListN.{length, length-map}
-use borrow.Author.Rules.{rules}
+use lib.ListN.{length}
 use Rattle.line.specs.Slots.{at, is_nothing}
 use Rattle.table.specs.Words.{slot_of}
 use Rattle.line.proofs.Search.{lowest_below}

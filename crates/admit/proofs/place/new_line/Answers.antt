@@ -1,7 +1,6 @@
 -- `new_line` meets its contract: a line that waits or one that runs.
 use mathlib.Core.Path.{◌∙◌}
 use native.Mathlib.Omega.{arith}
-use borrow.Author.Rules.{rules}
 use borrow.Author.Tests.{lt-ltb, le-ltb}
 use Rattle.admit.proofs.place.new_line.Goals as goal
 

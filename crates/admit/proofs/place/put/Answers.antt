@@ -1,6 +1,5 @@
 -- `put` meets its contract: the slot stands in its place, and beside it a count of 0.
 use mathlib.Core.Path.{refl}
-use borrow.Author.Rules.{rules}
 use Rattle.admit.proofs.place.put.Goals as goal
 
 pub returns : goal.returns

@@ -1,10 +1,5 @@
-use Prim.Native.Nat.{◌-◌}
-use lib.ListN.{length-map}
-use borrow.Author.Rules.{rules}
-use Rattle.line.specs.Stretch.{stretch_slot}
-use Rattle.line.proofs.Loops.{Mapping, map_start, map_on, map_end}
-use Rattle.table.specs.Grounds.{entry}
-use Rattle.table.proofs.Step.{OnlySlots, only_none, only_on, only_end_lem}
+use Rattle.line.proofs.Loops.{map_start, map_on, map_end}
+use Rattle.table.proofs.Step.{only_none, only_on, only_end_lem}
 use Rattle.admit.proofs.place.stretch_all.Goals as goal
 
 pub loop-i-init : goal.loop-i-init

@@ -1,11 +1,9 @@
 -- `stretch_all` meets its contract: the loop cites the laws of `Mapping`, and changes the slots alone.
 use Prim.Native.Nat.{◌-◌}
-use lib.ListN.{length-map}
-use borrow.Author.Rules.{rules}
 use Rattle.line.specs.Stretch.{stretch_slot}
-use Rattle.line.proofs.Loops.{Mapping, map_start, map_on, map_end}
+use Rattle.line.proofs.Loops.{Mapping}
 use Rattle.table.specs.Grounds.{entry}
-use Rattle.table.proofs.Step.{OnlySlots, only_none, only_on, only_end_lem}
+use Rattle.table.proofs.Step.{OnlySlots}
 use Rattle.admit.proofs.place.stretch_all.Given as goal
 
 abbrev pub invariant-loop-i : goal.invariant-loop-i

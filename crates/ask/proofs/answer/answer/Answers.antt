@@ -1,5 +1,4 @@
 -- `answer` meets its contract: each way out is one case of `ask_of`, over the values that the calls gave.
-use borrow.Author.Rules.{rules}
 use Rattle.ask.proofs.LastGrounds.{gathered_decide}
 use Rattle.ask.proofs.Deciding.{refused_within, ask_late, ask_full, ask_waits, ask_unsound, ask_barred, ask_misfit, ask_past, allowed_all}
 use Rattle.ask.proofs.answer.answer.Goals as goal

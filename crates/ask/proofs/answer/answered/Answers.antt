@@ -1,7 +1,6 @@
 -- `answered` meets its contract: one arm for each thing that can be decided.
 use mathlib.Core.Path.{ap, sym, ◌∙◌}
 use native.Mathlib.Omega.{arith}
-use borrow.Author.Rules.{rules}
 use Rattle.table.specs.declared.Answer.TheVariants.{Refused}
 use Rattle.ask.specs.Gathered.{answer_from}
 use Rattle.ask.proofs.answer.answered.Goals as goal

@@ -1,7 +1,6 @@
 -- `by_lines` meets its contract: what is decided of the slices, which hold the lines gathered.
 use mathlib.Core.Path.{sym}
 use lib.Seq.{length-take-le}
-use borrow.Author.Rules.{rules}
 use Rattle.ask.proofs.LastGrounds.{fronts_answer}
 use Rattle.ask.proofs.answer.by_lines.Goals as goal
 

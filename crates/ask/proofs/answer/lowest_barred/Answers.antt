@@ -1,7 +1,4 @@
-use Prim.Native.Nat.{◌-◌}
-use lib.ListN.{length-map}
-use borrow.Author.Rules.{rules}
-use Rattle.ask.proofs.Deciding.{Barring, bar_start, bar_on, bar_stop, bar_end}
+use Rattle.ask.proofs.Deciding.{bar_start, bar_on, bar_stop, bar_end}
 use Rattle.ask.proofs.answer.lowest_barred.Goals as goal
 
 pub returns-then-bars : goal.returns-then-bars

@@ -1,8 +1,6 @@
 -- `lowest_barred` meets its contract: a search that cites the laws of `Barring`.
 use Prim.Native.Nat.{◌-◌}
-use lib.ListN.{length-map}
-use borrow.Author.Rules.{rules}
-use Rattle.ask.proofs.Deciding.{Barring, bar_start, bar_on, bar_stop, bar_end}
+use Rattle.ask.proofs.Deciding.{Barring}
 use Rattle.ask.proofs.answer.lowest_barred.Given as goal
 
 abbrev pub invariant-loop-i : goal.invariant-loop-i

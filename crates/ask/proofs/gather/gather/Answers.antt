@@ -1,14 +1,12 @@
-use Prim.Native.Nat.{ℕ, ◌-◌, ◌≤◌}
+use Prim.Native.Nat.{ℕ, ◌≤◌}
 use mathlib.Core.Bool.{not}
 use mathlib.Core.Path.{refl, ap}
-use mathlib.Core.Logic.{⊎_elim}
 use native.Mathlib.Omega.{arith}
-use lib.ListN.{length-map}
 use mir.Val.{Fits}
 use mir.Syntax.{w16}
 use borrow.Author.Rules.{rules}
 use Rattle.table.specs.Grounds.{entry}
-use Rattle.ask.proofs.Packing.{Gathering, gather_start, gather_skip, gather_push, gather_room, gather_end}
+use Rattle.ask.proofs.Packing.{gather_start, gather_skip, gather_push, gather_room, gather_end}
 use Rattle.ask.proofs.gather.gather.Goals as goal
 use Rattle.ask.proofs.gather.gather.Goals.{then-not-is_empty, else-not-is_empty}
 
@@ -25,9 +23,10 @@ loop-i-preserved c =
     let v = c.loop-i.invariant in
     let h = c.loop-i-test.true in
     let t = c.is_empty.ensures in
-    elim c.if-not-is_empty.branch [ 
-    | then-not-is_empty w ↦ rw w.g-is (gather_push v _ h t (ap not w.if-not-is_empty.true) w.stretched-x.ensures w.asks-y.ensures w.gap.ensures)
-    | else-not-is_empty w ↦ rw w.g-is (gather_skip v _ h t (ap not w.if-not-is_empty.false)) ]
+    elim c.if-not-is_empty.branch [
+      | then-not-is_empty w ↦ rw w.g-is (gather_push v _ h t (ap not w.if-not-is_empty.true) w.stretched-x.ensures w.asks-y.ensures w.gap.ensures)
+      | else-not-is_empty w ↦ rw w.g-is (gather_skip v _ h t (ap not w.if-not-is_empty.false))
+    ]
 
 pub returns : goal.returns
 returns c = let v = c.loop-i.invariant in record { few = omega (arith, v.few, v.upto); room = gather_room v; same = gather_end v c.loop-i-test.false; wide = v.wide }

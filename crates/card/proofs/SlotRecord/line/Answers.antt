@@ -1,5 +1,4 @@
 -- `line`: the record of the line's numbers, under the mark that the callee gives.
-use borrow.Author.Rules.{rules}
 use Rattle.card.proofs.SlotRecord.line.Goals as goal
 
 pub returns : goal.returns

@@ -1,5 +1,4 @@
 -- `of`: one arm for each thing that a slot holds.
-use borrow.Author.Rules.{rules}
 use mathlib.Core.Path.{sym, ap, ◌∙◌}
 use Rattle.line.specs.declared.Held.{Held}
 use Rattle.card.specs.declared.Recorded.TheVariants.{As}

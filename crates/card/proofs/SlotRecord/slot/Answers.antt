@@ -1,5 +1,4 @@
 -- `slot`: one arm for each mark.
-use borrow.Author.Rules.{rules}
 use Rattle.card.specs.declared.Mark.{Mark}
 use Rattle.card.proofs.Slots.{slot_under}
 use Rattle.card.proofs.SlotRecord.slot.Goals as goal

@@ -1,5 +1,4 @@
 -- `with_line`: its parts are the callees'.
-use borrow.Author.Rules.{rules}
 use mathlib.Core.Path.{ap, ◌∙◌}
 use Rattle.line.specs.Slots.{holding}
 use Rattle.card.proofs.SlotRecord.with_line.Goals as goal
