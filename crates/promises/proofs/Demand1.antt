@@ -15,7 +15,6 @@ use Rattle.table.specs.declared.Admitted.{Admitted}
 use Rattle.table.specs.declared.Stepped.{Stepped}
 use Rattle.table.specs.declared.Left.{Left}
 use Rattle.table.specs.declared.Leaving.{Leaving}
-use Rattle.table.specs.declared.Outcome as outcome
 use Rattle.table.specs.declared.Outcome.{Outcome}
 use Rattle.line.specs.Slots.{pick}
 use Rattle.table.specs.Words.{empty_table, Said, gives, refuses}

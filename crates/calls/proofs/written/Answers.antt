@@ -3,7 +3,6 @@ use mathlib.Core.Path.{sym, ap, ◌∙◌}
 use Rattle.card.specs.declared.WriteAnswer.{WriteAnswer}
 use Rattle.card.specs.Answers.{said_written}
 use Rattle.calls.specs.Results.{result_at}
-use borrow.Author.Rules.{rules}
 use Rattle.calls.proofs.written.Goals as goal
 
 pub returns-in-Length : goal.returns-in-Length

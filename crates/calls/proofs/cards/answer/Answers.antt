@@ -2,7 +2,6 @@
 use mathlib.Core.Path.{sym, ap, ◌∙◌}
 use Rattle.calls.specs.Cards.{answer_for}
 use Rattle.calls.proofs.Said.{was_read, was_refused}
-use borrow.Author.Rules.{rules}
 use Rattle.calls.proofs.cards.answer.Goals as goal
 
 pub returns-in-Read : goal.returns-in-Read

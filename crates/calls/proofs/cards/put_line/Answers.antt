@@ -6,7 +6,6 @@ use Rattle.reply.specs.declared.Written.{Written}
 use Rattle.reply.specs.Line.{said_length}
 use Rattle.calls.specs.Results.{refused_as, result_of}
 use Rattle.calls.specs.Cards.{said_put}
-use borrow.Author.Rules.{rules}
 use Rattle.calls.proofs.cards.put_line.Goals as goal
 
 pub returns-in-Length : goal.returns-in-Length

@@ -7,7 +7,6 @@ use Rattle.card.specs.Twin.{turned_of}
 use Rattle.calls.specs.Results.{result_at}
 use Rattle.calls.specs.Cards.{rewrite_for, rewritten_for}
 use Rattle.calls.proofs.Said.{was_read, was_turned, was_refused}
-use borrow.Author.Rules.{rules}
 use Rattle.calls.proofs.cards.rewrite.Goals as goal
 
 pub returns-in-Read : goal.returns-in-Read

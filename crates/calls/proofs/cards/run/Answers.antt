@@ -5,7 +5,6 @@ use Rattle.table.specs.declared.Admitted.{Admitted}
 use Rattle.table.specs.Ask.{says}
 use Rattle.calls.specs.Results.{result_of}
 use Rattle.calls.specs.Cards.{ticks_run, unless_refused, run_admitted}
-use borrow.Author.Rules.{rules}
 use Rattle.calls.proofs.cards.run.Goals as goal
 
 pub returns-in-Start : goal.returns-in-Start

@@ -1,7 +1,5 @@
-use Prim.Native.Nat.{◌-◌, ◌≤◌}
-use mathlib.Core.Path.{◌≡◌, ap, ◌∙◌}
+use mathlib.Core.Path.{ap, ◌∙◌}
 use Rattle.calls.specs.Results.{result_of}
-use Rattle.calls.specs.Cards.{more, ticks_run}
 use Rattle.calls.proofs.Run.{run_start, run_on, run_stop, run_end}
 use borrow.Author.Rules.{rules}
 use Rattle.calls.proofs.cards.run_table.Goals as goal

@@ -1,10 +1,7 @@
 -- Each tick moves from what is left to what was counted; the measure is the ticks that are left.
 use Prim.Native.Nat.{◌-◌, ◌≤◌}
-use mathlib.Core.Path.{◌≡◌, ap, ◌∙◌}
-use Rattle.calls.specs.Results.{result_of}
+use mathlib.Core.Path.{◌≡◌}
 use Rattle.calls.specs.Cards.{more, ticks_run}
-use Rattle.calls.proofs.Run.{run_start, run_on, run_stop, run_end}
-use borrow.Author.Rules.{rules}
 use Rattle.calls.proofs.cards.run_table.Given as goal
 
 abbrev pub invariant-loop-i : goal.invariant-loop-i

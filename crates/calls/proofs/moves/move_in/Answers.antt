@@ -6,7 +6,6 @@ use Rattle.card.specs.declared.WriteAnswer.{WriteAnswer}
 use Rattle.card.specs.Answers.{said_written}
 use Rattle.calls.specs.Results.{result_of}
 use Rattle.calls.specs.Moves.{numbers_if}
-use borrow.Author.Rules.{rules}
 use Rattle.calls.proofs.moves.move_in.Goals as goal
 
 pub returns-in-Length : goal.returns-in-Length

@@ -4,7 +4,6 @@ use Rattle.table.specs.declared.Answer.{Answer}
 use Rattle.table.specs.Ask.{says}
 use Rattle.calls.specs.Tables.{asked_as}
 use Rattle.calls.proofs.Operations.{admit_answer, admit_granted, admit_refused}
-use borrow.Author.Rules.{rules}
 use Rattle.calls.proofs.tables.admit.Goals as goal
 
 pub returns-in-Start : goal.returns-in-Start

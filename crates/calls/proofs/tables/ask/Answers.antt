@@ -3,7 +3,6 @@ use mathlib.Core.Path.{ap, ◌∙◌}
 use Rattle.table.specs.declared.Answer.{Answer}
 use Rattle.table.specs.Ask.{says}
 use Rattle.calls.specs.Tables.{asked_as}
-use borrow.Author.Rules.{rules}
 use Rattle.calls.proofs.tables.ask.Goals as goal
 
 pub returns : goal.returns

@@ -6,7 +6,6 @@ use Rattle.table.specs.declared.Answer.{Answer}
 use Rattle.table.specs.Ask.{says}
 use Rattle.calls.specs.Results.{granted_as}
 use Rattle.calls.specs.Tables.{asked_as}
-use borrow.Author.Rules.{rules}
 use Rattle.calls.proofs.tables.asked.Goals as goal
 
 pub returns-in-Start : goal.returns-in-Start

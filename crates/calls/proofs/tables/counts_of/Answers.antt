@@ -1,9 +1,8 @@
 use mathlib.Core.Path.{◌≡◌, refl}
 use mathlib.Core.List.{[], ◌∷◌}
-use Prim.Native.Nat.{◌-◌}
 use native.Mathlib.Omega.{arith}
 use lib.ListN.{length}
-use Rattle.calls.proofs.Copied.{Copied, copy_start, copy_on, copy_end}
+use Rattle.calls.proofs.Copied.{copy_start, copy_on, copy_end}
 use borrow.Author.Rules.{rules}
 use Rattle.calls.proofs.tables.counts_of.Goals as goal
 

@@ -1,11 +1,6 @@
 -- The loop keeps `Copied`, and the idle and the departed count follow.
-use mathlib.Core.Path.{◌≡◌, refl}
-use mathlib.Core.List.{[], ◌∷◌}
 use Prim.Native.Nat.{◌-◌}
-use native.Mathlib.Omega.{arith}
-use lib.ListN.{length}
-use Rattle.calls.proofs.Copied.{Copied, copy_start, copy_on, copy_end}
-use borrow.Author.Rules.{rules}
+use Rattle.calls.proofs.Copied.{Copied}
 use Rattle.calls.proofs.tables.counts_of.Given as goal
 
 abbrev pub invariant-loop-i : goal.invariant-loop-i

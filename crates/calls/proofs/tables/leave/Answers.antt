@@ -1,6 +1,5 @@
 -- The ticks with the new table stored, or a refusal, which stores nothing.
 use Rattle.calls.proofs.Operations.{leave_granted, leave_refused}
-use borrow.Author.Rules.{rules}
 use Rattle.calls.proofs.tables.leave.Goals as goal
 
 pub returns-in-In : goal.returns-in-In

@@ -1,6 +1,5 @@
 -- A ready word is granted at place 0.
 use Rattle.calls.proofs.Operations.{ready_granted}
-use borrow.Author.Rules.{rules}
 use Rattle.calls.proofs.tables.ready.Goals as goal
 
 pub returns : goal.returns

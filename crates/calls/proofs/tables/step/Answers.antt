@@ -1,6 +1,5 @@
 -- A step's slot with the new table stored, or a refusal, which stores nothing.
 use Rattle.calls.proofs.Operations.{step_ran, step_refused}
-use borrow.Author.Rules.{rules}
 use Rattle.calls.proofs.tables.step.Goals as goal
 
 pub returns-in-Ran : goal.returns-in-Ran

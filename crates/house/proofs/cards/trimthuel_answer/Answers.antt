@@ -5,7 +5,6 @@ use Rattle.table.specs.Ask.{says}
 use Rattle.reply.specs.Line.{answer_line, held_after}
 use Rattle.calls.specs.Results.{result_of}
 use Rattle.calls.specs.Cards.{put_of}
-use borrow.Author.Rules.{rules}
 use Rattle.house.proofs.cards.trimthuel_answer.Goals as goal
 
 pub returns : goal.returns

@@ -5,7 +5,6 @@ use Rattle.card.specs.Card.{Card}
 use Rattle.calls.specs.Results.{result_of}
 use Rattle.calls.specs.Cards.{run_for}
 use Rattle.calls.proofs.Said.{was_read, was_refused}
-use borrow.Author.Rules.{rules}
 use Rattle.house.proofs.cards.trimthuel_run.Goals as goal
 
 pub returns-in-Read : goal.returns-in-Read

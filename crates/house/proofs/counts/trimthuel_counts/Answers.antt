@@ -4,7 +4,6 @@ use Rattle.table.specs.declared.Table.{Table}
 use Rattle.table.specs.Words.{Said}
 use Rattle.calls.specs.Tables.{counts_for, counts_after}
 use Rattle.calls.proofs.Said.{was_loaded, not_loaded}
-use borrow.Author.Rules.{rules}
 use Rattle.house.proofs.counts.trimthuel_counts.Goals as goal
 
 pub returns-in-Read : goal.returns-in-Read

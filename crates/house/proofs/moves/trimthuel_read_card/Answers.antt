@@ -6,7 +6,6 @@ use Rattle.card.specs.Card.{Card}
 use Rattle.calls.specs.Results.{result_of}
 use Rattle.calls.specs.Moves.{read_card_for, image_after, numbers_after}
 use Rattle.calls.proofs.Said.{was_read, was_refused}
-use borrow.Author.Rules.{rules}
 use Rattle.house.proofs.moves.trimthuel_read_card.Goals as goal
 
 pub returns-in-Read : goal.returns-in-Read

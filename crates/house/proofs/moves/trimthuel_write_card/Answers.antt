@@ -9,7 +9,6 @@ use Rattle.calls.specs.Results.{result_of}
 use Rattle.calls.specs.Tables.{request_of}
 use Rattle.calls.specs.Moves.{write_card_for, card_after}
 use Rattle.calls.proofs.Said.{was_loaded, not_loaded}
-use borrow.Author.Rules.{rules}
 use Rattle.house.proofs.moves.trimthuel_write_card.Goals as goal
 
 pub returns-in-Read : goal.returns-in-Read

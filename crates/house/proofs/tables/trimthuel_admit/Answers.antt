@@ -6,7 +6,6 @@ use Rattle.table.specs.declared.Request.{Request}
 use Rattle.table.specs.Ask.{says, ask_of}
 use Rattle.calls.specs.Tables.{request_of, asked_as, ask_for, admitted_in, after_admit}
 use Rattle.calls.proofs.Said.{was_loaded, not_loaded}
-use borrow.Author.Rules.{rules}
 use Rattle.house.proofs.tables.trimthuel_admit.Goals as goal
 
 pub returns-in-Read : goal.returns-in-Read

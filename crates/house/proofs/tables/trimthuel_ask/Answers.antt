@@ -6,7 +6,6 @@ use Rattle.table.specs.Words.{Said}
 use Rattle.table.specs.Ask.{says, ask_of}
 use Rattle.calls.specs.Tables.{request_of, asked_as, ask_for}
 use Rattle.calls.proofs.Said.{was_loaded, not_loaded}
-use borrow.Author.Rules.{rules}
 use Rattle.house.proofs.tables.trimthuel_ask.Goals as goal
 
 pub returns-in-Read : goal.returns-in-Read

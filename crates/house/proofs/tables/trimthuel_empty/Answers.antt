@@ -3,7 +3,6 @@ use mathlib.Core.Path.{ap, ◌∙◌}
 use Rattle.table.specs.declared.Table.{Table}
 use Rattle.image.specs.Answers.{stored_in}
 use Rattle.calls.specs.Results.{result_of}
-use borrow.Author.Rules.{rules}
 use Rattle.house.proofs.tables.trimthuel_empty.Goals as goal
 
 pub returns : goal.returns
