@@ -1,11 +1,14 @@
 // What the programs that take one card read from standard input (R60, R94). A read that fails is told from the end of the input, which
-// `io::read_full` does not do.
+// `Read::read_exact` does not do.
 #![tactic(auto)]
 
-ghost use Rattle.std.specs.Prelude.{◌+◌, ◌≤◌, length};
-ghost use Rattle.io.specs.Counts.{IsPrefixLen};
+ghost use Rattle.std.specs.Prelude.{◌≡◌, ◌+◌, ◌≤◌, length, take, drop};
+ghost use Rattle.std.specs.Io.KnownBytes.{Consumes};
+ghost use Rattle.input.specs.Counts.{Counts, Begins};
 
-// What standard input gave: so many bytes, and whether it failed then.
+use std::io::Read;
+
+// What an input gave: so many bytes, and whether it failed then.
 #[derive(Clone, Copy)]
 pub struct Taken {
     pub len: usize,
@@ -13,26 +16,32 @@ pub struct Taken {
 }
 
 // One read, to the bytes of `into` from `at` on; no byte at the end of the input.
-fn take_more(into: &mut [u8], at: usize) -> Taken
+fn take_more<R: Read>(from: &mut R, into: &mut [u8], at: usize) -> Taken
     requires { at ≤ length into.old }
-    ensures { at + result.len ≤ length into.old }
+    ensures within { at + result.len ≤ length into.old }
+    ensures kept { take at into.new ≡ take at into.old }
+    ensures bytes { Consumes (R.remaining from.old) (R.remaining from.new) (take result.len (drop at into.new)) }
 {
-    let rest: &mut [u8] = &mut into[at..];
-    let got = libc::read(libc::STDIN_FILENO, rest);
-    let n = io::count(got, rest);
-    Taken {
-        len: n,
-        failed: got < 0,
+    match from.read(&mut into[at..]) {
+        Ok(n) => Taken {
+            len: n,
+            failed: false,
+        },
+        Err(_) => Taken {
+            len: 0,
+            failed: true,
+        },
     }
 }
 
 // R60, R94: reads until `into` is full, the input ends or a read fails.
-pub fn take(into: &mut [u8]) -> Taken
-    ensures { IsPrefixLen result.len into.new }
+pub fn take<R: Read>(from: &mut R, into: &mut [u8]) -> Taken
+    ensures counts { Counts result.len into.new }
+    ensures bytes { Begins result.len into.new (R.remaining from.old) }
 {
     let mut at: usize = 0;
     while at < into.len() {
-        let more = take_more(into, at);
+        let more = take_more(from, into, at);
         let n = more.len;
         if n == 0 {
             return Taken {
