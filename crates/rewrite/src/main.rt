@@ -4,69 +4,69 @@
 
 ghost use Rattle.std.specs.Prelude.{◌≤◌};
 
-fn say(text: &[u8]) {
-    io::write_all(libc::STDERR_FILENO, text);
+// Where it cannot be said, nobody is left to be told.
+fn say(rt: &impl Eprint, text: &str) {
+    let _ = rt.eprint(text);
 }
 
-fn say_number(n: u64) {
-    say(b" ");
-    io::print_decimal(libc::STDERR_FILENO, n);
+fn say_number(rt: &impl Eprint, n: u64) {
+    let _ = eprint!(rt; " {n}");
 }
 
 // R94: the slots that a word has a bit for, the lowest first; nothing where it has none.
-fn name_slots(word: u64) {
+fn name_slots(rt: &impl Eprint, word: u64) {
     if word == 0 {
         return;
     }
-    say(b"reordered");
+    say(rt, "reordered");
     let mut rest = word;
     let mut slot: u64 = 0;
     while slot < 16 {
         if rest % 2 == 1 {
-            say_number(slot);
+            say_number(rt, slot);
         }
         rest /= 2;
         slot += 1;
     }
-    say(b"\n");
+    say(rt, "\n");
 }
 
 // R94: a refusal's number and its place.
-fn say_refused(number: u64, place: u64) {
-    say(b"refused");
-    say_number(number);
-    say_number(place);
-    say(b"\n");
+fn say_refused(rt: &impl Eprint, number: u64, place: u64) {
+    say(rt, "refused");
+    say_number(rt, number);
+    say_number(rt, place);
+    say(rt, "\n");
 }
 
 // R94: whether the first `len` bytes of the card were written.
-fn put(card: [u8; 208], len: usize) -> bool
+fn put(rt: &impl Print, card: [u8; 208], len: usize) -> bool
     requires { len ≤ 208 }
 {
-    io::write_all(libc::STDOUT_FILENO, &card[..len])
+    rt.write_all(&card[..len]).is_ok()
 }
 
 // R94: writes a card anew. The longest has 208 bytes (R55), so that every card fits.
-fn rewrite(card: &[u8]) {
+fn rewrite(rt: &(impl Print + Eprint), card: &[u8]) {
     let mut anew = [0u8; 208];
     let r = calls::cards::rewrite(card, &mut anew);
     if r.number > 0 {
-        say_refused(r.number, r.place);
-    } else if put(anew, r.value as usize) {
-        name_slots(r.place);
+        say_refused(rt, r.number, r.place);
+    } else if put(rt, anew, r.value as usize) {
+        name_slots(rt, r.place);
     } else {
-        say(b"rewrite: the card could not be written\n");
+        say(rt, "rewrite: the card could not be written\n");
     }
 }
 
 // R94: one byte more is read than the longest card has: no byte after it changes what is written (the theorem `rewrite_by_209` of calls).
-fn main() {
+fn main(rt: HostRuntime) {
     let mut card = [0u8; 209];
-    let t = input::take(&mut card);
+    let t = input::take(&mut rt.stdin(), &mut card);
     let n = t.len;
     if t.failed {
-        say(b"rewrite: the card could not be read\n");
+        say(&rt, "rewrite: the card could not be read\n");
     } else {
-        rewrite(&card[..n]);
+        rewrite(&rt, &card[..n]);
     }
 }

@@ -4,6 +4,7 @@
 
 ghost use Rattle.std.specs.Prelude.{◌≡◌, ◌+◌, ◌≤◌, length, take};
 
+use std::io::Read;
 use table::Answer;
 
 fn wide(b: u8) -> usize
@@ -13,21 +14,19 @@ fn wide(b: u8) -> usize
 }
 
 // The next card's length. An input that is cut within it says what the mark says.
-fn next_len() -> usize {
+fn next_len(from: &mut impl Read) -> usize {
     let mut head = [0u8; 2];
-    let got = io::read_full(libc::STDIN_FILENO, &mut head);
-    if got < 2 {
+    if from.read_exact(&mut head).is_err() {
         return 65535;
     }
     wide(head[0]) + wide(head[1]) * 256
 }
 
 // Whether the next n bytes are there.
-fn fill(card: &mut [u8], n: usize) -> bool
+fn fill(from: &mut impl Read, card: &mut [u8], n: usize) -> bool
     requires { n ≤ length card.old }
 {
-    let got = io::read_full(libc::STDIN_FILENO, &mut card[..n]);
-    got == n
+    from.read_exact(&mut card[..n]).is_ok()
 }
 
 // Puts a line's bytes after the first `at` of out, and answers where they end.
@@ -44,22 +43,22 @@ fn put(out: &mut [u8], at: usize, line: [u8; 72], n: usize) -> usize
 }
 
 // Where the longest line would not fit any more, what stands in out is written first.
-fn room(out: &[u8], at: usize) -> usize
+fn room(to: &impl Print, out: &[u8], at: usize) -> usize
     requires { (at ≤ length out.now) × (72 ≤ length out.now) }
     ensures { result + 72 ≤ length out.now }
 {
     if out.len() - at >= 72 {
         return at;
     }
-    io::write_all(libc::STDOUT_FILENO, &out[..at]);
+    let _ = to.write_all(&out[..at]);
     0
 }
 
-fn add(out: &mut [u8], at: usize, a: Answer) -> usize
+fn add(to: &impl Print, out: &mut [u8], at: usize, a: Answer) -> usize
     requires { (at ≤ length out.old) × (72 ≤ length out.old) }
     ensures { result ≤ length out.new }
 {
-    let start = room(out, at);
+    let start = room(to, out, at);
     let r = reply::reply_to(a);
     let line = r.bytes;
     put(out, start, line, r.len)
@@ -67,7 +66,7 @@ fn add(out: &mut [u8], at: usize, a: Answer) -> usize
 
 // The answers of the set. No set has an end that a proof knows of, so the cards are counted; a card that is longer than any
 // of the stored ones ends the set as the mark does.
-fn answer_all(out: &mut [u8]) -> usize
+fn answer_all(from: &mut impl Read, to: &impl Print, out: &mut [u8]) -> usize
     requires { 72 ≤ length out.old }
     ensures { (result ≤ length out.new) × (result ≡ length (take result out.new)) }
 {
@@ -75,22 +74,22 @@ fn answer_all(out: &mut [u8]) -> usize
     let mut at: usize = 0;
     let mut left: usize = 20000;
     while left > 0 {
-        let n = next_len();
+        let n = next_len(from);
         if n > 256 {
             return at;
         }
-        if !fill(&mut card, n) {
+        if !fill(from, &mut card, n) {
             return at;
         }
         let a = calls::cards::answer(&card[..n]);
-        at = add(out, at, a);
+        at = add(to, out, at, a);
         left -= 1;
     }
     at
 }
 
-fn main() {
-    let mut out = io::buffer();
-    let n = answer_all(&mut out);
-    io::write_all(libc::STDOUT_FILENO, &out[..n]);
+fn main(rt: HostRuntime) {
+    let mut out = [0u8; 4096];
+    let n = answer_all(&mut rt.stdin(), &rt, &mut out);
+    let _ = rt.write_all(&out[..n]);
 }
