@@ -2,6 +2,7 @@
 
 No contract can say what a program prints, so each version of one in a folder must-differ is proved as well as the right one: it must differ here.
 """
+import atexit
 import concurrent.futures
 import fcntl
 import glob
@@ -11,12 +12,16 @@ import shutil
 import struct
 import subprocess
 import sys
+import tempfile
 import termios
 import time
 import tty
 
 os.chdir(os.path.join(os.path.dirname(os.path.abspath(__file__)), '..'))
 LONGEST = 'cards/refused-2-full.card'
+# Copies of the repository stand outside it: rt wants no crate's file and no link in any other place of it.
+WORK = tempfile.mkdtemp(prefix='trimthuel-')
+atexit.register(shutil.rmtree, WORK, ignore_errors=True)
 wrong = []
 
 
@@ -94,8 +99,7 @@ def differences(words, stated):
 
 
 def edited(folder, path):
-    """Applies an edit, as `rt must-fail` does, to the copy of its crate. What is then built anew must not be written to by way of a link."""
-    shutil.rmtree('%s/target/rlib/%s.rlib' % (folder, path.split('/')[1]), ignore_errors=True)
+    """Applies an edit, as `rt must-fail` does, to the copy of its crate."""
     for line in content(path).decode().split('\n'):
         key, _, value = line.partition(': ')
         if key == 'file':
@@ -110,14 +114,17 @@ def edited(folder, path):
 
 
 def copy(folder):
-    """The repository in another folder, with its libraries proved and no program built."""
-    shutil.rmtree(folder, ignore_errors=True)
-    os.makedirs(folder + '/target')
-    for path in ('crates', 'crates.txt', 'answer', 'rewrite', 'scripts', 'bindings', 'cards'):
-        subprocess.run(['cp', '-r', path, folder], check=True)
-    # The libraries are large and not written again: links will do.
-    subprocess.run(['cp', '-rl', 'target/rlib', folder + '/target'], check=True)
-    subprocess.run(['cp', '-r', 'target/stamp', folder + '/target'], check=True)
+    """The repository in another folder, with nothing built. A library whose text is the same rt takes from here, where it is proved."""
+    os.makedirs(folder)
+    subprocess.run(['cp', '-r', 'crates.txt', 'answer', 'rewrite', 'scripts', 'bindings', 'cards', folder], check=True)
+    made = {os.path.join('crates', name) for name in os.listdir('crates')}
+    shutil.copytree('crates', folder + '/crates', ignore=lambda at, names: ['out'] if at in made else [])
+
+
+def program(name, folder='.'):
+    """The program that a script runs, of the sources as they are."""
+    words = ['bash', '-c', 'home=$1 name=$2; . "$1/scripts/program"; program_of_sources', 'bash', os.path.abspath(folder), name]
+    return subprocess.run(words, check=True, stdout=subprocess.PIPE, text=True).stdout.strip()
 
 
 def without_rt(folder):
@@ -159,17 +166,17 @@ def common_calls(script, usage):
         called([script, '--help'], 2, stdout=full)
 
 
-def try_versions(name, crates, work, run, stated, beside):
+def try_versions(name, crates, run, stated, beside):
     """Every wrong version of a program must be proved and differ; `beside` is done at the same time."""
     def version_differs(path):
         version = os.path.basename(path)[:-5]
-        folder = os.path.join(work, version)
+        folder = os.path.join(WORK, version)
         copy(folder)
         edited(folder, path)
         built = subprocess.run(['./' + name, 'cards/A.card'], cwd=folder, capture_output=True)
-        if b'rt: %s proved' % name.encode() not in built.stderr:
+        if b'crate %s is proved' % name.encode() not in built.stderr:
             return version, [], built.stderr.decode()
-        return version, differences(run + ['%s/target/bin/%s' % (folder, name)], stated), 'does not differ'
+        return version, differences(run + [program(name, folder)], stated), 'does not differ'
 
     versions = sorted(path for crate in crates for path in glob.glob('crates/%s/must-differ/*.edit' % crate))
     if not versions:
