@@ -16,7 +16,7 @@
  * pointers to numbers of 16 and of 64 bits are aligned for them; no buffer that is written overlaps
  * another.
  *
- * The library is libhouse.a (`rt staticlib house`), for x86-64. It has no state of its own, allocates
+ * The library is libhouse.a (`scripts/library`), for x86-64. It has no state of its own, allocates
  * nothing, and calls nothing but memcpy and its like: any thread and any interrupt handler may call it
  * at any time, each with buffers of its own. As the ABI of x86-64 allows, it uses the SSE registers and
  * the 128 bytes below the stack pointer: an interrupt on the same stack has to spare both.

@@ -1,4 +1,4 @@
-//! Links `libhouse.a` from the folder `$TRIMTHUEL_LIB`, or from where `rt staticlib house` writes it in this repository.
+//! Links `libhouse.a` from the folder `$TRIMTHUEL_LIB`, or from where `scripts/library` writes it in this repository.
 
 use std::env;
 use std::path::{Path, PathBuf};
@@ -17,7 +17,7 @@ fn main() -> ExitCode {
     println!("cargo:rerun-if-changed={}", library.display());
     if !library.is_file() {
         eprintln!(
-            "{} is missing: run `rt staticlib house` in the repository's folder, or set TRIMTHUEL_LIB to the folder that has libhouse.a",
+            "{} is missing: run `scripts/library` in the repository's folder, or set TRIMTHUEL_LIB to the folder that has libhouse.a",
             library.display()
         );
         return ExitCode::FAILURE;

@@ -1,5 +1,5 @@
-// What the programs that take one card read from standard input (R60, R94). A read that fails is told from the end of the input, which
-// `Read::read_exact` does not do.
+// What the programs that take one card read from standard input (R60, R94). A read that fails is told from the end of the input, and the
+// bytes before either are counted, which `Read::read_exact` does not do.
 #![tactic(auto)]
 
 ghost use Rattle.std.specs.Prelude.{◌≡◌, ◌+◌, ◌≤◌, length, take, drop};
