@@ -39,7 +39,6 @@ fn stepped(table: Table, outcome: Outcome) -> Stepped
 }
 
 // R51, R48: the table is copied out, stepped by value and stored, or left as it is where the step was refused.
-// The fields are read by covered functions, so that the walk of this one stays free of them.
 pub fn drive(t: &mut Table) -> Outcome
     ensures { (result ≡ (step_of t.old).outcome) × (t.new ≡ driven_of t.old) }
 {
