@@ -37,7 +37,7 @@ module _ (t : Table) (q : Request) (d : ℕ) (six : Sixteen q) (c : Cleared t q)
         before_last = f.before_last;
         none_before = λ u h l. within_excess (demands t.clock (asked t q) u) (u - t.clock) (f.none_before u h l);
         -- R104, R77: with its own periods the table wants no less by d, so it has excess there, and cannot run away from it
-        ends_short_lem =
+        ends_short =
             runs_short (d - t.clock) _ t c.sound c.within (omega arith) (omega (arith, last_near t q six c.none_waits, c.early, f.before_last))
             (rw z (omega (arith, f.short.above, demands_longer t.clock t.slots (entry q) d c.sound c.unbarred)));
       }
@@ -56,5 +56,5 @@ ten_tells t q x six a ten =
     )
 
 -- R104: by that tick at the latest: the period that ends short ends there or before
-pub short_by_lem : (t : Table) (q : Request) (d : ℕ) (w : Tells t q d) → t.clock + w.ends_short_lem.steps + 1 ≤ d
-short_by_lem t q d w = omega (arith, w.ends_short_lem.before)
+pub short_by_lem : (t : Table) (q : Request) (d : ℕ) (w : Tells t q d) → t.clock + w.ends_short.steps + 1 ≤ d
+short_by_lem t q d w = omega (arith, w.ends_short.before)

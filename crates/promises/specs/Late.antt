@@ -23,7 +23,7 @@ pub record Tells (t : Table) (q : Request) (d : ℕ) : Type 0 where
   -- nothing is late before it
   pub none_before : (u : ℕ) → t.clock ≤ u → u < d → excess_at t.clock (asked t q) u ≤ℤ pos 0
   -- a pump that goes on from the table as it is, each line with its own period, has a period that ends short by d
-  pub ends_short_lem : Misses t (d + 1)
+  pub ends_short : Misses t (d + 1)
 
 -- R103, R104: of any refusal with the number 10 that ask's contract allows, for any table, reached by a run or not
 abbrev pub TenTells : Type 0

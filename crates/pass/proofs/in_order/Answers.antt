@@ -1,10 +1,15 @@
-use Prim.Native.Nat.{ℕ, ◌+◌, ◌^◌, ◌<◌}
+use Prim.Native.Nat.{ℕ, ◌+◌, ◌^◌, ◌≤◌, ◌<◌}
 use mathlib.Core.Path.{refl, ap, ◌∙◌}
 use native.Mathlib.Omega.{arith}
+use Rattle.sums.specs.Lines.{longest}
 use Rattle.pass.specs.declared.Pass.TheVariants.{Short}
 use Rattle.pass.proofs.Point.{point_short, point_passed, point_over, point_fits}
 use Rattle.pass.proofs.Order.{order_start, order_on, order_short, order_end, order_places, tick_later}
 use Rattle.pass.proofs.in_order.Goals as goal
+
+-- the numbers of a tick have 32 bits: the sum with what is added, and the tick
+narrow : {sum added last d : ℕ} → sum ≤ 65535 → added ≤ 1048576 → last ≤ longest → d < last → (sum + added < 2 ^ 32) × (d < 2 ^ 32)
+narrow s a l b = (omega arith, omega arith)
 
 pub loop-d-init : goal.loop-d-init
 loop-d-init c =
@@ -21,30 +26,26 @@ pub overflow_add-sum : goal.overflow_add-sum
 overflow_add-sum c =
     omega (arith, c.loop-d.invariant.2.small, c.take_ends-taken.ensures.added_value.1)
 
--- in each of these, the numbers of a tick have 32 bits: the sum with what is added, and the tick
 pub overflow_cast-result : goal.overflow_cast-result
 overflow_cast-result c =
-    let a : c.loop-d.sum + c.take_ends-taken.result.added < 2 ^ 32 = omega (arith, c.loop-d.invariant.2.small, c.take_ends-taken.ensures.added_value.1) in
-    let b : c.loop-d.d < 2 ^ 32 = omega (arith, c.requires.places.2.near, c.loop-d-test.true) in
-    point_fits _ _ a b c.excess_at-x.ensures (point_short _ _ a b c.excess_at-x.ensures c.if-x-gt0.true)
+    let n = narrow c.loop-d.invariant.2.small c.take_ends-taken.ensures.added_value.1 c.requires.places.2.near c.loop-d-test.true in
+    point_fits _ _ n.0 n.1 c.excess_at-x.ensures (point_short _ _ n.0 n.1 c.excess_at-x.ensures c.if-x-gt0.true)
 
 -- R30: the tick is short
 pub returns-then-x-gt0 : goal.returns-then-x-gt0
 returns-then-x-gt0 c =
-    let a : c.loop-d.sum + c.take_ends-taken.result.added < 2 ^ 32 = omega (arith, c.loop-d.invariant.2.small, c.take_ends-taken.ensures.added_value.1) in
-    let b : c.loop-d.d < 2 ^ 32 = omega (arith, c.requires.places.2.near, c.loop-d-test.true) in
-    let over = point_short _ _ a b c.excess_at-x.ensures c.if-x-gt0.true in
+    let n = narrow c.loop-d.invariant.2.small c.take_ends-taken.ensures.added_value.1 c.requires.places.2.near c.loop-d-test.true in
+    let over = point_short _ _ n.0 n.1 c.excess_at-x.ensures c.if-x-gt0.true in
     let pre = c.requires.places in
     let q = c.take_ends-taken.ensures in
-    let o = point_over _ _ a b c.excess_at-x.ensures over in
+    let o = point_over _ _ n.0 n.1 c.excess_at-x.ensures over in
     ap (λ (y : ℕ). Short (record { after = c.loop-d.d; excess = y })) o
     ∙ order_short _ _ _ _ _ (λ k h. (pre.1 k h).some) c.loop-d.invariant.2 c.loop-d-test.true q.moved (λ k h. refl) (λ k h. refl) q.added_value.0 over
 
 pub overflow_sub-d : goal.overflow_sub-d
 overflow_sub-d c =
-    let a : c.loop-d.sum + c.take_ends-taken.result.added < 2 ^ 32 = omega (arith, c.loop-d.invariant.2.small, c.take_ends-taken.ensures.added_value.1) in
-    let b : c.loop-d.d < 2 ^ 32 = omega (arith, c.requires.places.2.near, c.loop-d-test.true) in
-    point_passed _ _ a b c.excess_at-x.ensures c.if-x-gt0.false
+    let n = narrow c.loop-d.invariant.2.small c.take_ends-taken.ensures.added_value.1 c.requires.places.2.near c.loop-d-test.true in
+    point_passed _ _ n.0 n.1 c.excess_at-x.ensures c.if-x-gt0.false
 
 pub bound_at-b-requires : goal.bound_at-b-requires
 bound_at-b-requires c =
@@ -60,12 +61,11 @@ loop-d-smaller c =
 
 pub loop-d-preserved : goal.loop-d-preserved
 loop-d-preserved c =
-    let a : c.loop-d.sum + c.take_ends-taken.result.added < 2 ^ 32 = omega (arith, c.loop-d.invariant.2.small, c.take_ends-taken.ensures.added_value.1) in
-    let b : c.loop-d.d < 2 ^ 32 = omega (arith, c.requires.places.2.near, c.loop-d-test.true) in
+    let n = narrow c.loop-d.invariant.2.small c.take_ends-taken.ensures.added_value.1 c.requires.places.2.near c.loop-d-test.true in
     let pre = c.requires.places in
     let q = c.take_ends-taken.ensures in
     let v = c.loop-d.invariant in
-    let k = point_passed _ _ a b c.excess_at-x.ensures c.if-x-gt0.false in (
+    let k = point_passed _ _ n.0 n.1 c.excess_at-x.ensures c.if-x-gt0.false in (
       c.take_ends-taken.auto.next ∙ v.0,
       c.take_ends-taken.auto.owed ∙ v.1,
       order_on _ _ _ _ _ (λ k h. (pre.1 k h).some) v.2 c.loop-d-test.true q.moved (λ k h. refl) (λ k h. refl) q.soonest q.added_value.0 k
