@@ -4,10 +4,9 @@ use Rattle.table.specs.declared.Table.{Table}
 use Rattle.table.specs.declared.Request.{Request}
 use Rattle.table.specs.declared.Admitted.{Admitted}
 use Rattle.table.specs.Grounds.{Answers}
-use Rattle.table.specs.Ask.{says}
 use Rattle.table.specs.Admit.{admit_of}
 
 -- R42: a right answer, and the table that belongs to it
 pub record Admits (t : Table) (q : Request) (r : Admitted) : Type 0 where
-  pub answers : Answers t q (says r.answer)
+  pub answers : Answers t q (r.answer)
   pub computed : r ≡ admit_of t q

@@ -3,17 +3,16 @@
 
 mod place; // the table with the new line in it
 
-ghost use Rattle.std.specs.Prelude.{◌≡◌};
-ghost use Rattle.table.specs.declared.Answer.TheVariants.{Refused};
+ghost use Rattle.std.specs.Prelude.{Ok, Err, ◌≡◌};
 ghost use Rattle.admit.specs.Admits.{Admits};
 
 // R17: with a refusal the table is handed back as it came
 fn untouched(t: table::Table, x: table::Refusal) -> table::Admitted
-    ensures { result ≡ record { table = t; answer = Refused x } }
+    ensures { result ≡ record { table = t; answer = Err x } }
 {
     table::Admitted {
         table: t,
-        answer: table::Answer::Refused(x),
+        answer: Err(x),
     }
 }
 
@@ -23,13 +22,13 @@ pub fn admit(t: table::Table, q: table::Request) -> table::Admitted
 {
     let a = ask::ask(t, q);
     match a {
-        table::Answer::Start(r) => {
+        Ok(r) => {
             let next = place::admitted(t, q, r);
             table::Admitted {
                 table: next,
-                answer: table::Answer::Start(r),
+                answer: Ok(r),
             }
         }
-        table::Answer::Refused(x) => untouched(t, x),
+        Err(x) => untouched(t, x),
     }
 }

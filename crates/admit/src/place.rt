@@ -51,7 +51,7 @@ pub(crate) fn admitted(t: table::Table, q: table::Request, start: u64) -> table:
     let slot = line::Slot::holding(new);
     let next = stretch_all(t, q);
     match t.lowest(line::Kind::Free) {
-        table::Which::None => next,
-        table::Which::At(k) => put(next, k, slot),
+        None => next,
+        Some(k) => put(next, k, slot),
     }
 }

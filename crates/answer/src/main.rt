@@ -17,7 +17,7 @@ fn say(rt: &impl Eprint, text: &str) {
 
 // R60: says the line of a card.
 fn answer(rt: &(impl Print + Eprint), card: &[u8]) {
-    let a: table::Answer = calls::cards::answer(card);
+    let a: Result<u64, Refusal> = calls::cards::answer(card);
     let r = reply::reply_to(a);
     let line = r.bytes;
     if !put(rt, line, r.len) {

@@ -1,4 +1,6 @@
 -- Requests that agree on what is looked at get the same answer and the same table.
+use Rattle.std.specs.Prelude.{Ok, Err}
+use Rattle.table.specs.Words.{Said}
 use Prim.Native.Nat.{ℕ, suc, ◌<◌}
 use mathlib.Core.Path.{◌≡◌, refl, ap, ◌∙◌}
 use mathlib.Core.Bool.{Bool, false}
@@ -12,8 +14,6 @@ use Rattle.line.specs.declared.Held.TheVariants.{Nothing, Running, Waiting}
 use Rattle.line.specs.declared.Slot.{Slot}
 use Rattle.table.specs.declared.Table.{Table}
 use Rattle.table.specs.declared.Request.{Request}
-use Rattle.table.specs.declared.Answer.{Answer}
-use Rattle.table.specs.declared.Answer.TheVariants.{Start, Refused}
 use Rattle.line.specs.Slots.{with_period, if_runs, at, total, map_at, lowest}
 use Rattle.table.specs.Words.{empty_table, request_with}
 use Rattle.line.specs.Streams.{due, every, ends_before}
@@ -65,15 +65,15 @@ module _ (t : Table) (q r : Request) (a : Agree t q r) where
         asked_agrees,
       )
 
-  tables_agree : (x : Answer) → admit_with t q x ≡ admit_with t r x
-  tables_agree (Start s) = rw (a.need, a.period, asked_agrees)
-  tables_agree (Refused x) = refl
+  tables_agree : (x : Said ℕ) → admit_with t q x ≡ admit_with t r x
+  tables_agree (Ok s) = rw (a.need, a.period, asked_agrees)
+  tables_agree (Err x) = refl
 
   -- R6: entries that are not looked at change neither answer nor table
   pub ask_agrees : (ask_of t q ≡ ask_of t r) × (admit_of t q ≡ admit_of t r)
   ask_agrees = (answers_agree, ap (admit_with t q) answers_agree ∙ tables_agree (ask_of t r))
 
 -- R6: on the empty table an entry of 65,521 changes nothing: the new line starts at once
-pub empty_starts : ask_of empty_table (request_with (set (replicate 16 0) 3 65521) 3 5) ≡ Start 0
+pub empty_starts : ask_of empty_table (request_with (set (replicate 16 0) 3 65521) 3 5) ≡ Ok 0
 unfolding euclid gcd_of lcm_of frame_from total lowest due last_end map_at periods_in every ends_before ends_of slack bound greatest soonest_of first_short start ask_in ask_of
 empty_starts = refl

@@ -1,8 +1,9 @@
 -- Which case of `ask_of` holds, by the tests 1 to 6 that the code makes, and what they leave of the table and the request.
+use Rattle.std.specs.Prelude.{None, Some, Err, Option}
+use Rattle.table.specs.Words.{Said}
 use Prim.Native.Nat.{ℕ, ◌+◌, ◌-◌, ◌^◌, ◌≤◌, ◌<◌}
 use mathlib.Core.Path.{◌≡◌, ap, sym, ◌∙◌}
 use mathlib.Core.Bool.{Bool, true, false, not}
-use mathlib.Core.Option.{Option}
 use native.Mathlib.Omega.{arith}
 use lib.Dec.{leb}
 use lib.ListN.{length, get_or}
@@ -11,12 +12,8 @@ use Rattle.line.specs.declared.Slot.{Slot}
 use Rattle.table.specs.declared.Table.{Table}
 use Rattle.table.specs.declared.Request.{Request}
 use Rattle.table.specs.declared.Refusal.{Refusal}
-use Rattle.table.specs.declared.Answer.{Answer}
-use Rattle.table.specs.declared.Answer.TheVariants.{Refused}
-use Rattle.table.specs.declared.Which.{Which}
-use Rattle.table.specs.declared.Which.TheVariants.{None, At}
 use Rattle.line.specs.Slots.{at, both, lowest, lowest_of, is_nothing, is_waiting}
-use Rattle.table.specs.Words.{slot_of, refusal}
+use Rattle.table.specs.Words.{refusal}
 use Rattle.table.specs.Counts.{fault}
 use Rattle.table.proofs.Counts.{faultless}
 use Rattle.line.specs.Sound.{sound}
@@ -52,55 +49,55 @@ module _ {t : Table} {q : Request} {i : ℕ} (v : Barring t q i) where
     bar_on g = record { long = v.long; looking = look_on v.looking (omega (arith, v.long)) (bars_read g) }
 
     -- R25, R19: slot i is the one
-    pub bar_stop : b ≡ true → slot_of (At i) ≡ lowest (bars t q) (length t.slots)
+    pub bar_stop : b ≡ true → Some i ≡ lowest (bars t q) (length t.slots)
     bar_stop g = sym (look_stop v.looking (omega (arith, v.long)) (bars_read g))
 
   -- R25: there is none
-  pub bar_end : 16 ≤ i → slot_of None ≡ lowest (bars t q) (length t.slots)
+  pub bar_end : 16 ≤ i → None ≡ lowest (bars t q) (length t.slots)
   bar_end h = sym (look_end v.looking (omega (arith, v.long)))
 
 -- ---- each way out
 
 -- what a search says that gave `w`
-which_says : {w v : Which} {o : Option ℕ} → slot_of w ≡ o → w ≡ v → o ≡ slot_of v
-which_says e g = sym e ∙ ap slot_of g
+which_says : {w v : Option ℕ} {o : Option ℕ} → w ≡ o → w ≡ v → o ≡ v
+which_says e g = sym e ∙ g
 
 -- a refusal is near any clock
-pub refused_within : (clock : ℕ) {r : Answer} {x : Refusal} → r ≡ Refused x → Within clock r
+pub refused_within : (clock : ℕ) {r : Said ℕ} {x : Refusal} → r ≡ Err x → Within clock r
 refused_within clock e = rw e tt
 
-module _ (t : Table) (q : Request) {r : Answer} where
+module _ (t : Table) (q : Request) {r : Said ℕ} where
   -- R21: the clock is too late
-  pub ask_late : 2 ^ 48 - 65536 < t.clock → r ≡ Refused (refusal 1 0) → r ≡ ask_of t q
+  pub ask_late : 2 ^ 48 - 65536 < t.clock → r ≡ Err (refusal 1 0) → r ≡ ask_of t q
   unfolding ask_of
   ask_late h e = rw (lt-ltb (2 ^ 48 - 65536) t.clock h) e
 
-  module _ {w : Which} (h : t.clock ≤ 2 ^ 48 - 65536) (e2 : slot_of w ≡ lowest_of is_nothing t.slots) where
+  module _ {w : Option ℕ} (h : t.clock ≤ 2 ^ 48 - 65536) (e2 : w ≡ lowest_of is_nothing t.slots) where
     -- R22: no slot is free
-    pub ask_full : w ≡ None → r ≡ Refused (refusal 2 0) → r ≡ ask_of t q
+    pub ask_full : w ≡ None → r ≡ Err (refusal 2 0) → r ≡ ask_of t q
     unfolding ask_of
     ask_full g e = rw (le-ltb (2 ^ 48 - 65536) t.clock h, which_says e2 g) e
 
-    module _ {j : ℕ} {v : Which} (g2 : w ≡ At j) (e3 : slot_of v ≡ lowest_of is_waiting t.slots) where
+    module _ {j : ℕ} {v : Option ℕ} (g2 : w ≡ Some j) (e3 : v ≡ lowest_of is_waiting t.slots) where
       -- R23: a line waits
-      pub ask_waits : {k : ℕ} → v ≡ At k → r ≡ Refused (refusal 3 k) → r ≡ ask_of t q
+      pub ask_waits : {k : ℕ} → v ≡ Some k → r ≡ Err (refusal 3 k) → r ≡ ask_of t q
       unfolding ask_of
       ask_waits g e = rw (le-ltb (2 ^ 48 - 65536) t.clock h, which_says e2 g2, which_says e3 g) e
 
-      module _ {u : Which} (g3 : v ≡ None) (e4 : slot_of u ≡ fault t) where
+      module _ {u : Option ℕ} (g3 : v ≡ None) (e4 : u ≡ fault t) where
         -- R24: a line is unsound, or the counts are too many
-        pub ask_unsound : {k : ℕ} → u ≡ At k → r ≡ Refused (refusal 4 k) → r ≡ ask_of t q
+        pub ask_unsound : {k : ℕ} → u ≡ Some k → r ≡ Err (refusal 4 k) → r ≡ ask_of t q
         unfolding ask_of
         ask_unsound g e = rw (le-ltb (2 ^ 48 - 65536) t.clock h, which_says e2 g2, which_says e3 g3, which_says e4 g) e
 
-        module _ {s : Which} (g4 : u ≡ None) (e5 : slot_of s ≡ lowest (bars t q) (length t.slots)) where
+        module _ {s : Option ℕ} (g4 : u ≡ None) (e5 : s ≡ lowest (bars t q) (length t.slots)) where
           -- R25: a line may not have its T'
-          pub ask_barred : {k : ℕ} → s ≡ At k → r ≡ Refused (refusal 5 k) → r ≡ ask_of t q
+          pub ask_barred : {k : ℕ} → s ≡ Some k → r ≡ Err (refusal 5 k) → r ≡ ask_of t q
           unfolding ask_of
           ask_barred g e = rw (le-ltb (2 ^ 48 - 65536) t.clock h, which_says e2 g2, which_says e3 g3, which_says e4 g4, which_says e5 g) e
 
           -- R26: the new line does not fit its period
-          pub ask_misfit : {b : Bool} → s ≡ None → b ≡ both (leb 1 q.need) (leb q.need q.period) → not b ≡ true → r ≡ Refused (refusal 6 0) → r ≡ ask_of t q
+          pub ask_misfit : {b : Bool} → s ≡ None → b ≡ both (leb 1 q.need) (leb q.need q.period) → not b ≡ true → r ≡ Err (refusal 6 0) → r ≡ ask_of t q
           unfolding ask_of
           ask_misfit {b} g f m e =
               rw (le-ltb (2 ^ 48 - 65536) t.clock h, which_says e2 g2, which_says e3 g3, which_says e4 g4, which_says e5 g, sym f ∙ not-true b m) e
@@ -111,8 +108,8 @@ module _ (t : Table) (q : Request) {r : Answer} where
           ask_past g a = rw (le-ltb (2 ^ 48 - 65536) t.clock h, which_says e2 g2, which_says e3 g3, which_says e4 g4, which_says e5 g) a
 
 -- R23 to R25: what is known past the first five grounds
-pub allowed_all : (t : Table) (q : Request) {w v u : Which} → slot_of w ≡ lowest_of is_waiting t.slots → w ≡ None → slot_of v ≡ fault t → v ≡ None
-    → slot_of u ≡ lowest (bars t q) (length t.slots) → u ≡ None → AllAllowed t q
+pub allowed_all : (t : Table) (q : Request) {w v u : Option ℕ} → w ≡ lowest_of is_waiting t.slots → w ≡ None → v ≡ fault t → v ≡ None
+    → u ≡ lowest (bars t q) (length t.slots) → u ≡ None → AllAllowed t q
 allowed_all t q e3 g3 e4 g4 e5 g5 i h = (
   lowest_none (λ k. is_waiting (at t.slots k)) (length t.slots) (which_says e3 g3) i h,
   not-false _ (lowest_none (λ k. not (sound (at t.slots k))) (length t.slots) (faultless t (which_says e4 g4)).0 i h),

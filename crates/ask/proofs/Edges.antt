@@ -1,4 +1,6 @@
 -- Which requests agree before a table, at an example with each thing that a slot can hold; and which answers are allowed.
+use Rattle.std.specs.Prelude.{Ok, Err}
+use Rattle.table.specs.Words.{Said}
 use Prim.Native.Nat.{ℕ, zero, suc, ◌<◌}
 use mathlib.Core.Path.{◌≡◌, refl, ap}
 use mathlib.Core.List.{[], ◌∷◌}
@@ -6,8 +8,6 @@ use native.Mathlib.Omega.{arith}
 use lib.ListN.{length, replicate}
 use Rattle.table.specs.declared.Table.{Table}
 use Rattle.table.specs.declared.Request.{Request}
-use Rattle.table.specs.declared.Answer.{Answer}
-use Rattle.table.specs.declared.Answer.TheVariants.{Start, Refused}
 use Rattle.line.specs.Slots.{empty, at, lowest}
 use Rattle.table.specs.Words.{request_with, refusal}
 use Rattle.table.specs.Grounds.{entry}
@@ -48,15 +48,15 @@ pub apart_by_period : Agree mixed (asking 4 0 6 1 4) (asking 4 0 6 1 5) → ⊥
 apart_by_period a = omega (arith, a.period)
 
 -- R41: the line that waits in slot 2 is the first ground
-pub asked_mixed : Asked mixed (asking 4 0 6 1 4) (Refused (refusal 3 2))
+pub asked_mixed : Asked mixed (asking 4 0 6 1 4) (Err (refusal 3 2))
 unfolding lowest ask_of
 asked_mixed = asked mixed (asking 4 0 6 1 4) refl
 
 -- R41: the same ground at another place is no answer
-pub asked_elsewhere : Asked mixed (asking 4 0 6 1 4) (Refused (refusal 3 0)) → ⊥
+pub asked_elsewhere : Asked mixed (asking 4 0 6 1 4) (Err (refusal 3 0)) → ⊥
 unfolding lowest ask_of
 asked_elsewhere a = omega (arith, ap place_of a.computed)
   where
-    place_of : Answer → ℕ
-    place_of (Start r) = 0
-    place_of (Refused x) = x.place
+    place_of : Said ℕ → ℕ
+    place_of (Ok r) = 0
+    place_of (Err x) = x.place

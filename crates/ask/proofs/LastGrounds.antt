@@ -1,9 +1,10 @@
 -- What is decided of the lines gathered is the answer past the first five grounds.
+use Rattle.std.specs.Prelude.{Ok, Err, Option, None, Some}
+use Rattle.table.specs.Words.{Said}
 use Prim.Native.Nat.{ℕ, suc, ◌+◌, ◌-◌, ◌*◌, ◌/◌, ◌≤◌, ◌<◌}
 use mathlib.Core.Path.{◌≡◌, refl, ap, sym, ◌∙◌}
 use mathlib.Core.Bool.{Bool, true, false, not}
 use mathlib.Core.List.{List, [], ◌∷◌, map}
-use mathlib.Core.Option.{Option, none, some}
 use native.Mathlib.Omega.{arith}
 use lib.Dec.{ltb, leb}
 use lib.ListN.{length, take, length-map}
@@ -25,8 +26,6 @@ use Rattle.line.proofs.After.{by_follows_lem}
 use Rattle.line.proofs.Sound.{sound_says, barred_not, not_barred}
 use Rattle.table.specs.declared.Table.{Table}
 use Rattle.table.specs.declared.Request.{Request}
-use Rattle.table.specs.declared.Answer.{Answer}
-use Rattle.table.specs.declared.Answer.TheVariants.{Start, Refused}
 use Rattle.table.specs.Words.{short_refusal}
 use Rattle.table.specs.Grounds.{entry, asked}
 use Rattle.table.specs.Ask.{refused_if, refused_short, ask_in}
@@ -59,7 +58,7 @@ slot_fits p (Running r) a w =
     let v = sound_says (Running r) a.1 in
     let k = not_barred p r (λ b. barred_not p (Running r) b a.2) in
     let f : (g : ℕ) → p ≤ g → g ≤ longest → Fit (stream (p - r.age) r.remaining r.need g) = λ g b c.
-    record { some = omega (arith, v, k); ends = omega arith; less = omega (arith, v, k); rest = v.2; wide = c } in
+    record { Some = omega (arith, v, k); ends = omega arith; less = omega (arith, v, k); rest = v.2; wide = c } in
     let own = f p (omega arith) (omega arith) in
     ((own, by_follows_lem (λ (g : ℕ). Fit (stream (p - r.age) r.remaining r.need g)) p longest r.follows own (f longest (omega arith) (omega arith))), tt)
 slot_fits p (Waiting x) a w = absurd (true_false refl a.0)
@@ -79,7 +78,7 @@ fit_by (x ∷ l) a = let r = fit_by l a.1 in ((a.0.0, r.0), (a.0.1, r.1))
 -- ---- the ladder
 
 -- the refusal with the number of the first ground, or what comes after
-ladder : (a b c d : Bool) (rest : Answer)
+ladder : (a b c d : Bool) (rest : Said ℕ)
     → refused_if a 6 (refused_if b 7 (refused_if c 8 (refused_if d 9 rest)))
     ≡ refused_if (ltb 0 (pick a 6 (pick b 7 (pick c 8 (pick d 9 0))))) (pick a 6 (pick b 7 (pick c 8 (pick d 9 0)))) rest
 ladder true b c d rest = refl
@@ -98,7 +97,7 @@ answer_within clock (decision.Refused n) h = tt
 answer_within clock (decision.Short x) h = tt
 
 -- what is decided of the slices of the arrays, as an answer: it is what is decided of the lines gathered, and as near
-pub fronts_answer : (g : Gathered) (clock Cn Tn : ℕ) {d : Decision} {r : Answer} → Room g
+pub fronts_answer : (g : Gathered) (clock Cn Tn : ℕ) {d : Decision} {r : Said ℕ} → Room g
     → (d ≡ decided_in (take g.count g.end) (take g.count g.remaining) (take g.count g.need) (take g.count g.period) (take g.count g.gap) Cn Tn) × Near d
     → r ≡ answer_from clock d → (r ≡ answer_from clock (decided (gathered_lines g) Cn Tn)) × Within clock r
 fronts_answer g clock Cn Tn {d} room e a = (a ∙ ap (answer_from clock) (e.0 ∙ fronts_decided g room Cn Tn), rw a (answer_within clock d e.1))
@@ -119,8 +118,8 @@ module _ (t : Table) (q : Request) (fp : fitting (map by_period (lines_in (asked
   abbrev behind : Bool
   behind = ltb (total (full F) l) (total (claim F) l)
 
-  abbrev rest : Answer
-  rest = refused_short (first_short t.clock l) (λ d. ticks_short (excess_at t.clock l d)) (Start (start t.clock l q.need q.period))
+  abbrev rest : Said ℕ
+  rest = refused_short (first_short t.clock l) (λ d. ticks_short (excess_at t.clock l d)) (Ok (start t.clock l q.need q.period))
 
   -- what the sums say, and what the pass says
   abbrev first : ℕ
@@ -160,10 +159,10 @@ module _ (t : Table) (q : Request) (fp : fitting (map by_period (lines_in (asked
         bounds = bound_by q.need q.period (last_by spaced) (demand_of spaced)
 
         go : (o : Option ℕ) → soonest_of (short_by (demand_of spaced)) ends ≡ o → answer_from t.clock (decided_by (pass_by (demand_of spaced) o (greatest bounds 0 ends))) ≡ rest
-        go none e = rw (short_lines l (fitting_says _ fg) t.clock, e) (ap Start (start_lines l (fitting_says _ fg) t.clock q.need q.period need_some))
-        go (some d) e =
+        go None e = rw (short_lines l (fitting_says _ fg) t.clock, e) (ap Ok (start_lines l (fitting_says _ fg) t.clock q.need q.period need_some))
+        go (Some d) e =
             rw (short_lines l (fitting_says _ fg) t.clock, e)
-            (ap (λ x. Refused (short_refusal (t.clock + d) (ticks_short x))) (sym (over_lines l (fitting_says _ fg) t.clock d e)))
+            (ap (λ x. Err (short_refusal (t.clock + d) (ticks_short x))) (sym (over_lines l (fitting_says _ fg) t.clock d e)))
 
   lines_decide : answer_from t.clock (decided (lines_in l) q.need q.period) ≡ past_five t q
   unfolding decided
@@ -174,7 +173,7 @@ module _ (t : Table) (q : Request) (fp : fitting (map by_period (lines_in (asked
       go false e = rw e (rest_is (ltb-false 0 first e))
 
 -- R26 to R30, R14: what is decided of the lines gathered is the answer past the first five grounds
-pub gathered_decide : (t : Table) (q : Request) (g : Gathered) {r : Answer} → Gathers t q g → AllAllowed t q → r ≡ answer_from t.clock (decided (gathered_lines g) q.need q.period) → r ≡ past_five t q
+pub gathered_decide : (t : Table) (q : Request) (g : Gathered) {r : Said ℕ} → Gathers t q g → AllAllowed t q → r ≡ answer_from t.clock (decided (gathered_lines g) q.need q.period) → r ≡ past_five t q
 gathered_decide t q g v a e =
     let l = lines_in (asked t q) in
     let f = fit_by l (asked_fits t.slots (entry q) a v.wide) in

@@ -1,5 +1,6 @@
 -- What is gathered of a table and a request for the decision, and what was decided, as an answer.
-use Rattle.std.specs.Prelude.{ℕ, ◌+◌, ◌≤◌, ◌<◌, ◌≡◌, true, false, not, List, leb, length}
+use Rattle.std.specs.Prelude.{Ok, Err, ℕ, ◌+◌, ◌≤◌, ◌<◌, ◌≡◌, true, false, not, List, leb, length}
+use Rattle.table.specs.Words.{Said}
 use Rattle.line.specs.declared.Held.{Held}
 use Rattle.line.specs.Slots.{both, at, is_waiting}
 use Rattle.line.specs.Sound.{sound}
@@ -7,8 +8,6 @@ use Rattle.line.specs.Shares.{frame}
 use Rattle.line.specs.Stretch.{barred}
 use Rattle.table.specs.declared.Table.{Table}
 use Rattle.table.specs.declared.Request.{Request}
-use Rattle.table.specs.declared.Answer.{Answer}
-use Rattle.table.specs.declared.Answer.TheVariants.{Start, Refused}
 use Rattle.table.specs.Words.{refusal, short_refusal}
 use Rattle.table.specs.Grounds.{entry, asked}
 use Rattle.table.specs.Ask.{refused_if, ask_in}
@@ -43,13 +42,13 @@ abbrev pub AllAllowed : Table → Request → Type 0
 AllAllowed t q = (i : ℕ) → i < length t.slots → Allowed (entry q i) (at t.slots i)
 
 -- R18: past the grounds 1 to 5: R26, then R27 to R30 or R14
-unfoldable pub past_five : Table → Request → Answer
+unfoldable pub past_five : Table → Request → Said ℕ
 past_five t q =
     refused_if (not (both (leb 1 q.need) (leb q.need q.period))) 6
     (ask_in t.clock (frame (asked t q) q.period) (asked t q) q.need q.period)
 
 -- R17, R41, R103: what was decided, as an answer: a start and a short tick are counted from the clock on, and these grounds have place 0
-abbrev pub answer_from : (clock : ℕ) → Decision → Answer
-answer_from clock (decision.Start d) = Start (clock + d)
-answer_from clock (decision.Refused n) = Refused (refusal n 0)
-answer_from clock (decision.Short x) = Refused (short_refusal (clock + x.after) x.excess)
+abbrev pub answer_from : (clock : ℕ) → Decision → Said ℕ
+answer_from clock (decision.Start d) = Ok (clock + d)
+answer_from clock (decision.Refused n) = Err (refusal n 0)
+answer_from clock (decision.Short x) = Err (short_refusal (clock + x.after) x.excess)

@@ -1,3 +1,4 @@
+use Rattle.table.specs.Words.{Said}
 -- The laws of the calls: what is read and loaded, the run, the operations; what follows for bytes; the edges.
 pub mod Said
 pub mod Run

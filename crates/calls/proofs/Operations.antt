@@ -1,23 +1,20 @@
 -- The operations on a table that was loaded: what is answered and stored, by the case that came out.
+use Rattle.std.specs.Prelude.{Option, Ok, Err}
+use Rattle.table.specs.Words.{Said}
 use mathlib.Core.Path.{◌≡◌, refl, sym, ap, ◌∙◌}
 use mathlib.Core.List.{List}
 use Prim.Native.Nat.{ℕ}
 use Rattle.table.specs.declared.Table.{Table}
 use Rattle.table.specs.declared.Request.{Request}
 use Rattle.table.specs.declared.Refusal.{Refusal}
-use Rattle.table.specs.declared.Answer.{Answer}
-use Rattle.table.specs.declared.Answer.TheVariants.{Start, Refused}
 use Rattle.table.specs.declared.Admitted.{Admitted}
-use Rattle.table.specs.declared.Which.{Which}
-use Rattle.table.specs.declared.Outcome.{Outcome}
 use Rattle.table.specs.declared.Stepped.{Stepped}
-use Rattle.table.specs.declared.Leaving.{Leaving}
 use Rattle.table.specs.declared.Left.{Left}
-use Rattle.table.specs.Words.{slot_of, gives, slot_number}
-use Rattle.table.specs.Ask.{says, ask_of}
+use Rattle.table.specs.Words.{slot_number}
+use Rattle.table.specs.Ask.{ask_of}
 use Rattle.table.specs.Admit.{admit_of}
-use Rattle.table.specs.Step.{says_ran, step_of}
-use Rattle.table.specs.Leave.{says_leaving, leave_of}
+use Rattle.table.specs.Step.{step_of}
+use Rattle.table.specs.Leave.{leave_of}
 use Rattle.admit.proofs.Right.{admitted_answer}
 use Rattle.board.specs.Board.{ReadyWord}
 use Rattle.image.specs.Answers.{stored_in}
@@ -26,7 +23,7 @@ use Rattle.calls.specs.Results.{granted_as, refused_as, result_of}
 use Rattle.calls.specs.Tables.{changed, asked_as, admitted_in, ran_as, stepped_as, stepped_in, left_as, left_in, ReadyFor}
 
 -- R89: the value is the ready word
-pub ready_granted : (t : Table) {r : Result} {w : ℕ} → r ≡ granted_as 0 w → ReadyWord t.slots w → ReadyFor (gives t) r
+pub ready_granted : (t : Table) {r : Result} {w : ℕ} → r ≡ granted_as 0 w → ReadyWord t.slots w → ReadyFor (Ok t) r
 ready_granted t e h = rw e (refl, h)
 
 module _ (t : Table) (q : Request) {m : Admitted} (e : m ≡ admit_of t q) where
@@ -35,17 +32,17 @@ module _ (t : Table) (q : Request) {m : Admitted} (e : m ≡ admit_of t q) where
   admit_answer = ap (λ (x : Admitted). x.answer) e ∙ admitted_answer t q (ask_of t q)
 
   -- R87: with a start the admitted table was stored
-  pub admit_granted : {r : ℕ} {o : List ℕ} (l : List ℕ) → m.answer ≡ Start r → o ≡ stored_in m.table l → o ≡ admitted_in t q l
+  pub admit_granted : {r : ℕ} {o : List ℕ} (l : List ℕ) → m.answer ≡ Ok r → o ≡ stored_in m.table l → o ≡ admitted_in t q l
   admit_granted l h s =
       s ∙ ap (λ (x : Admitted). stored_in x.table l) e
-      ∙ ap (λ (a : Answer). changed (says a) (stored_in (admit_of t q).table l) l) (sym h ∙ admit_answer)
+      ∙ ap (λ (a : Said ℕ). changed (a) (stored_in (admit_of t q).table l) l) (sym h ∙ admit_answer)
 
   -- R17, R87: a refusal stores nothing
-  pub admit_refused : {x : Refusal} {r : Result} (l : List ℕ) → m.answer ≡ Refused x → r ≡ refused_as x
-      → (r ≡ asked_as t (says (ask_of t q))) × (l ≡ admitted_in t q l)
+  pub admit_refused : {x : Refusal} {r : Result} (l : List ℕ) → m.answer ≡ Err x → r ≡ refused_as x
+      → (r ≡ asked_as t ((ask_of t q))) × (l ≡ admitted_in t q l)
   admit_refused l h s = (
-    s ∙ ap (λ (a : Answer). asked_as t (says a)) (sym h ∙ admit_answer),
-    ap (λ (a : Answer). changed (says a) (stored_in (admit_of t q).table l) l) (sym h ∙ admit_answer),
+    s ∙ ap (λ (a : Said ℕ). asked_as t (a)) (sym h ∙ admit_answer),
+    ap (λ (a : Said ℕ). changed (a) (stored_in (admit_of t q).table l) l) (sym h ∙ admit_answer),
   )
 
 module _ (t : Table) {s : Stepped} (e : s ≡ step_of t) where
@@ -53,20 +50,20 @@ module _ (t : Table) {s : Stepped} (e : s ≡ step_of t) where
   outcome_is = ap (λ (x : Stepped). x.outcome) e
 
   -- R88: the slot that ran is answered, and the new table was stored
-  pub step_ran : {w : Which} {k : ℕ} {r : Result} (l o : List ℕ) → s.outcome ≡ Outcome.Ran w → k ≡ slot_number (slot_of w) → r ≡ granted_as 0 k
+  pub step_ran : {w : Option ℕ} {k : ℕ} {r : Result} (l o : List ℕ) → s.outcome ≡ Ok w → k ≡ slot_number (w) → r ≡ granted_as 0 k
       → o ≡ stored_in s.table l → (r ≡ stepped_as t) × (o ≡ stepped_in t l)
   step_ran l o h n g p = (
-    g ∙ ap (granted_as 0) n ∙ ap (λ (x : Outcome). ran_as (says_ran x)) (sym h ∙ outcome_is),
+    g ∙ ap (granted_as 0) n ∙ ap (λ (x : Said (Option ℕ)). ran_as (x)) (sym h ∙ outcome_is),
     p ∙ ap (λ (x : Stepped). stored_in x.table l) e
-        ∙ ap (λ (x : Outcome). changed (says_ran x) (stored_in (step_of t).table l) l) (sym h ∙ outcome_is),
+        ∙ ap (λ (x : Said (Option ℕ)). changed (x) (stored_in (step_of t).table l) l) (sym h ∙ outcome_is),
   )
 
   -- R17, R88: a refused step stores nothing
-  pub step_refused : {x : Refusal} {r : Result} (l : List ℕ) → s.outcome ≡ Outcome.Refused x → r ≡ refused_as x
+  pub step_refused : {x : Refusal} {r : Result} (l : List ℕ) → s.outcome ≡ Err x → r ≡ refused_as x
       → (r ≡ stepped_as t) × (l ≡ stepped_in t l)
   step_refused l h g = (
-    g ∙ ap (λ (x : Outcome). ran_as (says_ran x)) (sym h ∙ outcome_is),
-    ap (λ (x : Outcome). changed (says_ran x) (stored_in (step_of t).table l) l) (sym h ∙ outcome_is),
+    g ∙ ap (λ (x : Said (Option ℕ)). ran_as (x)) (sym h ∙ outcome_is),
+    ap (λ (x : Said (Option ℕ)). changed (x) (stored_in (step_of t).table l) l) (sym h ∙ outcome_is),
   )
 
 module _ (t : Table) (n : ℕ) {s : Left} (e : s ≡ leave_of t n) where
@@ -74,16 +71,16 @@ module _ (t : Table) (n : ℕ) {s : Left} (e : s ≡ leave_of t n) where
   leaving_is = ap (λ (x : Left). x.leaving) e
 
   -- R102: the ticks are answered, and the new table was stored
-  pub leave_granted : {k : ℕ} {r : Result} (l o : List ℕ) → s.leaving ≡ Leaving.In k → r ≡ granted_as 0 k → o ≡ stored_in s.table l → (r ≡ left_as t n) × (o ≡ left_in t n l)
+  pub leave_granted : {k : ℕ} {r : Result} (l o : List ℕ) → s.leaving ≡ Ok k → r ≡ granted_as 0 k → o ≡ stored_in s.table l → (r ≡ left_as t n) × (o ≡ left_in t n l)
   leave_granted l o h g p = (
-    g ∙ ap (λ (x : Leaving). result_of (says_leaving x)) (sym h ∙ leaving_is),
+    g ∙ ap (λ (x : Said ℕ). result_of (x)) (sym h ∙ leaving_is),
     p ∙ ap (λ (x : Left). stored_in x.table l) e
-        ∙ ap (λ (x : Leaving). changed (says_leaving x) (stored_in (leave_of t n).table l) l) (sym h ∙ leaving_is),
+        ∙ ap (λ (x : Said ℕ). changed (x) (stored_in (leave_of t n).table l) l) (sym h ∙ leaving_is),
   )
 
   -- R17, R102: a refused leave stores nothing
-  pub leave_refused : {x : Refusal} {r : Result} (l : List ℕ) → s.leaving ≡ Leaving.Refused x → r ≡ refused_as x → (r ≡ left_as t n) × (l ≡ left_in t n l)
+  pub leave_refused : {x : Refusal} {r : Result} (l : List ℕ) → s.leaving ≡ Err x → r ≡ refused_as x → (r ≡ left_as t n) × (l ≡ left_in t n l)
   leave_refused l h g = (
-    g ∙ ap (λ (x : Leaving). result_of (says_leaving x)) (sym h ∙ leaving_is),
-    ap (λ (x : Leaving). changed (says_leaving x) (stored_in (leave_of t n).table l) l) (sym h ∙ leaving_is),
+    g ∙ ap (λ (x : Said ℕ). result_of (x)) (sym h ∙ leaving_is),
+    ap (λ (x : Said ℕ). changed (x) (stored_in (leave_of t n).table l) l) (sym h ∙ leaving_is),
   )

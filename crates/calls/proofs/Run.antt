@@ -1,58 +1,56 @@
 -- A run: what was counted, and what the ticks that are left say, make what all ticks say.
+use Rattle.std.specs.Prelude.{Option, Ok, Err}
 use mathlib.Core.Path.{◌≡◌, refl, sym, ap, ◌∙◌}
 use Prim.Native.Nat.{ℕ, suc, ◌+◌, ◌-◌, ◌≤◌, ◌<◌}
 use native.Mathlib.Omega.{arith}
 use Rattle.table.specs.declared.Table.{Table}
 use Rattle.table.specs.declared.Refusal.{Refusal}
-use Rattle.table.specs.declared.Which.{Which}
-use Rattle.table.specs.declared.Outcome.{Outcome}
-use Rattle.table.specs.declared.Outcome.TheVariants.{Ran, Refused}
 use Rattle.table.specs.declared.Stepped.{Stepped}
-use Rattle.table.specs.Words.{slot_of, Said, gives, refuses}
-use Rattle.table.specs.Step.{says_ran, step_of}
+use Rattle.table.specs.Words.{Said}
+use Rattle.table.specs.Step.{step_of}
 use Rattle.calls.specs.Cards.{counted, more, and_then, ticks_run}
 
 more_more : (a b : ℕ) (s : Said ℕ) → more (a + b) s ≡ more a (more b s)
-more_more a b (gives n) = ap gives (omega arith)
-more_more a b (refuses x) = refl
+more_more a b (Ok n) = ap Ok (omega arith)
+more_more a b (Err x) = refl
 
 -- nothing is counted, and all ticks are left
 pub run_start : (ticks : ℕ) (t : Table) → more 0 (ticks_run (ticks - 0) t) ≡ ticks_run ticks t
 run_start ticks t = ap (λ (n : ℕ). more 0 (ticks_run n t)) (omega arith) ∙ go (ticks_run ticks t)
   where
     go : (s : Said ℕ) → more 0 s ≡ s
-    go (gives n) = ap gives (omega arith)
-    go (refuses x) = refl
+    go (Ok n) = ap Ok (omega arith)
+    go (Err x) = refl
 
 -- no tick is left
-pub run_end : (ticks i ran : ℕ) (t : Table) → ticks ≤ i → gives ran ≡ more ran (ticks_run (ticks - i) t)
+pub run_end : (ticks i ran : ℕ) (t : Table) → ticks ≤ i → Ok ran ≡ more ran (ticks_run (ticks - i) t)
 unfolding ticks_run
 run_end ticks i ran t h =
-    ap gives (omega arith) ∙ ap (λ (n : ℕ). more ran (ticks_run n t)) (sym left)
+    ap Ok (omega arith) ∙ ap (λ (n : ℕ). more ran (ticks_run n t)) (sym left)
   where
     left : ticks - i ≡ 0
     left = omega arith
 
-one_tick : (n : ℕ) (t : Table) → ticks_run (suc n) t ≡ and_then (says_ran (step_of t).outcome) (ticks_run n (step_of t).table)
+one_tick : (n : ℕ) (t : Table) → ticks_run (suc n) t ≡ and_then ((step_of t).outcome) (ticks_run n (step_of t).table)
 unfolding ticks_run
 one_tick n t = refl
 
 module _ (ticks i ran : ℕ) (t : Table) (h : i < ticks) {s : Stepped} (e : s ≡ step_of t) where
-  next : ticks_run (ticks - i) t ≡ and_then (says_ran s.outcome) (ticks_run (ticks - (i + 1)) s.table)
+  next : ticks_run (ticks - i) t ≡ and_then (s.outcome) (ticks_run (ticks - (i + 1)) s.table)
   next =
       ap (λ (n : ℕ). ticks_run n t) (omega arith) ∙ one_tick (ticks - (i + 1)) t
-      ∙ ap (λ (x : Stepped). and_then (says_ran x.outcome) (ticks_run (ticks - (i + 1)) x.table)) (sym e)
+      ∙ ap (λ (x : Stepped). and_then (x.outcome) (ticks_run (ticks - (i + 1)) x.table)) (sym e)
 
   -- R66: a step that ran moves its tick from what is left to what was counted
-  pub run_on : (w : Which) → s.outcome ≡ Ran w → (k : ℕ) → k ≡ counted (slot_of w)
+  pub run_on : (w : Option ℕ) → s.outcome ≡ Ok w → (k : ℕ) → k ≡ counted (w)
       → more (ran + k) (ticks_run (ticks - (i + 1)) s.table) ≡ more ran (ticks_run (ticks - i) t)
   run_on w o k n =
       let rest = ticks_run (ticks - (i + 1)) s.table in
       more_more ran k rest ∙ ap (λ (j : ℕ). more ran (more j rest)) n
-      ∙ ap (λ (x : Outcome). more ran (and_then (says_ran x) rest)) (sym o) ∙ ap (more ran) (sym next)
+      ∙ ap (λ (x : Said (Option ℕ)). more ran (and_then (x) rest)) (sym o) ∙ ap (more ran) (sym next)
 
   -- R66: a refused step settles what all ticks say
-  pub run_stop : (x : Refusal) → s.outcome ≡ Refused x → refuses x ≡ more ran (ticks_run (ticks - i) t)
+  pub run_stop : (x : Refusal) → s.outcome ≡ Err x → Err x ≡ more ran (ticks_run (ticks - i) t)
   run_stop x o =
-      ap (λ (y : Outcome). more ran (and_then (says_ran y) (ticks_run (ticks - (i + 1)) s.table))) (sym o)
+      ap (λ (y : Said (Option ℕ)). more ran (and_then (y) (ticks_run (ticks - (i + 1)) s.table))) (sym o)
       ∙ ap (more ran) (sym next)

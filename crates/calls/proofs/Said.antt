@@ -1,9 +1,10 @@
 -- What the reader and the loader hand out says what was read.
+use Rattle.std.specs.Prelude.{Ok, Err}
 use mathlib.Core.Path.{◌≡◌, sym, ap, ◌∙◌}
 use mathlib.Core.List.{List}
 use Prim.Native.Nat.{ℕ}
 use Rattle.table.specs.declared.Refusal.{Refusal}
-use Rattle.table.specs.Words.{Said, gives, refuses}
+use Rattle.table.specs.Words.{Said}
 use Rattle.card.specs.declared.CardAnswer.TheVariants.{Read, Refused}
 use Rattle.card.specs.declared.ReadCard.{ReadCard}
 use Rattle.card.specs.Card.{Card, carrying}
@@ -22,7 +23,7 @@ module _ (card : List ℕ) {c : ReadCard} (e : c ≡ handed (turned_of card) (re
   said = sym (said_handed (turned_of card) (read_of card)) ∙ ap said_read (sym e)
 
   -- R56: where the answer is that the card was read, it reads as the table and the request beside it
-  pub was_read : c.answer ≡ Read → read_of card ≡ gives (carrying c.table c.request)
+  pub was_read : c.answer ≡ Read → read_of card ≡ Ok (carrying c.table c.request)
   was_read h = said ∙ ap (said_with c.table c.request) h
 
   -- R58: and the word beside it has the slots whose records were TA
@@ -30,7 +31,7 @@ module _ (card : List ℕ) {c : ReadCard} (e : c ≡ handed (turned_of card) (re
   was_turned h = ap (λ (x : ReadCard). x.turned) e ∙ ap (λ (s : Said Card). (handed (turned_of card) s).turned) (was_read h)
 
   -- R56: where the answer is a refusal, the card is refused by it
-  pub was_refused : (x : Refusal) → c.answer ≡ Refused x → read_of card ≡ refuses x
+  pub was_refused : (x : Refusal) → c.answer ≡ Refused x → read_of card ≡ Err x
   was_refused x h = said ∙ ap (said_with c.table c.request) h
 
 module _ (l : List ℕ) {x : Loaded} (e : x ≡ handed_out (load_of l)) where
@@ -38,9 +39,9 @@ module _ (l : List ℕ) {x : Loaded} (e : x ≡ handed_out (load_of l)) where
   told = sym (said_loaded_lem (load_of l)) ∙ ap said_loaded (sym e)
 
   -- R84: where the answer is that the image was read, it loads as the table beside it
-  pub was_loaded : x.answer ≡ LoadAnswer.Read → load_of l ≡ gives x.table
+  pub was_loaded : x.answer ≡ LoadAnswer.Read → load_of l ≡ Ok x.table
   was_loaded h = told ∙ ap (said_beside x.table) h
 
   -- R84: where the answer is a refusal, the image is refused by it
-  pub not_loaded : (r : Refusal) → x.answer ≡ LoadAnswer.Refused r → load_of l ≡ refuses r
+  pub not_loaded : (r : Refusal) → x.answer ≡ LoadAnswer.Refused r → load_of l ≡ Err r
   not_loaded r h = told ∙ ap (said_beside x.table) h

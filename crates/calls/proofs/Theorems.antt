@@ -1,7 +1,7 @@
 -- What follows for bytes: 209 of them settle a card's answer, a card that reads is written anew as its twin, and an image that was changed is the new table's.
+use Rattle.std.specs.Prelude.{Ok, Err, Option, None, Some}
 use mathlib.Core.Path.{◌≡◌, refl, ap, ap₂, ◌∙◌}
 use mathlib.Core.List.{List, ◌++◌, append-nil}
-use mathlib.Core.Option.{Option, none, some}
 use mathlib.Core.Bool.{Bool, true, false}
 use Prim.Native.Nat.{ℕ, ◌≤◌, ◌<◌}
 use native.Mathlib.Omega.{arith}
@@ -11,11 +11,11 @@ use borrow.Author.Tests.{leb-true, le-leb, lt-leb}
 use Rattle.line.specs.Slots.{pick, is_waiting, lowest_of}
 use Rattle.table.specs.declared.Table.{Table}
 use Rattle.table.specs.declared.Request.{Request}
-use Rattle.table.specs.Words.{refusal, Said, gives, refuses}
-use Rattle.table.specs.Ask.{says, ask_of}
+use Rattle.table.specs.Words.{refusal, Said}
+use Rattle.table.specs.Ask.{ask_of}
 use Rattle.table.specs.Admit.{admit_of}
-use Rattle.table.specs.Step.{says_ran, step_of}
-use Rattle.table.specs.Leave.{says_leaving, leave_of}
+use Rattle.table.specs.Step.{step_of}
+use Rattle.table.specs.Leave.{leave_of}
 use Rattle.card.specs.Bytes.{Bytes}
 use Rattle.card.specs.Card.{Card, card_of}
 use Rattle.card.specs.Reading.{read_of}
@@ -45,7 +45,7 @@ rewrite_by_209 l m buffer e =
     (ap₂ (λ (k : ℕ) (s : Said Card). result_at k (rewrite_for s (length buffer))) v.1 v.0, ap (λ (s : Said Card). rewritten_for s buffer) v.0)
 
 -- a card that reads, before a buffer
-module _ (card buffer : List ℕ) (b : Bytes card) (c : Card) (e : read_of card ≡ gives c) where
+module _ (card buffer : List ℕ) (b : Bytes card) (c : Card) (e : read_of card ≡ Ok c) where
   -- what is answered and held once the test of the length has come out
   answered : {o : Bool} → leb (length card) (length buffer) ≡ o
       → (rewrite_as card (length buffer) ≡ result_at (turned_of card) (fitting (length card) o)) × (rewritten_of card buffer ≡ filled (twin_of card) buffer (fitting (length card) o))
@@ -75,37 +75,37 @@ pub rewritten_fits : (card : List ℕ) (room : ℕ) → (rewrite_as card room).v
 unfolding length_of
 rewritten_fits card room = go (turned_of card) (read_of card)
   where
-    unless : (k n : ℕ) (o : Option ℕ) (b : Bool) → leb n room ≡ b → (result_at k (unless_waiting o (pick b (gives n) (refuses (refusal 13 0))))).value ≤ room
-    unless k n (some i) b e = omega arith
-    unless k n none true e = leb-true n room e
-    unless k n none false e = omega arith
+    unless : (k n : ℕ) (o : Option ℕ) (b : Bool) → leb n room ≡ b → (result_at k (unless_waiting o (pick b (Ok n) (Err (refusal 13 0))))).value ≤ room
+    unless k n (Some i) b e = omega arith
+    unless k n None true e = leb-true n room e
+    unless k n None false e = omega arith
 
     go : (k : ℕ) (s : Said Card) → (result_at k (rewrite_for s room)).value ≤ room
-    go k (gives c) = unless k (length (card_of c.table c.request)) (lowest_of is_waiting c.table.slots) (leb (length (card_of c.table c.request)) room) refl
-    go k (refuses x) = omega arith
+    go k (Ok c) = unless k (length (card_of c.table c.request)) (lowest_of is_waiting c.table.slots) (leb (length (card_of c.table c.request)) room) refl
+    go k (Err x) = omega arith
 
 -- R84: a buffer that an image fills holds a stored table's image and nothing else
-pub stored_image : (l : List ℕ) (t u : Table) → load_of l ≡ gives t → stored_in u l ≡ image_of u
+pub stored_image : (l : List ℕ) (t u : Table) → load_of l ≡ Ok t → stored_in u l ≡ image_of u
 stored_image l t u e =
     let n : length l ≡ 298 = loaded_length 16 l t e in
     stored_is u l (omega arith) ∙ ap (λ (x : List ℕ). image_of u ++ x) (drop_of_length-le l {i = 298} (omega arith)) ∙ append-nil (image_of u)
 
 -- bytes that load as a table
-module _ (l : List ℕ) (t : Table) (e : load_of l ≡ gives t) where
+module _ (l : List ℕ) (t : Table) (e : load_of l ≡ Ok t) where
   -- R88: where a step is not refused they are the stepped table's image
-  pub step_leaves : (o : Option ℕ) → says_ran (step_of t).outcome ≡ gives o → after_step (load_of l) l ≡ image_of (step_of t).table
+  pub step_leaves : (o : Option ℕ) → (step_of t).outcome ≡ Ok o → after_step (load_of l) l ≡ image_of (step_of t).table
   step_leaves o h =
       ap (λ (s : Said Table). after_step s l) e ∙ ap (λ (s : Said (Option ℕ)). changed s (stored_in (step_of t).table l) l) h
       ∙ stored_image l t (step_of t).table e
 
   -- R87: where a request is granted they are the admitted table's image
-  pub admit_leaves : (q : Request) (r : ℕ) → says (ask_of t q) ≡ gives r → after_admit (load_of l) q l ≡ image_of (admit_of t q).table
+  pub admit_leaves : (q : Request) (r : ℕ) → ask_of t q ≡ Ok r → after_admit (load_of l) q l ≡ image_of (admit_of t q).table
   admit_leaves q r h =
       ap (λ (s : Said Table). after_admit s q l) e ∙ ap (λ (s : Said ℕ). changed s (stored_in (admit_of t q).table l) l) h
       ∙ stored_image l t (admit_of t q).table e
 
   -- R102: where a line is let go they are the image of the table that this leaves
-  pub leave_leaves : (n k : ℕ) → says_leaving (leave_of t n).leaving ≡ gives k → after_leave (load_of l) n l ≡ image_of (leave_of t n).table
+  pub leave_leaves : (n k : ℕ) → (leave_of t n).leaving ≡ Ok k → after_leave (load_of l) n l ≡ image_of (leave_of t n).table
   leave_leaves n k h =
       ap (λ (s : Said Table). after_leave s n l) e ∙ ap (λ (s : Said ℕ). changed s (stored_in (leave_of t n).table l) l) h
       ∙ stored_image l t (leave_of t n).table e

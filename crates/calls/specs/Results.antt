@@ -1,7 +1,7 @@
 -- The five numbers that a call answers (R63, R103).
-use Rattle.std.specs.Prelude.{ℕ}
+use Rattle.std.specs.Prelude.{Ok, Err, ℕ}
 use Rattle.table.specs.declared.Refusal.{Refusal}
-use Rattle.table.specs.Words.{Said, gives, refuses}
+use Rattle.table.specs.Words.{Said}
 use Rattle.calls.specs.declared.Result.{Result}
 
 -- R63: granted, with a place and a value
@@ -14,8 +14,8 @@ refused_as x = record { number = x.number; place = x.place; value = 0; tick = x.
 
 -- R63: what was asked for with a place, or the refusal
 abbrev pub result_at : (place : ℕ) → Said ℕ → Result
-result_at k (gives v) = granted_as k v
-result_at k (refuses x) = refused_as x
+result_at k (Ok v) = granted_as k v
+result_at k (Err x) = refused_as x
 
 -- R63: what was asked for, or the refusal
 abbrev pub result_of : Said ℕ → Result

@@ -1,36 +1,32 @@
 // A card's answer and its line, the card written anew, and the run of its table with its request admitted.
-ghost use Rattle.std.specs.Prelude.{◌≡◌, ◌≤◌, length};
-ghost use Rattle.table.specs.Words.{slot_of};
-ghost use Rattle.table.specs.Ask.{says};
+ghost use Rattle.std.specs.Prelude.{Ok, Err, ◌≡◌, ◌≤◌, length};
 ghost use Rattle.table.specs.Admit.{admit_of};
 ghost use Rattle.reply.specs.Line.{answer_line, held_after};
 ghost use Rattle.calls.specs.Results.{result_of};
 ghost use Rattle.calls.specs.Cards.{answer_of, put_of, rewrite_as, rewritten_of, counted, ticks_run, run_admitted};
 
 use crate::Result;
-use card::CardAnswer;
-use reply::Written;
-use table::{Answer, Outcome, Refusal, Request, Table, Which};
+use table::{Refusal, Request, Table};
 
 // R60: the reader's refusal, or what ask answers
-pub fn answer(card: &[u8]) -> Answer
+pub fn answer(card: &[u8]) -> Result<u64, Refusal>
     ensures { result ≡ answer_of card.now }
 {
     let c = reader::read(card);
     let said = c.answer;
     match said {
-        CardAnswer::Read => ask::ask(c.table, c.request),
-        CardAnswer::Refused(x) => Answer::Refused(x),
+        Ok(()) => ask::ask(c.table, c.request),
+        Err(x) => Err(x),
     }
 }
 
 // R33, R62: the line of an answer in a lent buffer, or refusal 13.
-pub fn put_line(a: Answer, out: &mut [u8]) -> Result
-    ensures { (result ≡ result_of (put_of (answer_line (says a)) out.old)) × (out.new ≡ held_after (answer_line (says a)) out.old) }
+pub fn put_line(a: Result<u64, Refusal>, out: &mut [u8]) -> Result
+    ensures { (result ≡ result_of (put_of (answer_line (a)) out.old)) × (out.new ≡ held_after (answer_line (a)) out.old) }
 {
     match reply::put_reply(a, out) {
-        Written::Length(n) => Result::granted(0, n as u64),
-        Written::Short => Result::refused(Refusal::new(13, 0)),
+        Some(n) => Result::granted(0, n as u64),
+        None => Result::refused(Refusal::new(13, 0)),
     }
 }
 
@@ -41,20 +37,20 @@ pub fn rewrite(card: &[u8], out: &mut [u8]) -> Result
     let c = reader::read(card);
     let said = c.answer;
     match said {
-        CardAnswer::Read => {
+        Ok(()) => {
             crate::written(c.turned as u64, writer::write(c.table, c.request, out))
         }
-        CardAnswer::Refused(x) => Result::refused(x),
+        Err(x) => Result::refused(x),
     }
 }
 
 // R66: 1 for a tick in which a line ran.
-fn count_of(w: Which) -> u16
-    ensures { (result ≡ counted (slot_of w)) × (result ≤ 1) }
+fn count_of(w: Option<usize>) -> u16
+    ensures { (result ≡ counted (w)) × (result ≤ 1) }
 {
     match w {
-        Which::None => 0,
-        Which::At(_) => 1,
+        None => 0,
+        Some(_) => 1,
     }
 }
 
@@ -69,10 +65,10 @@ fn run_table(start: Table, ticks: u16) -> Result
         let s = driver::driven(t);
         let o = s.outcome;
         match o {
-            Outcome::Ran(w) => {
+            Ok(w) => {
                 ran = ran + count_of(w);
             }
-            Outcome::Refused(x) => {
+            Err(x) => {
                 return Result::refused(x);
             }
         }
@@ -89,7 +85,7 @@ pub fn run(t: Table, q: Request, ticks: u16) -> Result
     let m = admit::admit(t, q);
     let a = m.answer;
     match a {
-        Answer::Start(_) => run_table(m.table, ticks),
-        Answer::Refused(x) => Result::refused(x),
+        Ok(_) => run_table(m.table, ticks),
+        Err(x) => Result::refused(x),
     }
 }

@@ -3,12 +3,10 @@
 #![tactic(auto)]
 
 ghost use Rattle.std.specs.Prelude.{◌≡◌};
-ghost use Rattle.table.specs.Words.{slot_of, slot_number};
-ghost use Rattle.card.specs.Answers.{said_written};
+ghost use Rattle.table.specs.Words.{slot_number};
 ghost use Rattle.calls.specs.Results.{granted_as, refused_as, result_at};
 
-use card::WriteAnswer;
-use table::{Refusal, Which};
+use table::Refusal;
 
 pub mod cards; // a card's answer and its line, and the run of its table
 pub mod moves; // a card's table and request, into lent bytes and numbers
@@ -54,21 +52,21 @@ impl Result {
 }
 
 // R63: a slot is its number, and none is 255.
-fn slot_number(w: Which) -> u64
-    ensures { result ≡ slot_number (slot_of w) }
+fn slot_number(w: Option<usize>) -> u64
+    ensures { result ≡ slot_number (w) }
 {
     match w {
-        Which::None => 255,
-        Which::At(k) => k as u64,
+        None => 255,
+        Some(k) => k as u64,
     }
 }
 
 // R59, R84: what was written, by a writer's answer, with the place that a grant has.
-pub fn written(place: u64, w: WriteAnswer) -> Result
-    ensures { result ≡ result_at place (said_written w) }
+pub fn written(place: u64, w: Result<usize, Refusal>) -> Result
+    ensures { result ≡ result_at place (w) }
 {
     match w {
-        WriteAnswer::Length(n) => Result::granted(place, n as u64),
-        WriteAnswer::Refused(x) => Result::refused(x),
+        Ok(n) => Result::granted(place, n as u64),
+        Err(x) => Result::refused(x),
     }
 }

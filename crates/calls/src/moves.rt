@@ -1,11 +1,10 @@
 // A card's table and request, into lent bytes and numbers.
-ghost use Rattle.std.specs.Prelude.{◌≡◌, length};
+ghost use Rattle.std.specs.Prelude.{Ok, ◌≡◌, length};
 ghost use Rattle.image.specs.Answers.{store_of, stored_in};
 ghost use Rattle.calls.specs.Results.{result_of};
 ghost use Rattle.calls.specs.Moves.{eighteen, numbers_if};
 
 use crate::{Result, written};
-use card::WriteAnswer;
 use table::{Request, Table};
 
 // R92: a request's eighteen numbers.
@@ -30,10 +29,10 @@ pub fn move_in(t: Table, q: Request, table: &mut [u8], numbers: &mut [u16; 18]) 
 {
     let w = image::store(t, table);
     match w {
-        WriteAnswer::Length(_) => {
+        Ok(_) => {
             *numbers = numbers_of(q);
             written(0, w)
         }
-        WriteAnswer::Refused(_) => written(0, w),
+        Err(_) => written(0, w),
     }
 }

@@ -1,43 +1,42 @@
 // A table asked, admitted to, stepped, left and shown. What is lent is the image that the table was loaded from.
-ghost use Rattle.std.specs.Prelude.{◌≡◌};
-ghost use Rattle.table.specs.Words.{gives};
-ghost use Rattle.table.specs.Ask.{says, ask_of};
+ghost use Rattle.std.specs.Prelude.{Ok, ◌≡◌};
+ghost use Rattle.table.specs.Ask.{ask_of};
 ghost use Rattle.calls.specs.Results.{granted_as};
 ghost use Rattle.calls.specs.Tables.{asked_as, admitted_in, stepped_as, stepped_in, left_as, left_in, ReadyFor, all_counts};
 
 use crate::Result;
 use line::Kind;
-use table::{Answer, Leaving, Outcome, Request, Table};
+use table::{Request, Table};
 
 // R86: the start and the new line's slot, or the refusal.
-fn asked(t: Table, a: Answer) -> Result
-    ensures { result ≡ asked_as t (says a) }
+fn asked(t: Table, a: Result<u64, Refusal>) -> Result
+    ensures { result ≡ asked_as t (a) }
 {
     match a {
-        Answer::Start(start) => Result::granted(crate::slot_number(t.lowest(Kind::Free)), start),
-        Answer::Refused(x) => Result::refused(x),
+        Ok(start) => Result::granted(crate::slot_number(t.lowest(Kind::Free)), start),
+        Err(x) => Result::refused(x),
     }
 }
 
 // R86: asks a table, and changes nothing.
 pub fn ask(t: Table, q: Request) -> Result
-    ensures { result ≡ asked_as t (says (ask_of t q)) }
+    ensures { result ≡ asked_as t ((ask_of t q)) }
 {
     asked(t, ask::ask(t, q))
 }
 
 // R87: admits into the lent image, which a refusal leaves as it is.
 pub fn admit(t: Table, q: Request, out: &mut [u8]) -> Result
-    ensures { (result ≡ asked_as t (says (ask_of t q))) × (out.new ≡ admitted_in t q out.old) }
+    ensures { (result ≡ asked_as t ((ask_of t q))) × (out.new ≡ admitted_in t q out.old) }
 {
     let m = admit::admit(t, q);
     let a = m.answer;
     match a {
-        Answer::Start(_) => {
+        Ok(_) => {
             image::store(m.table, out);
             asked(t, a)
         }
-        Answer::Refused(x) => Result::refused(x),
+        Err(x) => Result::refused(x),
     }
 }
 
@@ -48,11 +47,11 @@ pub fn step(t: Table, out: &mut [u8]) -> Result
     let s = driver::driven(t);
     let o = s.outcome;
     match o {
-        Outcome::Ran(w) => {
+        Ok(w) => {
             image::store(s.table, out);
             Result::granted(0, crate::slot_number(w))
         }
-        Outcome::Refused(x) => Result::refused(x),
+        Err(x) => Result::refused(x),
     }
 }
 
@@ -63,17 +62,17 @@ pub fn leave(t: Table, number: u64, out: &mut [u8]) -> Result
     let left = t.leave(number);
     let a = left.leaving;
     match a {
-        Leaving::In(ticks) => {
+        Ok(ticks) => {
             image::store(left.table, out);
             Result::granted(0, ticks as u64)
         }
-        Leaving::Refused(x) => Result::refused(x),
+        Err(x) => Result::refused(x),
     }
 }
 
 // R89: the ready word of a table.
 pub fn ready(t: Table) -> Result
-    ensures { ReadyFor (gives t) result }
+    ensures { ReadyFor (Ok t) result }
 {
     Result::granted(0, board::ready_word(t) as u64)
 }

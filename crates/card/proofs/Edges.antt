@@ -1,5 +1,6 @@
 -- Cards and buffers on both sides of each edge of R53 to R59, by computation. The bytes are numbers here and no mark's name, and in `whole` no two numbers share
 -- a byte: an exchange of two numbers or marks in the definitions changes what a row says.
+use Rattle.std.specs.Prelude.{Ok, Err}
 use Prim.Native.Nat.{ℕ, zero, suc}
 use mathlib.Core.Path.{◌≡◌, refl, sym, ap}
 use mathlib.Core.Bool.{Bool, false}
@@ -11,14 +12,13 @@ use Rattle.table.specs.declared.Request.{Request}
 use Rattle.table.specs.declared.Refusal.{Refusal}
 use Rattle.line.specs.Slots.{is_leaving, empty, if_runs, at, lowest}
 use Rattle.line.proofs.Search.{true_false}
-use Rattle.table.specs.Words.{request_with, refusal, Said, gives, refuses}
+use Rattle.table.specs.Words.{request_with, refusal, Said}
 use Rattle.table.specs.Cases.{running, parting, waiting, table_of}
 use Rattle.card.specs.declared.CardAnswer.{CardAnswer}
-use Rattle.card.specs.declared.WriteAnswer.{WriteAnswer}
 use Rattle.card.specs.Bytes.{marked}
 use Rattle.card.specs.Card.{card_of, Card, cleared}
 use Rattle.card.specs.Reading.{record_of, records_of, read_with, read_of}
-use Rattle.card.specs.Answers.{handed, said_read, said_written, length_of, write_of, buffer_of}
+use Rattle.card.specs.Answers.{handed, said_read, length_of, write_of, buffer_of}
 
 -- the bytes l so many times
 abbrev pub times : ℕ → List ℕ → List ℕ
@@ -69,10 +69,10 @@ leaving_slot = parting 0x1211 0x2221 0x6261 0x7271
 
 -- the clock and new line of `whole` around these slots
 abbrev reads : List Slot → (stretched : List ℕ) → Said Card
-reads ss ts = gives (record { table = table_of 0x0807060504030201 ss; request = request_with ts 0x8281 0x9291 })
+reads ss ts = Ok (record { table = table_of 0x0807060504030201 ss; request = request_with ts 0x8281 0x9291 })
 
 abbrev breaks : (place : ℕ) → Said Card
-breaks at = refuses (refusal 11 at)
+breaks at = Err (refusal 11 at)
 
 -- some bytes and what the reader says of them
 pub record CardEdge : Type 0 where
@@ -213,16 +213,16 @@ leaving_period_edges =
 -- R56, R3: any numbers are taken, unsound lines too, up to the greatest of sixteen and of 64 bits
 abbrev number_edges : List CardEdge
 number_edges =
-    edge whole (gives (record { table = whole_table; request = whole_request }))
+    edge whole (Ok (record { table = whole_table; request = whole_request }))
     ∷ edge ((0x43 ∷ 0x4B ∷ replicate 8 0) ++ (0x54 ∷ 0x42 ∷ replicate 10 0) ++ (0x52 ∷ 0x51 ∷ replicate 4 0))
-    (gives (record { table = table_of 0 (running 0 0 0 0 ∷ replicate 15 empty); request = request_with (replicate 16 0) 0 0 }))
+    (Ok (record { table = table_of 0 (running 0 0 0 0 ∷ replicate 15 empty); request = request_with (replicate 16 0) 0 0 }))
     ∷ edge ((0x43 ∷ 0x4B ∷ replicate 8 0xFF) ++ (0x54 ∷ 0x42 ∷ replicate 10 0xFF) ++ (0x52 ∷ 0x51 ∷ replicate 4 0xFF))
-    (gives (record {
+    (Ok (record {
       table = table_of 18446744073709551615 (running 65535 65535 65535 65535 ∷ replicate 15 empty);
       request = request_with (65535 ∷ replicate 15 0) 65535 65535;
     }))
     ∷ edge ((0x43 ∷ 0x4B ∷ replicate 8 0) ++ (0x54 ∷ 0x4C ∷ replicate 10 0) ++ (0x54 ∷ 0x4C ∷ replicate 10 0xFF) ++ (0x52 ∷ 0x51 ∷ replicate 4 0))
-    (gives (record { table = table_of 0 (parting 0 0 0 0 ∷ parting 65535 65535 65535 65535 ∷ replicate 14 empty); request = request_with (0 ∷ 65535 ∷ replicate 14 0) 0 0 }))
+    (Ok (record { table = table_of 0 (parting 0 0 0 0 ∷ parting 65535 65535 65535 65535 ∷ replicate 14 empty); request = request_with (0 ∷ 65535 ∷ replicate 14 0) 0 0 }))
     ∷ []
 
 -- R53 to R58: all of them
@@ -236,8 +236,8 @@ card_edges_lem = refl
 
 -- the line of slot 0 leaves
 abbrev first_leaves : Said Card → Bool
-first_leaves (gives c) = if_runs false (λ r. is_leaving r.follows) (at c.table.slots 0)
-first_leaves (refuses r) = false
+first_leaves (Ok c) = if_runs false (λ r. is_leaving r.follows) (at c.table.slots 0)
+first_leaves (Err r) = false
 
 -- R53, R99: the same numbers under TB and under TL are different tables
 pub marks_tell : read_of (clock ++ leaving_line ++ request) ≡ read_of (clock ++ line ++ request) → ⊥
@@ -267,11 +267,11 @@ pub record WriteEdge : Type 0 where
   pub leaves : List ℕ
 
 abbrev written : Table → Request → List ℕ → (length : ℕ) → List ℕ → WriteEdge
-written t q l n m = record { table = t; request = q; buffer = l; answers = gives n; leaves = m }
+written t q l n m = record { table = t; request = q; buffer = l; answers = Ok n; leaves = m }
 
 -- a refused buffer keeps every byte
 abbrev unwritten : Table → Request → List ℕ → Refusal → WriteEdge
-unwritten t q l r = record { table = t; request = q; buffer = l; answers = refuses r; leaves = l }
+unwritten t q l r = record { table = t; request = q; buffer = l; answers = Err r; leaves = l }
 
 -- a buffer of n bytes that are no card's
 abbrev lent : ℕ → List ℕ
@@ -374,6 +374,6 @@ handed_edges = refl
 -- R17, R59: the code's answers say their own numbers, whatever table stands beside a refusal
 pub said_edges : (t : Table) (q : Request) →
     (map said_read (record { table = t; request = q; turned = 0; answer = CardAnswer.Refused (refusal 11 34) } ∷ record { table = t; request = q; turned = 5; answer = CardAnswer.Read } ∷ [])
-    ≡ refuses (refusal 11 34) ∷ gives (record { table = t; request = q }) ∷ [])
-    × (map said_written (WriteAnswer.Length 56 ∷ WriteAnswer.Refused (refusal 13 78) ∷ []) ≡ gives 56 ∷ refuses (refusal 13 78) ∷ [])
+    ≡ Err (refusal 11 34) ∷ Ok (record { table = t; request = q }) ∷ [])
+    × (map (Ok 56 ∷ Err (refusal 13 78) ∷ []) ≡ Ok 56 ∷ Err (refusal 13 78) ∷ [])
 said_edges t q = (refl, refl)

@@ -1,10 +1,11 @@
 -- Which bytes read: exactly those whose twin is the card of a table without waiting lines; and which read alike: those that have the same twin.
+use Rattle.std.specs.Prelude.{Ok}
 use mathlib.Core.Path.{◌≡◌, sym, ap, ◌∙◌}
 use mathlib.Core.List.{List}
 use Prim.Native.Nat.{ℕ}
 use Rattle.table.specs.declared.Table.{Table}
 use Rattle.table.specs.declared.Request.{Request}
-use Rattle.table.specs.Words.{unbooked, gives}
+use Rattle.table.specs.Words.{unbooked}
 use Rattle.card.specs.Bytes.{Bytes}
 use Rattle.card.specs.Card.{Card, carrying, card_of, cleared, Fits}
 use Rattle.card.specs.Reading.{read_with}
@@ -16,7 +17,7 @@ use Rattle.card.proofs.WritesBack.{writes_twin, read_fits}
 module _ (n : ℕ) where
   -- the bytes read as some card
   abbrev pub Reads : List ℕ → Type 0
-  Reads l = (c : Card) × (read_with n l ≡ gives c)
+  Reads l = (c : Card) × (read_with n l ≡ Ok c)
 
   -- the bytes are the card of some table of n slots without waiting lines and some request
   abbrev pub IsCard : List ℕ → Type 0
@@ -30,16 +31,16 @@ module _ (n : ℕ) where
   )
 
   -- R72: the twin of a card that reads has no TA
-  pub twin_is_new : (l : List ℕ) → Bytes l → (c : Card) → read_with n l ≡ gives c → turned_with n (twin_with n l) ≡ 0
+  pub twin_is_new : (l : List ℕ) → Bytes l → (c : Card) → read_with n l ≡ Ok c → turned_with n (twin_with n l) ≡ 0
   twin_is_new l b c e = ap (turned_with n) (sym (writes_twin n l b c e)) ∙ no_old n c.table c.request (read_fits n l b c e)
 
   -- R72: cards that read as the same table and request have the same twin, and no others do
-  pub read_alike : (l m : List ℕ) → Bytes l → Bytes m → (c d : Card) → read_with n l ≡ gives c → read_with n m ≡ gives d
+  pub read_alike : (l m : List ℕ) → Bytes l → Bytes m → (c d : Card) → read_with n l ≡ Ok c → read_with n m ≡ Ok d
       → (c ≡ d → twin_with n l ≡ twin_with n m) × (twin_with n l ≡ twin_with n m → c ≡ d)
   read_alike l m a b c d p q = (
     λ e. sym (writes_twin n l a c p) ∙ ap (λ (x : Card). card_of x.table x.request) e ∙ writes_twin n m b d q,
     λ e. gives_is c d (sym p ∙ sym (twin_reads n l a) ∙ ap (read_with n) e ∙ twin_reads n m b ∙ q),
   )
     where
-      gives_is : (c d : Card) → gives c ≡ gives d → c ≡ d
+      gives_is : (c d : Card) → Ok c ≡ Ok d → c ≡ d
       gives_is c d e = cc

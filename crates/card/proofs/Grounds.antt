@@ -1,4 +1,5 @@
 -- The reader refuses with 11 alone (R57); 12 is no longer given (R32).
+use Rattle.std.specs.Prelude.{Ok, Err}
 use mathlib.Core.Path.{◌≡◌, refl, ap}
 use mathlib.Core.Bool.{Bool, true, false}
 use mathlib.Core.List.{List, [], ◌∷◌}
@@ -6,7 +7,7 @@ use Prim.Native.Nat.{ℕ, zero, suc, ◌+◌}
 use lib.ListN.{length, drop}
 use lib.Dec.{leb, ltb, eqb}
 use Rattle.line.specs.Slots.{pick, both}
-use Rattle.table.specs.Words.{refusal, Said, gives, refuses}
+use Rattle.table.specs.Words.{refusal, Said}
 use Rattle.card.specs.declared.Mark.{Mark}
 use Rattle.card.specs.declared.SlotRecord.{SlotRecord}
 use Rattle.card.specs.declared.Record.{Record}
@@ -18,8 +19,8 @@ use Rattle.card.specs.Reading.{line_record_of, last_of, slot_record_of, record_o
 
 -- R31: if it is a refusal, it is 11 at its place, and says no more
 abbrev pub Refuses : {A : Type 0} → Said A → Type 0
-Refuses (gives x) = Unit {0}
-Refuses (refuses r) = r ≡ refusal 11 r.place
+Refuses (Ok x) = Unit {0}
+Refuses (Err r) = r ≡ refusal 11 r.place
 
 -- the same of a record
 abbrev Fails : Record → Type 0
@@ -42,10 +43,10 @@ record_fails left l =
     either (marked RQ l) (last_of l) _ last (either (ltb 0 left) (slot_record_of l) (Refused 11) slot refl)
 
 in_front : (rs : List SlotRecord) (s : Said Records) → Refuses s → Refuses (put_in_front rs s)
-in_front rs (gives m) h = tt
-in_front rs (refuses x) h = h
+in_front rs (Ok m) h = tt
+in_front rs (Err x) h = h
 
-closing_refuses : (gap o : Bool) (at : ℕ) (m : Records) → Refuses (pick gap (broken at) (pick o (gives m) (broken (at + last_length))))
+closing_refuses : (gap o : Bool) (at : ℕ) (m : Records) → Refuses (pick gap (broken at) (pick o (Ok m) (broken (at + last_length))))
 closing_refuses true o at m = refl
 closing_refuses false true at m = tt
 closing_refuses false false at m = refl
@@ -72,8 +73,8 @@ read_refuses n l =
     (records_refuse (value 8 l clock_at) n false clock_length (drop clock_length l))
   where
     means : (s : Said Records) → Refuses s → Refuses (meaning s)
-    means (gives m) h = tt
-    means (refuses x) h = h
+    means (Ok m) h = tt
+    means (Err x) h = h
 
     go : (o : Bool) (s : Said Records) → Refuses s → Refuses (meaning (pick o s (broken 0)))
     go true s h = means s h

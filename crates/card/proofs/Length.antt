@@ -1,4 +1,5 @@
 -- How long a card is.
+use Rattle.std.specs.Prelude.{None, Some, Option}
 use mathlib.Core.Path.{◌≡◌}
 use mathlib.Core.Bool.{Bool, true, false}
 use mathlib.Core.List.{List, [], ◌∷◌}
@@ -11,8 +12,6 @@ use Rattle.table.specs.declared.Table.{Table}
 use Rattle.table.specs.declared.Request.{Request}
 use Rattle.line.specs.Slots.{pick, is_nothing}
 use Rattle.card.specs.declared.Mark.{Mark}
-use Rattle.card.specs.declared.Recorded.{Recorded}
-use Rattle.card.specs.declared.Recorded.TheVariants.{As, No}
 use Rattle.card.specs.Layout.{is_free, clock_length, mark_length, line_length, last_length, record_length}
 use Rattle.card.specs.Marked.{record_for, recorded_bytes}
 use Rattle.card.specs.Card.{slot_record, slot_records, request_record, one_more, used_from, used, card_of}
@@ -30,9 +29,9 @@ mark_length_lem m = go (is_free m)
 pub record_length_lem : (h : Held) (t : ℕ) → length (slot_record h t) ≤ line_length
 record_length_lem h t = go (record_for h t)
   where
-    go : (x : Recorded) → length (recorded_bytes x) ≤ line_length
-    go (As r) = omega (arith, bytes_length r, mark_length_lem r.mark)
-    go No = omega arith
+    go : (x : Option SlotRecord) → length (recorded_bytes x) ≤ line_length
+    go (Some r) = omega (arith, bytes_length r, mark_length_lem r.mark)
+    go None = omega arith
 
 -- R53: nor the records of n slots more than n times that
 pub records_length : (n : ℕ) (ss : List Slot) (ts : List ℕ) → length (slot_records n ss ts) ≤ line_length * n

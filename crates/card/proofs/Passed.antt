@@ -1,4 +1,5 @@
 -- Whole records are passed, whatever their marks, and what follows is read from there on (R54).
+use Rattle.std.specs.Prelude.{Ok}
 use mathlib.Core.Path.{◌≡◌, refl, sym, ap, ◌∙◌}
 use mathlib.Core.List.{List, [], ◌∷◌, ◌++◌, append_assoc}
 use mathlib.Core.Bool.{Bool, true, false}
@@ -7,7 +8,6 @@ use native.Mathlib.Omega.{arith}
 use native.Mathlib.Nat.{zero-add, add-zero, suc-add}
 use lib.ListN.{length, length-append}
 use lib.Seq.{drop_at}
-use Rattle.table.specs.Words.{gives}
 use Rattle.card.specs.declared.SlotRecord.{SlotRecord}
 use Rattle.card.specs.Bytes.{le}
 use Rattle.card.specs.Layout.{CK, is_free, clock_length, record_length}
@@ -36,7 +36,7 @@ reads_record k n gap at r x f =
 
 -- R54, R55: RQ where no TF stands before it ends the card
 pub reads_last : (k c n : ℕ) → c < 65536 → n < 65536 → (left : ℕ) (gap : Bool) (at : ℕ) → (gap ≡ true → ⊥)
-    → records_of k left gap at (request_record c n) ≡ gives (ending k left c n)
+    → records_of k left gap at (request_record c n) ≡ Ok (ending k left c n)
 reads_last k c n hc hn left true at g = absurd (g refl)
 reads_last k c n hc hn left false at g = records_last k left false at (request_record c n) c n (sees_last left c n [] hc hn)
 

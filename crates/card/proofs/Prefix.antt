@@ -1,4 +1,5 @@
 -- A unit with n slots settles its verdict on the bytes of its longest card and one more.
+use Rattle.std.specs.Prelude.{Ok}
 use mathlib.Core.Path.{◌≡◌, refl, sym, ap, ap₂, ◌∙◌}
 use mathlib.Core.List.{List, [], ◌∷◌}
 use mathlib.Core.Bool.{Bool, true, false}
@@ -10,7 +11,6 @@ use lib.Seq.{get_or-take, take-nil}
 use lib.Dec.{leb, eqb}
 use borrow.Author.Tests.{leb-true, leb-false, le-leb, lt-leb, eqb-true, eqb-false, eq-eqb, ne_eqb}
 use Rattle.line.specs.Slots.{pick, both}
-use Rattle.table.specs.Words.{gives}
 use Rattle.card.specs.declared.Mark.{Mark}
 use Rattle.card.specs.declared.Record.{Record}
 use Rattle.card.specs.declared.Record.TheVariants.{Slot, Last, Refused}
@@ -99,7 +99,7 @@ behind w m l h =
 
 closing_take : (gap : Bool) (at n : ℕ) (l : List ℕ) (m : Records) → last_length < n → closing gap at (length (take n l)) m ≡ closing gap at (length l) m
 closing_take gap at n l m h =
-    ap (λ (o : Bool). pick gap (broken at) (pick o (gives m) (broken (at + last_length)))) (same_take last_length n l (omega arith))
+    ap (λ (o : Bool). pick gap (broken at) (pick o (Ok m) (broken (at + last_length)))) (same_take last_length n l (omega arith))
 
 records_take : (k n : ℕ) (gap : Bool) (at : ℕ) (l : List ℕ) (m : ℕ) → 1 + last_length + line_length * n ≤ m
     → records_of k n gap at (take m l) ≡ records_of k n gap at l

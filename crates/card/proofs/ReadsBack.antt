@@ -1,4 +1,5 @@
 -- A written card reads back as the table and the request, up to the entries of empty slots (R72).
+use Rattle.std.specs.Prelude.{None, Ok}
 use mathlib.Core.Path.{◌≡◌, refl, sym, ap, ap₂, ◌∙◌}
 use mathlib.Core.List.{List, [], ◌∷◌, ◌++◌, append_assoc}
 use mathlib.Core.Bool.{Bool, true, false}
@@ -11,7 +12,7 @@ use Rattle.line.specs.Slots.{pick, holding, is_nothing}
 use Rattle.line.proofs.Search.{true_false}
 use Rattle.table.specs.declared.Table.{Table}
 use Rattle.table.specs.declared.Request.{Request}
-use Rattle.table.specs.Words.{table_with, unbooked, request_with, gives}
+use Rattle.table.specs.Words.{table_with, unbooked, request_with}
 use Rattle.card.specs.declared.SlotRecord.{SlotRecord}
 use Rattle.card.specs.Layout.{is_free, clock_length}
 use Rattle.card.specs.Marked.{free, Fitting, recorded_bytes, saying}
@@ -45,19 +46,19 @@ module _ (k c n : ℕ) (hc : c < 65536) (hn : n < 65536) where
   one : (h : Held) (t : ℕ) (r : SlotRecord) → Of h t r → Fitting r → (ss : List Slot) (ts : List ℕ) (rs : List SlotRecord) (gap : Bool) (at : ℕ)
       → (gap ≡ true → used_from h (used ss) ≡ 0 → ⊥)
       → (used ss ≡ 0 → rs ≡ replicate (length ss) free)
-      → ((o : Bool) (a : ℕ) → (o ≡ true → used ss ≡ 0 → ⊥) → records_of k (length ss) o a (rest ss ts) ≡ gives (saying k rs c n))
+      → ((o : Bool) (a : ℕ) → (o ≡ true → used ss ≡ 0 → ⊥) → records_of k (length ss) o a (rest ss ts) ≡ Ok (saying k rs c n))
       → records_of k (suc (length ss)) gap at (slot_records (used_from h (used ss)) (holding h ∷ ss) (t ∷ ts) ++ request_record c n)
-      ≡ gives (saying k (r ∷ rs) c n)
-  one h t r w f ss ts rs gap at g none ih = go (used_from h (used ss)) refl
+      ≡ Ok (saying k (r ∷ rs) c n)
+  one h t r w f ss ts rs gap at g None ih = go (used_from h (used ss)) refl
     where
       go : (u : ℕ) → used_from h (used ss) ≡ u
           → records_of k (suc (length ss)) gap at (slot_records (used_from h (used ss)) (holding h ∷ ss) (t ∷ ts) ++ request_record c n)
-          ≡ gives (saying k (r ∷ rs) c n)
+          ≡ Ok (saying k (r ∷ rs) c n)
       go zero e =
           let v = used_none (is_nothing h) (used ss) e in
           ap (λ (u : ℕ). records_of k (suc (length ss)) gap at (slot_records u (holding h ∷ ss) (t ∷ ts) ++ request_record c n)) e
           ∙ reads_last k c n hc hn (suc (length ss)) gap at (λ o. g o e)
-          ∙ sym (ap₂ (λ (x : SlotRecord) (y : List SlotRecord). gives (saying k (x ∷ y) c n)) (fitting_free r f (w.nothing ∙ v.0)) (none v.1))
+          ∙ sym (ap₂ (λ (x : SlotRecord) (y : List SlotRecord). Ok (saying k (x ∷ y) c n)) (fitting_free r f (w.nothing ∙ v.0)) (None v.1))
       go (suc u) e =
           let p : is_nothing h ≡ true → used ss ≡ 0 → ⊥ =
           λ a b. omega (arith, ap₂ (λ (o : Bool) (m : ℕ). pick o (one_more m) (suc m)) a b, e) in
@@ -70,7 +71,7 @@ module _ (k c n : ℕ) (hc : c < 65536) (hn : n < 65536) where
 
   -- R54, R72: the records of all slots up to the last used one read as the records of all slots
   pub records_read : (ss : List Slot) (ts : List ℕ) (gap : Bool) (at : ℕ) (f : AllCarried ss ts) → (gap ≡ true → used ss ≡ 0 → ⊥)
-      → records_of k (length ss) gap at (rest ss ts) ≡ gives (saying k (records_for ss ts f) c n)
+      → records_of k (length ss) gap at (rest ss ts) ≡ Ok (saying k (records_for ss ts f) c n)
   unfolding records_for
   records_read [] [] gap at f g = reads_last k c n hc hn 0 gap at (λ e. g e refl)
   records_read [] (t ∷ ts) gap at f g = absurd f
@@ -82,7 +83,7 @@ module _ (k c n : ℕ) (hc : c < 65536) (hn : n < 65536) where
 -- what was written
 module _ (n : ℕ) (t : Table) (q : Request) (f : Fits n t q) where
   -- its records are those of the slots
-  back : records_with n (card_of t q) ≡ gives (saying t.clock (records_for t.slots q.stretched f.lines) q.need q.period)
+  back : records_with n (card_of t q) ≡ Ok (saying t.clock (records_for t.slots q.stretched f.lines) q.need q.period)
   unfolding card_of
   back =
       after_clock n t.clock _ f.clock
@@ -90,12 +91,12 @@ module _ (n : ℕ) (t : Table) (q : Request) (f : Fits n t q) where
       ∙ records_read t.clock q.need q.period f.need f.period t.slots q.stretched false clock_length f.lines (λ e u. true_false e refl)
 
   -- R72: it is read, but for the counts and who ran last
-  pub reads_back : read_with n (card_of t q) ≡ gives (carrying (unbooked t) (cleared t q))
+  pub reads_back : read_with n (card_of t q) ≡ Ok (carrying (unbooked t) (cleared t q))
   unfolding read_with
   reads_back =
       let w = records_for_lem t.slots q.stretched f.lines in
       ap meaning back
-      ∙ ap₂ (λ (x : List Slot) (y : List ℕ). gives (carrying (table_with t.clock x) (request_with y q.need q.period))) w.0 w.1
+      ∙ ap₂ (λ (x : List Slot) (y : List ℕ). Ok (carrying (table_with t.clock x) (request_with y q.need q.period))) w.0 w.1
 
   -- R72: and no record of it is TA
   pub no_old : turned_with n (card_of t q) ≡ 0

@@ -1,4 +1,5 @@
 -- What stands at the front of the bytes: the record for each way through the tests, and what each record says of the bytes.
+use Rattle.std.specs.Prelude.{Some}
 use mathlib.Core.Path.{◌≡◌, refl, sym, ap, ap₂, ◌∙◌}
 use mathlib.Core.List.{List, [], ◌∷◌, ◌++◌}
 use mathlib.Core.Bool.{Bool, true, false}
@@ -13,7 +14,6 @@ use Rattle.card.specs.declared.Mark.{Mark}
 use Rattle.card.specs.declared.SlotRecord.{SlotRecord}
 use Rattle.card.specs.declared.Record.{Record}
 use Rattle.card.specs.declared.Record.TheVariants.{Slot, Last, Refused}
-use Rattle.card.specs.declared.Recorded.TheVariants.{As}
 use Rattle.card.specs.Bytes.{Bytes, le, value, marked}
 use Rattle.card.specs.Layout.{TB, TL, TF, TA, RQ, mark_bytes, is_free, need_at, period_at, stretched_at, fourth_at, fifth_at, mark_length, line_length, last_length, record_length}
 use Rattle.card.specs.Marked.{record_with, free, numbers_of, record_bytes, NumbersFit, Fitting, held_under, twin, record_for}
@@ -117,7 +117,7 @@ Fronts l r = (l ≡ record_bytes r ++ drop (record_length r.mark) l) × Fitting 
 -- what a record says of the bytes at whose front it stands; the slot that a slot's record stands for has its twin for a record
 abbrev pub Stands : ℕ → List ℕ → Record → Type 0
 Stands left l (Slot r) =
-    (0 < left) × (record_length r.mark ≤ length l) × (Bytes l → Fronts l r) × (record_for (held_under r.mark r) r.stretched ≡ As (twin r))
+    (0 < left) × (record_length r.mark ≤ length l) × (Bytes l → Fronts l r) × (record_for (held_under r.mark r) r.stretched ≡ Some (twin r))
 Stands left l (Last c n) = (last_length ≤ length l) × (marked RQ l ≡ true) × (c ≡ value 2 l need_at) × (n ≡ value 2 l period_at)
 Stands left l (Refused n) = Unit {0}
 

@@ -1,4 +1,5 @@
 -- The refusals of R57, each with its offset, behind whole records of any number of slots.
+use Rattle.std.specs.Prelude.{Ok, Err}
 use mathlib.Core.Path.{◌≡◌, refl, ap, ap₂, ◌∙◌}
 use mathlib.Core.List.{List, ◌++◌}
 use mathlib.Core.Bool.{Bool, true, false}
@@ -9,7 +10,7 @@ use lib.ListN.{length}
 use borrow.Author.Tests.{ne_eqb}
 use Rattle.line.specs.Slots.{pick}
 use Rattle.table.specs.declared.Refusal.{Refusal}
-use Rattle.table.specs.Words.{refusal, gives, refuses}
+use Rattle.table.specs.Words.{refusal}
 use Rattle.card.specs.declared.Mark.{Mark}
 use Rattle.card.specs.declared.SlotRecord.{SlotRecord}
 use Rattle.card.specs.declared.Record.TheVariants.{Refused}
@@ -56,12 +57,12 @@ module _ (k : ℕ) (rs : List SlotRecord) (left : ℕ) (x : List ℕ) (hk : k < 
   abbrev pub offset : ℕ
   offset = clock_length + length (all_bytes rs)
 
-  there : (r : Refusal) → records_of k left (after_free false rs) offset x ≡ refuses r → read_with slots_of card ≡ refuses r
+  there : (r : Refusal) → records_of k left (after_free false rs) offset x ≡ Err r → read_with slots_of card ≡ Err r
   unfolding read_with
   there r e =
       ap meaning (after_clock slots_of k (all_bytes rs ++ x) hk ∙ passed k left x rs false clock_length f ∙ ap (put_in_front rs) e)
 
-  refused_there : (m : ℕ) → record_of left x ≡ Refused m → read_with slots_of card ≡ refuses (refusal m offset)
+  refused_there : (m : ℕ) → record_of left x ≡ Refused m → read_with slots_of card ≡ Err (refusal m offset)
   refused_there m e = there (refusal m offset) (records_refused k left (after_free false rs) offset x m e)
 
   -- R57: neither RQ nor a slot's mark
@@ -110,5 +111,5 @@ module _ (k : ℕ) (rs : List SlotRecord) (left : ℕ) (x : List ℕ) (hk : k < 
   byte_after_request g h w =
       there (refusal 11 (offset + last_length))
       (records_last k left (after_free false rs) offset x _ _ (at_last left x h ∙ last_whole x (omega arith))
-      ∙ ap₂ (λ (o u : Bool). pick o (broken offset) (pick u (gives (ending k left (value 2 x need_at) (value 2 x period_at))) (broken (offset + last_length))))
+      ∙ ap₂ (λ (o u : Bool). pick o (broken offset) (pick u (Ok (ending k left (value 2 x need_at) (value 2 x period_at))) (broken (offset + last_length))))
       g (ne_eqb (length x) last_length (λ e. omega arith)))

@@ -1,4 +1,5 @@
 -- A slot and its record: what a card carries of a slot, and which slots are used.
+use Rattle.std.specs.Prelude.{Some}
 use mathlib.Core.Path.{◌≡◌, refl, sym, ap, ap₂, ◌∙◌}
 use mathlib.Core.Bool.{Bool, true, false}
 use mathlib.Core.List.{List, [], ◌∷◌, map}
@@ -12,7 +13,6 @@ use Rattle.line.specs.declared.Slot.{Slot}
 use Rattle.line.specs.Slots.{pick, run_then, holding, is_nothing, is_waiting}
 use Rattle.card.specs.declared.Mark.{Mark}
 use Rattle.card.specs.declared.SlotRecord.{SlotRecord}
-use Rattle.card.specs.declared.Recorded.TheVariants.{As}
 use Rattle.card.specs.Layout.{is_free}
 use Rattle.card.specs.Marked.{free, Fitting, held_under, slot_for, entry_for, line_record, record_for}
 use Rattle.card.specs.Card.{one_more, entry_of, entries, Carried, AllCarried}
@@ -20,7 +20,7 @@ use Rattle.card.specs.Twin.{is_old, word_of}
 
 -- the record of a slot that a card can carry, which is the record of what it holds and stands for it
 pub record Of (h : Held) (t : ℕ) (r : SlotRecord) : Type 0 where
-  pub record_is : record_for h t ≡ As r
+  pub record_is : record_for h t ≡ Some r
   pub holds : held_under r.mark r ≡ h
   pub entry : entry_for r ≡ entry_of h t
   pub nothing : is_free r.mark ≡ is_nothing h

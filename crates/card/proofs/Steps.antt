@@ -1,4 +1,5 @@
 -- One record further: the reading of the records by what stands in front.
+use Rattle.std.specs.Prelude.{Ok, Err}
 use mathlib.Core.Path.{◌≡◌, refl, sym, ap, ap₂, ◌∙◌}
 use mathlib.Core.List.{List, [], ◌∷◌, ◌++◌, append_assoc}
 use mathlib.Core.Bool.{Bool, true, false}
@@ -8,7 +9,7 @@ use lib.Dec.{leb}
 use borrow.Author.Tests.{le-leb, lt-leb}
 use Rattle.line.specs.Slots.{pick, both}
 use Rattle.line.proofs.Sound.{both_false}
-use Rattle.table.specs.Words.{refusal, Said, gives, refuses}
+use Rattle.table.specs.Words.{refusal, Said}
 use Rattle.card.specs.declared.SlotRecord.{SlotRecord}
 use Rattle.card.specs.declared.Record.TheVariants.{Slot, Last, Refused}
 use Rattle.card.specs.Bytes.{value, marked}
@@ -51,18 +52,18 @@ records_last k (suc n) gap at l c t e = ap (step k (suc n) gap at l (records_of 
 
 -- R57: a record that is refused
 pub records_refused : (k n : ℕ) (gap : Bool) (at : ℕ) (l : List ℕ) (m : ℕ) → record_of n l ≡ Refused m
-    → records_of k n gap at l ≡ refuses (refusal m at)
+    → records_of k n gap at l ≡ Err (refusal m at)
 unfolding records_of
 records_refused k zero gap at l m e = ap (step k 0 gap at l (λ g a x. broken at)) e
 records_refused k (suc n) gap at l m e = ap (step k (suc n) gap at l (records_of k n)) e
 
 -- what was read before is put in front once
 pub in_front_twice : (rs xs : List SlotRecord) (s : Said Records) → put_in_front rs (put_in_front xs s) ≡ put_in_front (rs ++ xs) s
-in_front_twice rs xs (gives m) =
-    ap (λ (x : List SlotRecord). gives (saying m.clock x m.need m.period)) (sym (append_assoc rs xs m.slots))
-in_front_twice rs xs (refuses r) = refl
+in_front_twice rs xs (Ok m) =
+    ap (λ (x : List SlotRecord). Ok (saying m.clock x m.need m.period)) (sym (append_assoc rs xs m.slots))
+in_front_twice rs xs (Err r) = refl
 
 -- nothing in front changes nothing
 pub in_front_nothing : (s : Said Records) → put_in_front [] s ≡ s
-in_front_nothing (gives m) = refl
-in_front_nothing (refuses r) = refl
+in_front_nothing (Ok m) = refl
+in_front_nothing (Err r) = refl

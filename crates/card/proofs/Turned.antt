@@ -1,4 +1,5 @@
 -- A word of bits, one for each test of a list; and the word of a card (R58).
+use Rattle.std.specs.Prelude.{Ok}
 use mathlib.Core.Path.{◌≡◌, refl, sym, ap, ◌∙◌}
 use mathlib.Core.Bool.{Bool, true, false}
 use mathlib.Core.List.{List, [], ◌∷◌, map}
@@ -8,7 +9,7 @@ use native.Mathlib.Nat.{pow-succ', div-div-eq-div-mul}
 use lib.ListN.{length, drop, set, get_or}
 use lib.Pow.{pow_pos}
 use Rattle.line.specs.Slots.{pick}
-use Rattle.table.specs.Words.{Said, gives}
+use Rattle.table.specs.Words.{Said}
 use Rattle.card.specs.Marked.{Records}
 use Rattle.card.specs.Reading.{records_with}
 use Rattle.card.specs.Twin.{word_of, is_old, turned_in, turned_with}
@@ -47,7 +48,7 @@ word_bit (true ∷ bs) (suc k) = above (1 + 2 * word_of bs) (word_of bs) k (omeg
 word_bit (false ∷ bs) (suc k) = above (0 + 2 * word_of bs) (word_of bs) k (omega arith) ∙ word_bit bs k
 
 -- R58: bit k of a card's word is whether the record of slot k is TA
-pub turned_bit : (n : ℕ) (l : List ℕ) (m : Records) → records_with n l ≡ gives m → (k : ℕ)
+pub turned_bit : (n : ℕ) (l : List ℕ) (m : Records) → records_with n l ≡ Ok m → (k : ℕ)
     → turned_with n l / 2 ^ k % 2 ≡ pick (get_or (map is_old m.slots) k false) 1 0
 unfolding turned_with
 turned_bit n l m e k = ap (λ (s : Said Records). turned_in s / 2 ^ k % 2) e ∙ word_bit (map is_old m.slots) k

@@ -1,4 +1,5 @@
 -- A card and its twin, R72: as long as each other, and read alike, whatever the bytes.
+use Rattle.std.specs.Prelude.{Ok, Err}
 use mathlib.Core.Path.{◌≡◌, refl, sym, ap, ap₂, ◌∙◌}
 use mathlib.Core.List.{List, [], ◌∷◌, ◌++◌, append-nil, map}
 use mathlib.Core.Bool.{Bool, true, false}
@@ -10,7 +11,7 @@ use lib.Seq.{take_at, take_all, drop_at}
 use lib.Dec.{leb, eqb}
 use Rattle.line.specs.declared.Slot as line-slot
 use Rattle.line.specs.Slots.{pick, both}
-use Rattle.table.specs.Words.{table_with, request_with, Said, gives, refuses}
+use Rattle.table.specs.Words.{table_with, request_with, Said}
 use Rattle.card.specs.declared.Mark.{Mark}
 use Rattle.card.specs.declared.SlotRecord.{SlotRecord}
 use Rattle.card.specs.declared.Record.{Record}
@@ -101,12 +102,12 @@ twin_length n l =
 
 -- what was read, with each record's twin in its place
 abbrev twins : Said Records → Said Records
-twins (gives m) = gives (saying m.clock (map twin m.slots) m.need m.period)
-twins (refuses r) = refuses r
+twins (Ok m) = Ok (saying m.clock (map twin m.slots) m.need m.period)
+twins (Err r) = Err r
 
 twins_front : (r : SlotRecord) (s : Said Records) → put_in_front (twin r ∷ []) (twins s) ≡ twins (put_in_front (r ∷ []) s)
-twins_front r (gives m) = refl
-twins_front r (refuses x) = refl
+twins_front r (Ok m) = refl
+twins_front r (Err x) = refl
 
 twins_free : (n : ℕ) → map twin (replicate n free) ≡ replicate n free
 twins_free zero = refl
@@ -116,8 +117,8 @@ twins_closing : (k left : ℕ) (gap : Bool) (at b c t : ℕ) → closing gap at 
 twins_closing k left true at b c t = refl
 twins_closing k left false at b c t = go (eqb b last_length)
   where
-    go : (o : Bool) → pick o (gives (ending k left c t)) (broken (at + last_length)) ≡ twins (pick o (gives (ending k left c t)) (broken (at + last_length)))
-    go true = sym (ap (λ (x : List SlotRecord). gives (saying k x c t)) (twins_free left))
+    go : (o : Bool) → pick o (Ok (ending k left c t)) (broken (at + last_length)) ≡ twins (pick o (Ok (ending k left c t)) (broken (at + last_length)))
+    go true = sym (ap (λ (x : List SlotRecord). Ok (saying k x c t)) (twins_free left))
     go false = refl
 
 -- R72: the twin's records are the twins of the records
@@ -153,10 +154,10 @@ same_slots (r ∷ rs) =
 
 -- R72: twins mean the same table and request
 means_twin : (s : Said Records) → meaning (twins s) ≡ meaning s
-means_twin (gives m) =
+means_twin (Ok m) =
     let a = same_slots m.slots in
-    ap₂ (λ (x : List line-slot.Slot) (y : List ℕ). gives (carrying (table_with m.clock x) (request_with y m.need m.period))) a.0 a.1
-means_twin (refuses r) = refl
+    ap₂ (λ (x : List line-slot.Slot) (y : List ℕ). Ok (carrying (table_with m.clock x) (request_with y m.need m.period))) a.0 a.1
+means_twin (Err r) = refl
 
 from_nothing : (n : ℕ) → twin_from n [] ≡ []
 unfolding twin_from marked

@@ -1,4 +1,5 @@
 -- A card that reads is written back as its twin, and as it was where it has no TA (R72).
+use Rattle.std.specs.Prelude.{Ok, Err}
 use mathlib.Core.Path.{◌≡◌, refl, sym, ap, ap₂, subst, ◌∙◌}
 use mathlib.Core.List.{List, [], ◌∷◌, ◌++◌, append_assoc, map}
 use mathlib.Core.Bool.{Bool, true, false}
@@ -12,7 +13,7 @@ use Rattle.line.specs.declared.Slot as line-slot
 use Rattle.line.specs.Slots.{pick, both, is_nothing}
 use Rattle.line.proofs.Search.{true_false}
 use Rattle.line.proofs.Sound.{both_says}
-use Rattle.table.specs.Words.{Said, gives, refuses}
+use Rattle.table.specs.Words.{Said}
 use Rattle.card.specs.declared.SlotRecord.{SlotRecord}
 use Rattle.card.specs.declared.Record.{Record}
 use Rattle.card.specs.declared.Record.TheVariants.{Slot, Last, Refused}
@@ -50,14 +51,14 @@ pub record Owes (k n : ℕ) (gap : Bool) (l y : List ℕ) (m : Records) : Type 0
 
 -- what was read owes the bytes; a refusal owes nothing
 abbrev pub Right : (k n : ℕ) → Bool → (l y : List ℕ) → Said Records → Type 0
-Right k n gap l y (gives m) = Owes k n gap l y m
-Right k n gap l y (refuses r) = Unit {0}
+Right k n gap l y (Ok m) = Owes k n gap l y m
+Right k n gap l y (Err r) = Unit {0}
 
 -- a slot's record in front of others
 right_slot : (k n : ℕ) (gap : Bool) (l y : List ℕ) → Bytes l → (r : SlotRecord) → Stands (suc n) l (Slot r)
     → (s : Said Records) → Right k n (is_free r.mark) (drop (record_length r.mark) l) y s
     → Right k (suc n) gap l (record_bytes (twin r) ++ y) (put_in_front (r ∷ []) s)
-right_slot k n gap l y b r st (gives m) h =
+right_slot k n gap l y b r st (Ok m) h =
     let x = held_under r.mark r in
     let u = used (slots_in m) in
     let rq = request_record m.need m.period in
@@ -78,7 +79,7 @@ right_slot k n gap l y b r st (gives m) h =
       need = h.need;
       period = h.period;
     }
-right_slot k n gap l y b r st (refuses x) h = tt
+right_slot k n gap l y b r st (Err x) h = tt
 
 slots_none : (n : ℕ) → used (map slot_for (replicate n free)) ≡ 0
 slots_none zero = refl
@@ -97,7 +98,7 @@ right_closing : (k n : ℕ) (gap : Bool) (at : ℕ) (l : List ℕ) (c t : ℕ) �
 right_closing k n true at l c t e hc ht = tt
 right_closing k n false at l c t e hc ht = go (eqb (length l) last_length) refl
   where
-    go : (b : Bool) → eqb (length l) last_length ≡ b → Right k n false l l (pick b (gives (ending k n c t)) (broken (at + last_length)))
+    go : (b : Bool) → eqb (length l) last_length ≡ b → Right k n false l l (pick b (Ok (ending k n c t)) (broken (at + last_length)))
     go true h =
         let z : drop last_length l ≡ [] = drop_of_length-le l {i = last_length} (omega (arith, eqb-true (length l) last_length h)) in
         record {
@@ -147,12 +148,12 @@ abbrev pub Back : ℕ → List ℕ → Card → (turned : ℕ) → Type 0
 Back n l c w = (card_of c.table c.request ≡ twin_with n l) × (w ≡ 0 → twin_with n l ≡ l) × Fits n c.table c.request
 
 -- R72: what the records stand for fits, and its card is the twin of what was read
-pub records_back : (n : ℕ) (l : List ℕ) → Bytes l → (m : Records) → records_with n l ≡ gives m → Back n l (card_for m) (turned_in (gives m))
+pub records_back : (n : ℕ) (l : List ℕ) → Bytes l → (m : Records) → records_with n l ≡ Ok m → Back n l (card_for m) (turned_in (Ok m))
 unfolding card_of twin_with
 records_back n l b m e = go (both (leb clock_length (length l)) (marked CK l)) refl e
   where
     go : (o : Bool) → both (leb clock_length (length l)) (marked CK l) ≡ o
-        → pick o (records_of (value 8 l clock_at) n false clock_length (drop clock_length l)) (broken 0) ≡ gives m
+        → pick o (records_of (value 8 l clock_at) n false clock_length (drop clock_length l)) (broken 0) ≡ Ok m
         → (clock_record m.clock ++ (slot_records (used (slots_in m)) (slots_in m) (entries_in m) ++ request_record m.need m.period)
         ≡ take clock_length l ++ twin_from n (drop clock_length l))
         × (word_of (map is_old m.slots) ≡ 0 → take clock_length l ++ twin_from n (drop clock_length l) ≡ l)
@@ -177,14 +178,14 @@ records_back n l b m e = go (both (leb clock_length (length l)) (marked CK l)) r
     go false h q = let z : ◌≡◌ {A = ℕ} 0 1 = cc in absurd (omega arith)
 
 -- a card that reads
-module _ (n : ℕ) (l : List ℕ) (b : Bytes l) (c : Card) (e : read_with n l ≡ gives c) where
+module _ (n : ℕ) (l : List ℕ) (b : Bytes l) (c : Card) (e : read_with n l ≡ Ok c) where
   back : Back n l c (turned_with n l)
   unfolding read_with turned_with
   back = go (records_with n l) (records_back n l b) e
     where
-      go : (s : Said Records) → ((m : Records) → s ≡ gives m → Back n l (card_for m) (turned_in (gives m))) → meaning s ≡ gives c → Back n l c (turned_in s)
-      go (gives m) h q = let p : card_for m ≡ c = cc in subst (λ (x : Card). Back n l x (turned_in (gives m))) p (h m refl)
-      go (refuses r) h q = let z : ◌≡◌ {A = ℕ} 0 1 = cc in absurd (omega arith)
+      go : (s : Said Records) → ((m : Records) → s ≡ Ok m → Back n l (card_for m) (turned_in (Ok m))) → meaning s ≡ Ok c → Back n l c (turned_in s)
+      go (Ok m) h q = let p : card_for m ≡ c = cc in subst (λ (x : Card). Back n l x (turned_in (Ok m))) p (h m refl)
+      go (Err r) h q = let z : ◌≡◌ {A = ℕ} 0 1 = cc in absurd (omega arith)
 
   -- R72: its table and request are written as its twin
   pub writes_twin : card_of c.table c.request ≡ twin_with n l

@@ -1,14 +1,12 @@
 -- What the reader and the writer answer, and what the lent buffer holds then.
-use Rattle.std.specs.Prelude.{ℕ, List, ◌++◌, length, drop, replicate, leb}
-use Rattle.std.proofs.Math.Option.{Option, none, some}
+use Rattle.std.specs.Prelude.{Ok, Err, ℕ, List, ◌++◌, length, drop, replicate, leb, Option, None, Some}
 use Rattle.table.specs.declared.Table.{Table}
 use Rattle.table.specs.declared.Request.{Request}
 use Rattle.line.specs.Slots.{pick, is_waiting, lowest_of}
-use Rattle.table.specs.Words.{request_with, empty_table, refusal, Said, gives, refuses}
+use Rattle.table.specs.Words.{request_with, empty_table, refusal, Said}
 use Rattle.card.specs.declared.CardAnswer.{CardAnswer}
 use Rattle.card.specs.declared.CardAnswer.TheVariants.{Read, Refused}
 use Rattle.card.specs.declared.ReadCard.{ReadCard}
-use Rattle.card.specs.declared.WriteAnswer.{WriteAnswer}
 use Rattle.card.specs.Marked.{Records}
 use Rattle.card.specs.Card.{Card, carrying, card_of}
 use Rattle.card.specs.Reading.{meaning}
@@ -20,8 +18,8 @@ zero_request = request_with (replicate 16 0) 0 0
 
 -- R56, R58: what is handed out, with the word of the slots whose records were TA; beside a refusal it is nothing of the card
 abbrev pub handed : (turned : ℕ) → Said Card → ReadCard
-handed w (gives c) = record { table = c.table; request = c.request; turned = w; answer = Read }
-handed w (refuses r) = record { table = empty_table; request = zero_request; turned = 0; answer = Refused r }
+handed w (Ok c) = record { table = c.table; request = c.request; turned = w; answer = Read }
+handed w (Err r) = record { table = empty_table; request = zero_request; turned = 0; answer = Refused r }
 
 -- R56, R58: the same of a card's records
 abbrev pub handed_of : Said Records → ReadCard
@@ -29,27 +27,27 @@ handed_of s = handed (turned_in s) (meaning s)
 
 -- what the reader's answer says: the table and the request beside it, or the refusal's number and place
 abbrev pub said_with : Table → Request → CardAnswer → Said Card
-said_with t q Read = gives (carrying t q)
-said_with t q (Refused r) = refuses r
+said_with t q Read = Ok (carrying t q)
+said_with t q (Refused r) = Err r
 
 -- the same of all that the reader hands out
 abbrev pub said_read : ReadCard → Said Card
 said_read c = said_with c.table c.request c.answer
 
 -- what the writer's answer says: the card's length, or the refusal
-abbrev pub said_written : WriteAnswer → Said ℕ
-said_written (WriteAnswer.Length n) = gives n
-said_written (WriteAnswer.Refused r) = refuses r
+abbrev pub said_written : Said ℕ → Said ℕ
+(Ok n) = Ok n
+(Err r) = Err r
 
 -- R33: the card's length where there is room for it
 unfoldable pub length_of : Table → Request → (room : ℕ) → Said ℕ
 length_of t q room =
-    pick (leb (length (card_of t q)) room) (gives (length (card_of t q))) (refuses (refusal 13 0))
+    pick (leb (length (card_of t q)) room) (Ok (length (card_of t q))) (Err (refusal 13 0))
 
 -- R23: a waiting line is refused at its slot
 abbrev pub unless_waiting : Option ℕ → Said ℕ → Said ℕ
-unless_waiting (some k) s = refuses (refusal 3 k)
-unless_waiting none s = s
+unless_waiting (Some k) s = Err (refusal 3 k)
+unless_waiting None s = s
 
 -- R59: waiting lines first, then the room
 abbrev pub write_of : Table → Request → (room : ℕ) → Said ℕ
@@ -57,8 +55,8 @@ write_of t q room = unless_waiting (lowest_of is_waiting t.slots) (length_of t q
 
 -- R17, R59: the buffer after an answer; a refusal leaves every byte
 abbrev pub filled : List ℕ → List ℕ → Said ℕ → List ℕ
-filled card l (gives n) = card ++ drop n l
-filled card l (refuses r) = l
+filled card l (Ok n) = card ++ drop n l
+filled card l (Err r) = l
 
 -- R59: the lent buffer when the writer returns
 abbrev pub buffer_of : Table → Request → List ℕ → List ℕ

@@ -1,5 +1,5 @@
 -- Marked records, R53: what stands on a card between its bytes and its table. A record keeps its mark and its numbers as they stand.
-use Rattle.std.specs.Prelude.{ℕ, ◌<◌, ◌≡◌, List, [], ◌++◌}
+use Rattle.std.specs.Prelude.{None, Some, Option, ℕ, ◌<◌, ◌≡◌, List, [], ◌++◌}
 use Rattle.line.specs.declared.Run.{Run}
 use Rattle.line.specs.declared.Held.{Held}
 use Rattle.line.specs.declared.Held.TheVariants.{Nothing, Running, Waiting}
@@ -7,8 +7,6 @@ use Rattle.line.specs.declared.Slot.{Slot}
 use Rattle.line.specs.Slots.{pick, run_then, holding}
 use Rattle.card.specs.declared.Mark.{Mark}
 use Rattle.card.specs.declared.SlotRecord.{SlotRecord}
-use Rattle.card.specs.declared.Recorded.{Recorded}
-use Rattle.card.specs.declared.Recorded.TheVariants.{As, No}
 use Rattle.card.specs.Bytes.{le}
 use Rattle.card.specs.Layout.{mark_bytes, is_free, is_turned, follows_under, line_mark}
 
@@ -66,20 +64,20 @@ abbrev pub twin : SlotRecord → SlotRecord
 twin r = pick (is_turned r.mark) (line_record (line_of Mark.TA r) r.stretched) r
 
 -- R53: the record of what a slot holds, with its entry: TB, TL or TF. A waiting line has none, no card carries one.
-abbrev pub record_for : Held → (T' : ℕ) → Recorded
-record_for Nothing t = As free
-record_for (Running x) t = As (line_record x t)
-record_for (Waiting w) t = No
+abbrev pub record_for : Held → (T' : ℕ) → Option SlotRecord
+record_for Nothing t = Some free
+record_for (Running x) t = Some (line_record x t)
+record_for (Waiting w) t = None
 
 -- R53: the bytes of a slot's record
-abbrev pub recorded_bytes : Recorded → List ℕ
-recorded_bytes (As r) = record_bytes r
-recorded_bytes No = []
+abbrev pub recorded_bytes : Option SlotRecord → List ℕ
+recorded_bytes (Some r) = record_bytes r
+recorded_bytes None = []
 
 -- R53: there is a record, and it fits
-abbrev pub CarriedAs : Recorded → Type 0
-CarriedAs (As r) = Fitting r
-CarriedAs No = ⊥
+abbrev pub CarriedAs : Option SlotRecord → Type 0
+CarriedAs (Some r) = Fitting r
+CarriedAs None = ⊥
 
 -- ---- whole cards
 

@@ -1,7 +1,7 @@
 -- The reading of a card: from its bytes to marked records, a recursive function, and from these to a table and a request.
-use Rattle.std.specs.Prelude.{ℕ, zero, suc, ◌+◌, List, [], ◌∷◌, ◌++◌, map, Bool, false, length, drop, replicate, eqb, leb, ltb}
+use Rattle.std.specs.Prelude.{Ok, Err, ℕ, zero, suc, ◌+◌, List, [], ◌∷◌, ◌++◌, map, Bool, false, length, drop, replicate, eqb, leb, ltb}
 use Rattle.line.specs.Slots.{pick, both}
-use Rattle.table.specs.Words.{table_with, request_with, refusal, Said, gives, refuses}
+use Rattle.table.specs.Words.{table_with, request_with, refusal, Said}
 use Rattle.card.specs.declared.Mark.{Mark}
 use Rattle.card.specs.declared.SlotRecord.{SlotRecord}
 use Rattle.card.specs.declared.Record.{Record}
@@ -39,12 +39,12 @@ record_of left l = pick (marked RQ l) (last_of l) (pick (ltb 0 left) (slot_recor
 
 -- R31: refused as broken, at a byte offset
 abbrev pub broken : {A : Type 0} → (place : ℕ) → Said A
-broken at = refuses (refusal 11 at)
+broken at = Err (refusal 11 at)
 
 -- R54: the records that were read before stand in front of what is read; a refusal stays
 abbrev pub put_in_front : List SlotRecord → Said Records → Said Records
-put_in_front rs (gives m) = gives (saying m.clock (rs ++ m.slots) m.need m.period)
-put_in_front rs (refuses r) = refuses r
+put_in_front rs (Ok m) = Ok (saying m.clock (rs ++ m.slots) m.need m.period)
+put_in_front rs (Err r) = Err r
 
 -- R55: what RQ gives where so many slots have no record: they are as free ones
 abbrev pub ending : (clock left Cn Tn : ℕ) → Records
@@ -52,14 +52,14 @@ ending k left c n = saying k (replicate left free) c n
 
 -- R57: RQ at an offset, with so many bytes from there on: neither directly after TF nor before a byte
 abbrev pub closing : {A : Type 0} → (gap : Bool) (at bytes : ℕ) → A → Said A
-closing gap at n m = pick gap (broken at) (pick (eqb n last_length) (gives m) (broken (at + last_length)))
+closing gap at n m = pick gap (broken at) (pick (eqb n last_length) (Ok m) (broken (at + last_length)))
 
 -- R54: a record at an offset; next reads what follows
 abbrev pub step : (clock left : ℕ) (gap : Bool) (at : ℕ) → List ℕ → (Bool → ℕ → List ℕ → Said Records) → Record → Said Records
 step k left gap at l next (Slot r) =
     put_in_front (r ∷ []) (next (is_free r.mark) (at + record_length r.mark) (drop (record_length r.mark) l))
 step k left gap at l next (Last c n) = closing gap at (length l) (ending k left c n)
-step k left gap at l next (Refused n) = refuses (refusal n at)
+step k left gap at l next (Refused n) = Err (refusal n at)
 
 -- R54: the records from an offset on, with so many slots left; gap says that the record before was TF
 unfoldable pub records_of : (clock left : ℕ) (gap : Bool) (at : ℕ) → List ℕ → Said Records
@@ -79,8 +79,8 @@ card_for m = carrying (table_with m.clock (map slot_for m.slots)) (request_with 
 
 -- the same of what was read; a refusal stays
 abbrev pub meaning : Said Records → Said Card
-meaning (gives m) = gives (card_for m)
-meaning (refuses r) = refuses r
+meaning (Ok m) = Ok (card_for m)
+meaning (Err r) = Err r
 
 -- R54, R57: the card of a unit with n slots
 unfoldable pub read_with : (slots : ℕ) → List ℕ → Said Card

@@ -1,7 +1,7 @@
 -- Cards of the third generation: which slots' records are TA, R58, and the card that has TB in their place, R72.
-use Rattle.std.specs.Prelude.{ℕ, zero, suc, ◌+◌, ◌*◌, List, [], ◌∷◌, ◌++◌, map, Bool, take, drop}
+use Rattle.std.specs.Prelude.{Ok, Err, ℕ, zero, suc, ◌+◌, ◌*◌, List, [], ◌∷◌, ◌++◌, map, Bool, take, drop}
 use Rattle.line.specs.Slots.{pick}
-use Rattle.table.specs.Words.{Said, gives, refuses}
+use Rattle.table.specs.Words.{Said}
 use Rattle.card.specs.declared.SlotRecord.{SlotRecord}
 use Rattle.card.specs.declared.Record.{Record}
 use Rattle.card.specs.declared.Record.TheVariants.{Slot, Last, Refused}
@@ -22,8 +22,8 @@ is_old r = is_turned r.mark
 
 -- R58: a bit for each slot whose record is TA; a refused card has no slots
 abbrev pub turned_in : Said Records → ℕ
-turned_in (gives m) = word_of (map is_old m.slots)
-turned_in (refuses r) = 0
+turned_in (Ok m) = word_of (map is_old m.slots)
+turned_in (Err r) = 0
 
 -- R58: the same of a card's bytes, for a unit with n slots
 unfoldable pub turned_with : (slots : ℕ) → List ℕ → ℕ

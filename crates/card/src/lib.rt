@@ -1,7 +1,7 @@
 // The words of the card: its layout, what stands in it, what a slot's record means, and what its reader and its writer answer.
 #![tactic(auto)]
 
-ghost use Rattle.std.specs.Prelude.{◌≡◌, ◌≤◌};
+ghost use Rattle.std.specs.Prelude.{Option, ◌≡◌, ◌≤◌};
 ghost use Rattle.line.specs.declared.Held.TheVariants.{Running};
 ghost use Rattle.line.specs.Slots.{run_then, holding};
 ghost use Rattle.card.specs.Layout.{is_free, is_turned, line_mark, line_length, record_length};
@@ -42,14 +42,14 @@ pub enum Record {
 
 // R23, R53: the record of what a slot holds. A waiting line has none.
 #[derive(Clone, Copy)]
-pub enum Recorded {
+pub enum Option<SlotRecord> {
     As(SlotRecord),
     No,
 }
 
 // R56: the card was read, or refused.
 #[derive(Clone, Copy)]
-pub enum CardAnswer {
+pub enum Result<(), Refusal> {
     Read,
     Refused(Refusal),
 }
@@ -61,12 +61,12 @@ pub struct ReadCard {
     pub request: Request,
     // R58: a bit for each slot whose record was TA, slot 0 lowest.
     pub turned: u16,
-    pub answer: CardAnswer,
+    pub answer: Result<(), Refusal>,
 }
 
 // R59: the card's length, or a refusal.
 #[derive(Clone, Copy)]
-pub enum WriteAnswer {
+pub enum Result<usize, Refusal> {
     Length(usize),
     Refused(Refusal),
 }
@@ -179,14 +179,14 @@ impl SlotRecord {
     }
 
     // R53: the record of a slot and its entry of the request.
-    pub fn of(slot: Slot, stretched: u16) -> Recorded
+    pub fn of(slot: Slot, stretched: u16) -> Option<SlotRecord>
         ensures { result ≡ record_for slot.held stretched }
     {
         let h = slot.held;
         match h {
-            Held::Nothing => Recorded::As(SlotRecord::free()),
-            Held::Running(x) => Recorded::As(SlotRecord::line(x, stretched)),
-            Held::Waiting(_) => Recorded::No,
+            Held::Nothing => Some(SlotRecord::free()),
+            Held::Running(x) => Some(SlotRecord::line(x, stretched)),
+            Held::Waiting(_) => None,
         }
     }
 }

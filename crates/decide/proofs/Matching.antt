@@ -1,7 +1,7 @@
 -- What is counted of the lines from the clock is what the rules count of the slots in absolute ticks: the frame, the sums, the ends, the first short one and the start.
 use Prim.Native.Nat.{ℕ, ◌+◌, ◌-◌, ◌≤◌, ◌<◌, max}
 use mathlib.Core.Path.{◌≡◌, refl, ap, sym, ◌∙◌}
-use mathlib.Core.Option.{some}
+use Rattle.std.specs.Prelude.{Some}
 use mathlib.Core.List.{List, ◌∷◌, map}
 use native.Mathlib.Omega.{arith}
 use lib.IntN.{pos, sub_ℕ}
@@ -71,7 +71,7 @@ module _ (l : List Slot) where
         ∙ soonest_shift (short_at t0 l) (short_by all) t0 last (λ d b. ap (lt_z (pos 0)) (excess_lines t0 d (omega arith))) ends (ends_early last spaced fit)
 
     -- R103: and the excess there
-    pub over_lines : (d : ℕ) → soonest_of (short_by all) ends ≡ some d → excess_at t0 l (t0 + d) ≡ excess_by all d
+    pub over_lines : (d : ℕ) → soonest_of (short_by all) ends ≡ Some d → excess_at t0 l (t0 + d) ≡ excess_by all d
     over_lines d e =
         let w = soonest_here (short_by all) (λ u. u < last) d ends e (ends_early last spaced fit) in
         excess_lines t0 d (omega (arith, w.1, last_small spaced fit))

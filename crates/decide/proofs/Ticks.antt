@@ -3,7 +3,7 @@ use Prim.Native.Nat.{ℕ, zero, suc, ◌+◌, ◌-◌, ◌*◌, ◌/◌, ◌%◌
 use mathlib.Core.Path.{◌≡◌, refl, ap, sym, ◌∙◌}
 use mathlib.Core.Bool.{Bool, true, false}
 use mathlib.Core.List.{List, [], ◌∷◌, ◌++◌, map}
-use mathlib.Core.Option.{Option, none, some}
+use Rattle.std.specs.Prelude.{Option, None, Some}
 use native.Mathlib.Nat.{mod-lt, div-eq_of_lt, div-eq_of_lt-le}
 use native.Mathlib.Decide.{dec_lt}
 use native.Mathlib.Omega.{arith}
@@ -35,8 +35,8 @@ with o rest = of_stream [] (λ x. line_of x ∷ []) o ++ rest
 module _ (F f : Stream → ℕ) (by : Line → Stream) (e : (s : Stream) → F s ≡ f (by (line_of s))) where
   total_one : (o : Option Stream) (rest : List Line) → of_stream 0 F o + sum_of f (map by rest) ≡ sum_of f (map by (with o rest))
   unfolding sum_of
-  total_one none rest = omega arith
-  total_one (some s) rest = omega (arith, e s)
+  total_one None rest = omega arith
+  total_one (Some s) rest = omega (arith, e s)
 
   -- what is added up over the slots by their streams is added up over the lines
   pub total_lines : (l : List Slot) → total (by_stream 0 F) l ≡ sum_of f (map by (lines_in l))
@@ -66,8 +66,8 @@ flow_shift t0 d h s = go s.follows
 -- ---- periods, the last end, the ends
 
 period_one : (o : Option Stream) (rest : List Line) → of_stream [] (λ (x : Stream). x.period ∷ []) o ++ periods_of (map by_period rest) ≡ periods_of (map by_period (with o rest))
-period_one none rest = refl
-period_one (some s) rest = refl
+period_one None rest = refl
+period_one (Some s) rest = refl
 
 -- R8: the slots' periods are the lines'
 pub periods_lines : (l : List Slot) → periods_in l ≡ periods_of (map by_period (lines_in l))
@@ -78,8 +78,8 @@ periods_lines (s ∷ l) =
 
 last_one : (t0 : ℕ) (o : Option Stream) (rest : List Line) → max (of_stream t0 (end_at t0) o) (t0 + last_by (map by_gap rest)) ≡ t0 + last_by (map by_gap (with o rest))
 unfolding greatest_end
-last_one t0 none rest = omega arith
-last_one t0 (some s) rest = omega arith
+last_one t0 None rest = omega arith
+last_one t0 (Some s) rest = omega arith
 
 -- R15: the last end, counted from the clock
 pub last_lines : (t0 : ℕ) (l : List Slot) → last_end t0 l ≡ t0 + last_by (map by_gap (lines_in l))
@@ -128,8 +128,8 @@ ends_shift t0 last s h = go s.follows
 ends_one : (t0 last : ℕ) (o : Option Stream) (rest : List Line) → last ≤ longest
     → of_stream [] (ends_at t0 (t0 + last)) o ++ absolute t0 (ends_by last (map by_gap rest)) ≡ absolute t0 (ends_by last (map by_gap (with o rest)))
 unfolding ends_by
-ends_one t0 last none rest h = refl
-ends_one t0 last (some s) rest h =
+ends_one t0 last None rest h = refl
+ends_one t0 last (Some s) rest h =
     ap (λ (x : List ℕ). x ++ absolute t0 (ends_by last (map by_gap rest))) (ends_shift t0 last s h)
     ∙ sym (absolute_append t0 (ends_before s.end (gap_of s) last) (ends_by last (map by_gap rest)))
 
@@ -152,12 +152,12 @@ ends_early last (x ∷ l) f =
 
 -- what was found, as an absolute tick
 abbrev pub shifted : (clock : ℕ) → Option ℕ → Option ℕ
-shifted t0 none = none
-shifted t0 (some d) = some (t0 + d)
+shifted t0 None = None
+shifted t0 (Some d) = Some (t0 + d)
 
 sooner_shift : (t0 d : ℕ) (b : Bool) (o : Option ℕ) → pick b (or_sooner (t0 + d) (shifted t0 o)) (shifted t0 o) ≡ shifted t0 (pick b (or_sooner d o) o)
-sooner_shift t0 d true none = refl
-sooner_shift t0 d true (some u) = ap some (omega arith)
+sooner_shift t0 d true None = refl
+sooner_shift t0 d true (Some u) = ap Some (omega arith)
 sooner_shift t0 d false o = refl
 
 -- the soonest tick before `last` at which a test holds, counted from the clock

@@ -1,13 +1,13 @@
 -- The driver at given tables, by computation: a step that is made, the step after it, and one that is refused.
+use Rattle.std.specs.Prelude.{Ok, Err, None, Some}
 use Prim.Native.Nat.{ℕ, ◌^◌}
 use mathlib.Core.Path.{◌≡◌, refl}
 use mathlib.Core.List.{[], ◌∷◌}
-use mathlib.Core.Option.{none, some}
 use Rattle.table.specs.declared.Table.{Table}
 use Rattle.line.specs.Slots.{lowest}
-use Rattle.table.specs.Words.{refusal, gives, refuses}
+use Rattle.table.specs.Words.{refusal}
 use Rattle.table.specs.Counts.{settling}
-use Rattle.table.specs.Step.{says_ran, chosen, advance, step_of}
+use Rattle.table.specs.Step.{chosen, advance, step_of}
 use Rattle.table.specs.Cases.{running, table_of, tallied, ran_last}
 use Rattle.driver.specs.Driven.{driven_of}
 
@@ -25,11 +25,11 @@ unfolding lowest chosen settling advance step_of
 new_table_is_kept = refl
 
 -- R48: slot 0 runs, and in the step after it none
-pub answer_is_of_this_step : (says_ran (step_of (owing 7)).outcome ≡ gives (some 0)) × (says_ran (step_of (driven_of (owing 7))).outcome ≡ gives none)
+pub answer_is_of_this_step : ((step_of (owing 7)).outcome ≡ Ok (Some 0)) × ((step_of (driven_of (owing 7))).outcome ≡ Ok None)
 unfolding lowest chosen settling advance step_of
 answer_is_of_this_step = (refl, refl)
 
 -- R35, R51: at the clock's last tick the step is refused, and the driver keeps what it had, clock and line
-pub refused_table_is_kept : (says_ran (step_of (owing (2 ^ 48))).outcome ≡ refuses (refusal 15 0)) × (driven_of (owing (2 ^ 48)) ≡ owing (2 ^ 48))
+pub refused_table_is_kept : ((step_of (owing (2 ^ 48))).outcome ≡ Err (refusal 15 0)) × (driven_of (owing (2 ^ 48)) ≡ owing (2 ^ 48))
 unfolding lowest chosen settling advance step_of
 refused_table_is_kept = (refl, refl)

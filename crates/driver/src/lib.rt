@@ -5,15 +5,15 @@ ghost use Rattle.std.specs.Prelude.{◌≡◌};
 ghost use Rattle.table.specs.Step.{step_of};
 ghost use Rattle.driver.specs.Driven.{has_run, driven_of};
 
-use table::{Outcome, Stepped, Table};
+use table::{Stepped, Table};
 
 // R48: the step was not refused
-fn has_run(o: Outcome) -> bool
+fn has_run(o: Result<Option<usize>, Refusal>) -> bool
     ensures { result ≡ has_run o }
 {
     match o {
-        Outcome::Ran(_) => true,
-        Outcome::Refused(_) => false,
+        Ok(_) => true,
+        Err(_) => false,
     }
 }
 
@@ -23,13 +23,13 @@ fn table_of(s: Stepped) -> Table
     s.table
 }
 
-fn outcome_of(s: Stepped) -> Outcome
+fn outcome_of(s: Stepped) -> Result<Option<usize>, Refusal>
     ensures { result ≡ s.outcome }
 {
     s.outcome
 }
 
-fn stepped(table: Table, outcome: Outcome) -> Stepped
+fn stepped(table: Table, outcome: Result<Option<usize>, Refusal>) -> Stepped
     ensures { result ≡ record { table = table; outcome = outcome } }
 {
     Stepped {
@@ -39,7 +39,7 @@ fn stepped(table: Table, outcome: Outcome) -> Stepped
 }
 
 // R51, R48: the table is copied out, stepped by value and stored, or left as it is where the step was refused.
-pub fn drive(t: &mut Table) -> Outcome
+pub fn drive(t: &mut Table) -> Result<Option<usize>, Refusal>
     ensures { (result ≡ (step_of t.old).outcome) × (t.new ≡ driven_of t.old) }
 {
     let old = *t;

@@ -5,7 +5,6 @@ ghost use Rattle.calls.specs.Results.{result_of};
 ghost use Rattle.calls.specs.Cards.{line_for, put_of, rewrite_as, rewritten_of, run_of};
 
 use calls::Result;
-use card::CardAnswer;
 
 // R64: the line of a card's answer goes into the lent buffer, or the buffer is too short and every byte stays.
 #[unsafe(no_mangle)]
@@ -31,7 +30,7 @@ pub extern "C" fn trimthuel_run(card: &[u8], ticks: u16) -> Result
     let c = reader::read(card);
     let said = c.answer;
     match said {
-        CardAnswer::Read => calls::cards::run(c.table, c.request, ticks),
-        CardAnswer::Refused(x) => Result::refused(x),
+        Ok(()) => calls::cards::run(c.table, c.request, ticks),
+        Err(x) => Result::refused(x),
     }
 }

@@ -4,7 +4,6 @@ ghost use Rattle.image.specs.Loading.{load_of};
 ghost use Rattle.calls.specs.Tables.{counts_for, counts_after};
 
 use calls::Result;
-use image::LoadAnswer;
 
 // R98: the counts of the image's table go into the lent numbers; a refusal leaves every one of them.
 #[unsafe(no_mangle)]
@@ -14,7 +13,7 @@ pub extern "C" fn trimthuel_counts(table: &[u8], counts: &mut [u64; 18]) -> Resu
     let i = image::load(table);
     let said = i.answer;
     match said {
-        LoadAnswer::Read => calls::tables::counts(i.table, counts),
-        LoadAnswer::Refused(x) => Result::refused(x),
+        Ok(()) => calls::tables::counts(i.table, counts),
+        Err(x) => Result::refused(x),
     }
 }

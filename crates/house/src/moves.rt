@@ -1,5 +1,5 @@
 // A table to a card, and a card to a table.
-ghost use Rattle.std.specs.Prelude.{◌≡◌, length};
+ghost use Rattle.std.specs.Prelude.{Ok, ◌≡◌, length};
 ghost use Rattle.card.specs.Reading.{read_of};
 ghost use Rattle.image.specs.Loading.{load_of};
 ghost use Rattle.calls.specs.Results.{result_of};
@@ -7,8 +7,6 @@ ghost use Rattle.calls.specs.Tables.{request_of};
 ghost use Rattle.calls.specs.Moves.{write_card_for, card_after, read_card_for, image_after, numbers_after};
 
 use calls::Result;
-use card::CardAnswer;
-use image::LoadAnswer;
 use table::Request;
 
 // R91: the image is read and the card of its table and a request written; a refusal leaves every byte of the lent buffer.
@@ -25,11 +23,11 @@ pub extern "C" fn trimthuel_write_card(
     let i = image::load(table);
     let said = i.answer;
     match said {
-        LoadAnswer::Read => {
+        Ok(()) => {
             let q = Request::new(*stretched, need, period);
             calls::written(0, writer::write(i.table, q, card))
         }
-        LoadAnswer::Refused(x) => Result::refused(x),
+        Err(x) => Result::refused(x),
     }
 }
 
@@ -45,7 +43,7 @@ pub extern "C" fn trimthuel_read_card(
     let c = reader::read(card);
     let said = c.answer;
     match said {
-        CardAnswer::Read => calls::moves::move_in(c.table, c.request, table, numbers),
-        CardAnswer::Refused(x) => Result::refused(x),
+        Ok(()) => calls::moves::move_in(c.table, c.request, table, numbers),
+        Err(x) => Result::refused(x),
     }
 }

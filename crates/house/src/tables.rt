@@ -1,5 +1,5 @@
 // Operations on images: each loads the image, and hands on its table; where that changes the table, its image is written back.
-ghost use Rattle.std.specs.Prelude.{◌≡◌, length};
+ghost use Rattle.std.specs.Prelude.{Ok, ◌≡◌, length};
 ghost use Rattle.table.specs.Words.{empty_table};
 ghost use Rattle.image.specs.Loading.{load_of};
 ghost use Rattle.image.specs.Answers.{store_of, stored_in};
@@ -7,7 +7,6 @@ ghost use Rattle.calls.specs.Results.{result_of};
 ghost use Rattle.calls.specs.Tables.{request_of, ask_for, after_admit, step_for, after_step, leave_for, after_leave, ReadyFor};
 
 use calls::Result;
-use image::LoadAnswer;
 use table::{Request, Table};
 
 // R85: the empty table's image goes into the lent buffer, or the buffer is too short and every byte stays.
@@ -31,8 +30,8 @@ pub extern "C" fn trimthuel_ask(
     let i = image::load(table);
     let said = i.answer;
     match said {
-        LoadAnswer::Read => { calls::tables::ask(i.table, Request::new(*stretched, need, period)) }
-        LoadAnswer::Refused(x) => Result::refused(x),
+        Ok(()) => { calls::tables::ask(i.table, Request::new(*stretched, need, period)) }
+        Err(x) => Result::refused(x),
     }
 }
 
@@ -49,10 +48,10 @@ pub extern "C" fn trimthuel_admit(
     let i = image::load(table);
     let said = i.answer;
     match said {
-        LoadAnswer::Read => {
+        Ok(()) => {
             calls::tables::admit(i.table, Request::new(*stretched, need, period), table)
         }
-        LoadAnswer::Refused(x) => Result::refused(x),
+        Err(x) => Result::refused(x),
     }
 }
 
@@ -64,8 +63,8 @@ pub extern "C" fn trimthuel_step(table: &mut [u8]) -> Result
     let i = image::load(table);
     let said = i.answer;
     match said {
-        LoadAnswer::Read => calls::tables::step(i.table, table),
-        LoadAnswer::Refused(x) => Result::refused(x),
+        Ok(()) => calls::tables::step(i.table, table),
+        Err(x) => Result::refused(x),
     }
 }
 
@@ -77,8 +76,8 @@ pub extern "C" fn trimthuel_leave(table: &mut [u8], number: u64) -> Result
     let i = image::load(table);
     let said = i.answer;
     match said {
-        LoadAnswer::Read => calls::tables::leave(i.table, number, table),
-        LoadAnswer::Refused(x) => Result::refused(x),
+        Ok(()) => calls::tables::leave(i.table, number, table),
+        Err(x) => Result::refused(x),
     }
 }
 
@@ -90,7 +89,7 @@ pub extern "C" fn trimthuel_ready(table: &[u8]) -> Result
     let i = image::load(table);
     let said = i.answer;
     match said {
-        LoadAnswer::Read => calls::tables::ready(i.table),
-        LoadAnswer::Refused(x) => Result::refused(x),
+        Ok(()) => calls::tables::ready(i.table),
+        Err(x) => Result::refused(x),
     }
 }

@@ -1,5 +1,6 @@
 -- Images and buffers on both sides of each edge of R81 to R84, by computation. The bytes are numbers here, and no two numbers of a line share one: an exchange of two
 -- numbers in the definitions changes what a row says.
+use Rattle.std.specs.Prelude.{Ok, Err}
 use Prim.Native.Nat.{ℕ, zero, suc, ◌+◌, ◌*◌}
 use mathlib.Core.Path.{◌≡◌, refl, ap}
 use mathlib.Core.List.{List, [], ◌∷◌, ◌++◌, map}
@@ -8,7 +9,7 @@ use lib.ListN.{length, take, set, replicate}
 use Rattle.line.specs.declared.Slot.{Slot}
 use Rattle.line.specs.Slots.{empty, lowest}
 use Rattle.table.specs.declared.Table.{Table}
-use Rattle.table.specs.Words.{table_with, with_counts, with_departed, with_last, refusal, Said, gives, refuses}
+use Rattle.table.specs.Words.{table_with, with_counts, with_departed, with_last, refusal, Said}
 use Rattle.table.specs.Cases.{running, parting, waiting}
 use Rattle.image.specs.declared.LoadAnswer.{LoadAnswer}
 use Rattle.image.specs.Image.{size, image_of}
@@ -76,10 +77,10 @@ under ss =
     (0x0706050403020100 + 0x0101010101010101 * (0x6C + 8 * n))) (0x74 + 8 * n)
 
 abbrev reads : List Slot → Said Table
-reads ss = gives (under ss)
+reads ss = Ok (under ss)
 
 abbrev breaks : (place : ℕ) → Said Table
-breaks at = refuses (refusal 11 at)
+breaks at = Err (refusal 11 at)
 
 -- some bytes, for how many slots, and what they are
 pub record ImageEdge : Type 0 where
@@ -136,7 +137,7 @@ zero_edges =
     ∷ edge 1 (whole 1 (0 ∷ replicate 8 255)) (breaks 10)
     ∷ edge 1 (whole 1 (2 ∷ replicate 8 255)) (breaks 16)
     ∷ edge 2 (4 ∷ replicate 8 255 ++ (1 ∷ replicate 8 255) ++ (3 ∷ replicate 41 255))
-    (gives (with_departed (with_counts (table_with 18446744073709551615 (running 65535 65535 65535 65535 ∷ parting 65535 65535 65535 65535 ∷ [])) (replicate 2 18446744073709551615) 18446744073709551615)
+    (Ok (with_departed (with_counts (table_with 18446744073709551615 (running 65535 65535 65535 65535 ∷ parting 65535 65535 65535 65535 ∷ [])) (replicate 2 18446744073709551615) 18446744073709551615)
     18446744073709551615))
     ∷ map (wrong_at 2 (whole 2 (runs ++ free)) 1) (19 ∷ 20 ∷ 25 ∷ 26 ∷ [])
     ++ map (wrong_at 2 (whole 2 (runs ++ waits)) 1) (25 ∷ 26 ∷ [])
@@ -170,7 +171,7 @@ free_before l = front ++ times 16 free ++ l ++ (255 ∷ [])
 
 -- what they read as
 abbrev free_reads : (had : List ℕ) (idle departed : ℕ) → Said Table
-free_reads ns n d = gives (with_departed (with_counts (table_with 0xA8A7A6A5A4A3A2A1 (replicate 16 empty)) ns n) d)
+free_reads ns n d = Ok (with_departed (with_counts (table_with 0xA8A7A6A5A4A3A2A1 (replicate 16 empty)) ns n) d)
 
 -- no count but 1 in one byte, where every slot holds nothing
 abbrev one_at : (at : ℕ) → List ℕ
@@ -279,7 +280,7 @@ lent n = replicate n 0xEE
 
 -- R33, R84: the room for an image, on both sides
 pub room_edges : map store_of (0 ∷ 9 ∷ 153 ∷ 289 ∷ 296 ∷ 297 ∷ 298 ∷ 299 ∷ 1000 ∷ [])
-    ≡ replicate 6 (refuses (refusal 13 0)) ++ replicate 3 (gives 298)
+    ≡ replicate 6 (Err (refusal 13 0)) ++ replicate 3 (Ok 298)
 unfolding store_of
 room_edges = refl
 
@@ -302,5 +303,5 @@ handed_edges = refl
 
 -- R17, R84: an answer says its own numbers, whatever table stands beside a refusal
 pub said_edges : (t : Table) → map said_loaded (record { table = t; answer = LoadAnswer.Read } ∷ record { table = t; answer = LoadAnswer.Refused (refusal 12 34) } ∷ [])
-    ≡ gives t ∷ refuses (refusal 12 34) ∷ []
+    ≡ Ok t ∷ Err (refusal 12 34) ∷ []
 said_edges t = refl

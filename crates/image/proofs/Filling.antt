@@ -1,4 +1,5 @@
 -- The loops over the slots and over the counts: what is read from an image one by one, and what is put into one; and a byte put behind the rest.
+use Rattle.std.specs.Prelude.{Ok, Err}
 use mathlib.Core.Path.{◌≡◌, refl, sym, ap, ap₂, ◌∙◌}
 use mathlib.Core.List.{List, [], ◌∷◌, ◌++◌}
 use Prim.Native.Nat.{ℕ, ◌+◌, ◌*◌, ◌-◌, ◌≤◌, ◌<◌}
@@ -9,7 +10,7 @@ use lib.ListN.{length, take, drop, set, get_or, length-append, length-drop, leng
 use lib.Seq.{take_all, take-suc-set, length-take-le, take_at, drop_at, drop-drop, sets-eq}
 use Rattle.table.specs.declared.Table.{Table}
 use Rattle.table.specs.declared.Refusal.{Refusal}
-use Rattle.table.specs.Words.{refusal, gives, refuses}
+use Rattle.table.specs.Words.{refusal}
 use Rattle.card.proofs.Parts.{put_at_lem}
 use Rattle.image.specs.Image.{series, image_of}
 use Rattle.image.specs.Loading.{series_in}
@@ -94,9 +95,9 @@ put_byte l₀ p {l} b a e ep h =
 
 module _ (t : Table) (l : List ℕ) where
   -- R33, R84: a buffer that is too short stays as it is
-  pub store_short : (x : Refusal) → x ≡ refusal 13 0 → length l < 298 → (refuses x ≡ store_of (length l)) × (l ≡ stored_in t l)
-  store_short x e h = (ap refuses e ∙ sym (no_room (length l) h), sym (stored_not t l h))
+  pub store_short : (x : Refusal) → x ≡ refusal 13 0 → length l < 298 → (Err x ≡ store_of (length l)) × (l ≡ stored_in t l)
+  store_short x e h = (ap Err e ∙ sym (no_room (length l) h), sym (stored_not t l h))
 
   -- R84: the image stands in front, and the bytes after it stay
-  pub store_whole : (m : List ℕ) → 298 ≤ length l → m ≡ image_of t ++ drop 298 l → (gives 298 ≡ store_of (length l)) × (m ≡ stored_in t l)
+  pub store_whole : (m : List ℕ) → 298 ≤ length l → m ≡ image_of t ++ drop 298 l → (Ok 298 ≡ store_of (length l)) × (m ≡ stored_in t l)
   store_whole m h e = (sym (has_room (length l) h), e ∙ sym (stored_is t l h))

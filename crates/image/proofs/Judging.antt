@@ -1,8 +1,8 @@
 -- Which byte is wrong (R83): of one slot, of the slots, and of the whole image.
+use Rattle.std.specs.Prelude.{Ok, Err, Option, None, Some}
 use mathlib.Core.Path.{◌≡◌, refl, sym, ap, ap₂, ◌∙◌}
 use mathlib.Core.List.{List, [], ◌∷◌}
 use mathlib.Core.Bool.{Bool, true, false, not}
-use mathlib.Core.Option.{Option, none, some}
 use Prim.Native.Nat.{ℕ, zero, suc, ◌+◌, ◌*◌, ◌-◌, ◌≤◌, ◌<◌}
 use native.Mathlib.Omega.{arith}
 use native.Mathlib.Decide.{dec_lt}
@@ -16,9 +16,7 @@ use Rattle.line.specs.Slots.{or_else}
 use Rattle.line.proofs.Sound.{both_false}
 use Rattle.line.proofs.Search.{Looking, look_on, look_stop, look_end, lowest_below, none_found}
 use Rattle.table.specs.declared.Table.{Table}
-use Rattle.table.specs.declared.Which.{Which}
-use Rattle.table.specs.declared.Which.TheVariants.{None, At}
-use Rattle.table.specs.Words.{slot_of, refusal, gives, refuses}
+use Rattle.table.specs.Words.{refusal}
 use Rattle.image.specs.declared.LoadAnswer.TheVariants.{Read}
 use Rattle.image.specs.declared.Loaded.{Loaded}
 use Rattle.image.specs.Answers.{handed_out}
@@ -70,7 +68,7 @@ pass_start l {i} e h =
     record { from = omega arith; looking = record { upto = h; passed = λ k p. rw (lt-leb (blank_from (byte l 0)) k (omega arith)) } }
 
 -- R83: where no byte is there, none is wrong
-pub none_there : (l : List ℕ) → length l ≤ 0 → none ≡ slot_wrong l
+pub none_there : (l : List ℕ) → length l ≤ 0 → None ≡ slot_wrong l
 none_there l h = sym (none_found (is_wrong l) 9 (λ k p. zero_right l k (past l k (omega arith))))
 
 module _ {l : List ℕ} {i : ℕ} (v : Passing l i) where
@@ -79,15 +77,15 @@ module _ {l : List ℕ} {i : ℕ} (v : Passing l i) where
   pass_on h e = let f = v.from in record { from = omega arith; looking = look_on v.looking h (zero_right l i e) }
 
   -- R83: the first that is not is the lowest wrong one
-  pub pass_stop : i < 9 → (byte l i ≡ 0 → ⊥) → some i ≡ slot_wrong l
+  pub pass_stop : i < 9 → (byte l i ≡ 0 → ⊥) → Some i ≡ slot_wrong l
   pass_stop h e = sym (look_stop v.looking h (rw (le-leb (blank_from (byte l 0)) i v.from, lt-ltb 0 (byte l i) (omega arith))))
 
   -- R83: after the nine bytes none is wrong
-  pub pass_end : 9 ≤ i → none ≡ slot_wrong l
+  pub pass_end : 9 ≤ i → None ≡ slot_wrong l
   pass_end h = sym (look_end v.looking h)
 
   -- R83: nor where the image ends
-  pub pass_cut : length l ≤ i → none ≡ slot_wrong l
+  pub pass_cut : length l ≤ i → None ≡ slot_wrong l
   pass_cut h =
       sym (none_found (is_wrong l) 9 (λ k p. elim (dec_lt k i) [
         | yes q ↦ v.looking.passed k q
@@ -104,7 +102,7 @@ value_zero (suc n) l at e (suc k) h =
     rw z (value_zero n l (suc at) (omega arith) k (omega arith))
 
 -- zeros from where they must be on
-zeros_right : (l : List ℕ) → ((i : ℕ) → blank_from (byte l 0) ≤ i → i < 9 → byte l i ≡ 0) → slot_wrong l ≡ none
+zeros_right : (l : List ℕ) → ((i : ℕ) → blank_from (byte l 0) ≤ i → i < 9 → byte l i ≡ 0) → slot_wrong l ≡ None
 zeros_right l z =
     none_found (is_wrong l) 9 (λ k p. elim (dec_lt k (blank_from (byte l 0))) [
       | yes q ↦ rw (lt-leb (blank_from (byte l 0)) k q)
@@ -113,7 +111,7 @@ zeros_right l z =
 
 module _ (l : List ℕ) where
   -- R83: nothing stands after kind 0
-  pub right_nothing : byte l 0 ≡ 0 → {v : ℕ} → v ≡ value 8 l 1 → {b : Bool} → b ≡ eqb v 0 → b ≡ true → slot_wrong l ≡ none
+  pub right_nothing : byte l 0 ≡ 0 → {v : ℕ} → v ≡ value 8 l 1 → {b : Bool} → b ≡ eqb v 0 → b ≡ true → slot_wrong l ≡ None
   right_nothing k {v} e f t =
       zeros_right l (λ i h p.
       let f0 = blank_nothing (byte l 0) k in
@@ -122,7 +120,7 @@ module _ (l : List ℕ) where
       rw j z)
 
   -- R83: after kind 2 six bytes are a line's, and the last two are none's
-  pub right_waiting : byte l 0 ≡ 2 → Bytes l → {v : ℕ} → v ≡ value 8 l 1 → {b : Bool} → b ≡ ltb v 281474976710656 → b ≡ true → slot_wrong l ≡ none
+  pub right_waiting : byte l 0 ≡ 2 → Bytes l → {v : ℕ} → v ≡ value 8 l 1 → {b : Bool} → b ≡ ltb v 281474976710656 → b ≡ true → slot_wrong l ≡ None
   right_waiting k bs {v} e f t =
       zeros_right l (λ i h p.
       let f0 = blank_waiting (byte l 0) k in
@@ -132,7 +130,7 @@ module _ (l : List ℕ) where
       rw j z)
 
 -- no slot of an image that has ended is wrong
-ended : (n at : ℕ) → slots_wrong n at [] ≡ none
+ended : (n at : ℕ) → slots_wrong n at [] ≡ None
 unfolding slots_wrong
 ended zero at = refl
 ended (suc n) at = rw (sym (none_there [] (omega arith))) (ended n (at + 9))
@@ -156,7 +154,7 @@ module _ {n : ℕ} {l : List ℕ} {k : ℕ} (v : Judged n l k) (h : k < n) where
   next = sym (one (n - k) (9 + 9 * k) (drop (9 + 9 * k) l) (omega arith)) ∙ v.left
 
   -- a slot that is right is passed
-  pub judge_past : slot_wrong (drop (9 + 9 * k) l) ≡ none → Judged n l (k + 1)
+  pub judge_past : slot_wrong (drop (9 + 9 * k) l) ≡ None → Judged n l (k + 1)
   judge_past e =
       let d : 9 + 9 * k + 9 ≡ 9 + 9 * (k + 1) = omega arith in
       record {
@@ -168,25 +166,25 @@ module _ {n : ℕ} {l : List ℕ} {k : ℕ} (v : Judged n l k) (h : k < n) where
       }
 
   -- the same of a slot in which no wrong byte was found
-  pub judge_on : (w : Which) → slot_of w ≡ slot_wrong (drop (9 + 9 * k) l) → w ≡ None → Judged n l (k + 1)
-  judge_on w e q = judge_past (sym e ∙ ap slot_of q)
+  pub judge_on : (w : Option ℕ) → w ≡ slot_wrong (drop (9 + 9 * k) l) → w ≡ None → Judged n l (k + 1)
+  judge_on w e q = judge_past (sym e ∙ q)
 
   -- a wrong byte of a slot is one of its nine
-  pub judge_below : (w : Which) (i : ℕ) → slot_of w ≡ slot_wrong (drop (9 + 9 * k) l) → w ≡ At i → i < 9
-  judge_below w i e q = lowest_below (is_wrong (drop (9 + 9 * k) l)) 9 (sym e ∙ ap slot_of q)
+  pub judge_below : (w : Option ℕ) (i : ℕ) → w ≡ slot_wrong (drop (9 + 9 * k) l) → w ≡ Some i → i < 9
+  judge_below w i e q = lowest_below (is_wrong (drop (9 + 9 * k) l)) 9 (sym e ∙ q)
 
   -- R83: the first that is wrong has the lowest wrong byte
-  pub judge_stop : (w : Which) (i : ℕ) → slot_of w ≡ slot_wrong (drop (9 + 9 * k) l) → w ≡ At i → some (9 + 9 * k + i) ≡ slots_wrong n 9 (drop 9 l)
+  pub judge_stop : (w : Option ℕ) (i : ℕ) → w ≡ slot_wrong (drop (9 + 9 * k) l) → w ≡ Some i → Some (9 + 9 * k + i) ≡ slots_wrong n 9 (drop 9 l)
   judge_stop w i e q =
-      ap (λ (o : Option ℕ). or_else (on_by (9 + 9 * k) o) (slots_wrong (n - (k + 1)) (9 + 9 * k + 9) (drop 9 (drop (9 + 9 * k) l)))) (sym (ap slot_of q) ∙ e) ∙ next
+      ap (λ (o : Option ℕ). or_else (on_by (9 + 9 * k) o) (slots_wrong (n - (k + 1)) (9 + 9 * k + 9) (drop 9 (drop (9 + 9 * k) l)))) (sym (q) ∙ e) ∙ next
 
   -- R83: where the image has ended no further byte is
-  pub judge_cut : length l ≤ 9 + 9 * k → none ≡ slots_wrong n 9 (drop 9 l)
+  pub judge_cut : length l ≤ 9 + 9 * k → None ≡ slots_wrong n 9 (drop 9 l)
   judge_cut q =
       sym (ended (n - k) (9 + 9 * k)) ∙ ap (slots_wrong (n - k) (9 + 9 * k)) (sym (drop_of_length-le l {i = 9 + 9 * k} q)) ∙ v.left
 
 -- R83: all slots are right
-pub judge_end : {n : ℕ} {l : List ℕ} {k : ℕ} → Judged n l k → n ≤ k → none ≡ slots_wrong n 9 (drop 9 l)
+pub judge_end : {n : ℕ} {l : List ℕ} {k : ℕ} → Judged n l k → n ≤ k → None ≡ slots_wrong n 9 (drop 9 l)
 unfolding slots_wrong
 judge_end {n} {l} {k} v h =
     let z : n - k ≡ 0 = omega arith in
@@ -194,17 +192,17 @@ judge_end {n} {l} {k} v h =
 
 module _ (m n : ℕ) where
   -- R83: the length that is wanted
-  pub length_right : n ≡ m → none ≡ length_wrong m n
+  pub length_right : n ≡ m → None ≡ length_wrong m n
   unfolding length_wrong
   length_right e = rw (eq-eqb n m e)
 
   -- R83: less than that
-  pub length_short : (n ≡ m → ⊥) → n < m → some n ≡ length_wrong m n
+  pub length_short : (n ≡ m → ⊥) → n < m → Some n ≡ length_wrong m n
   unfolding length_wrong
   length_short d h = rw (ne_eqb n m d, lt-ltb n m h)
 
   -- R83: more than that
-  pub length_long : (n ≡ m → ⊥) → m ≤ n → some m ≡ length_wrong m n
+  pub length_long : (n ≡ m → ⊥) → m ≤ n → Some m ≡ length_wrong m n
   unfolding length_wrong
   length_long d h = rw (ne_eqb n m d, le-ltb n m h)
 
@@ -216,13 +214,13 @@ module _ (n : ℕ) (l : List ℕ) where
   -- the version was tested
   module _ {b : Bool} (v : b ≡ not (eqb (byte l 0) version)) where
     -- R83: the version is looked at first
-    pub version_first : b ≡ true → some 0 ≡ wrong_in n l
+    pub version_first : b ≡ true → Some 0 ≡ wrong_in n l
     unfolding wrong_in
     version_first h = rw (not-true (eqb (byte l 0) version) (sym v ∙ h))
 
-    module _ (h : b ≡ false) {w : Which} (e : slot_of w ≡ slots_wrong n 9 (drop 9 l)) where
+    module _ (h : b ≡ false) {w : Option ℕ} (e : w ≡ slots_wrong n 9 (drop 9 l)) where
       -- R83: then the slots
-      pub slots_then : (p : ℕ) → w ≡ At p → slot_of w ≡ wrong_in n l
+      pub slots_then : (p : ℕ) → w ≡ Some p → w ≡ wrong_in n l
       unfolding wrong_in
       slots_then p q = rw (not-false (eqb (byte l 0) version) (sym v ∙ h), sym e, q)
 
@@ -232,17 +230,17 @@ module _ (n : ℕ) (l : List ℕ) where
       length_last q k = k ∙ rw (not-false (eqb (byte l 0) version) (sym v ∙ h), sym e, q)
 
   -- what is wrong was looked for
-  module _ {w : Which} (e : slot_of w ≡ wrong_in n l) where
+  module _ {w : Option ℕ} (e : w ≡ wrong_in n l) where
     -- R83: an image that is not wrong has its length
     pub has_length : w ≡ None → length l ≡ size n
-    has_length q = (nothing_wrong n l (sym e ∙ ap slot_of q)).2
+    has_length q = (nothing_wrong n l (sym e ∙ q)).2
 
     -- R31, R83: what is wrong is refused at its offset
-    pub load_broken : (p : ℕ) (r : Loaded) → w ≡ At p → r ≡ handed_out (refuses (refusal 11 p)) → r ≡ handed_out (load_with n l)
+    pub load_broken : (p : ℕ) (r : Loaded) → w ≡ Some p → r ≡ handed_out (Err (refusal 11 p)) → r ≡ handed_out (load_with n l)
     unfolding load_with
-    load_broken p r q b = b ∙ ap (λ (o : Option ℕ). handed_out (unless_wrong o (table_in n l))) (sym (ap slot_of q) ∙ e)
+    load_broken p r q b = b ∙ ap (λ (o : Option ℕ). handed_out (unless_wrong o (table_in n l))) (sym (q) ∙ e)
 
     -- R83: and what is not is a table
     pub load_right : (t : Table) → w ≡ None → t ≡ table_in n l → record { table = t; answer = Read } ≡ handed_out (load_with n l)
     unfolding load_with
-    load_right t q b = ap (λ (u : Table). handed_out (gives u)) b ∙ ap (λ (o : Option ℕ). handed_out (unless_wrong o (table_in n l))) (sym (ap slot_of q) ∙ e)
+    load_right t q b = ap (λ (u : Table). handed_out (Ok u)) b ∙ ap (λ (o : Option ℕ). handed_out (unless_wrong o (table_in n l))) (sym (q) ∙ e)

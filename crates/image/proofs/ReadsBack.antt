@@ -1,7 +1,7 @@
 -- An image loads as its table (R82), and how long it is.
+use Rattle.std.specs.Prelude.{Ok, Option, None}
 use mathlib.Core.Path.{◌≡◌, refl, sym, ap, ap₂, ◌∙◌}
 use mathlib.Core.List.{List, [], ◌∷◌, ◌++◌, append_assoc}
-use mathlib.Core.Option.{Option, none}
 use Prim.Native.Nat.{ℕ, ◌+◌, ◌*◌, ◌<◌}
 use native.Mathlib.Omega.{arith}
 use lib.ListN.{length, drop, length-append}
@@ -13,7 +13,7 @@ use Rattle.line.specs.declared.Held.TheVariants.{Nothing, Running, Waiting}
 use Rattle.line.specs.declared.Slot.{Slot}
 use Rattle.line.specs.Slots.{holding, lowest}
 use Rattle.table.specs.declared.Table.{Table}
-use Rattle.table.specs.Words.{table_with, with_counts, with_departed, with_last, Said, gives}
+use Rattle.table.specs.Words.{table_with, with_counts, with_departed, with_last, Said}
 use Rattle.card.specs.Bytes.{le, value}
 use Rattle.card.proofs.Numbers.{value_le}
 use Rattle.image.specs.Image.{version, counts_at, idle_at, departed_at, last_at, size, run_kind, nine, by_fields, slot_bytes, slots_bytes, counts_bytes, image_of, Narrow, AllNarrow, InEight, TableWidths}
@@ -52,7 +52,7 @@ length_image n t e f =
 
 -- R82: nothing is wrong with a slot's nine bytes, what it holds stands in them, and what follows stands behind them
 pub loads_slot : (h : Held) (x : List ℕ) → Narrow h
-    → (slot_wrong (slot_bytes h ++ x) ≡ none) × (held_in (slot_bytes h ++ x) ≡ h) × (drop 9 (slot_bytes h ++ x) ≡ x)
+    → (slot_wrong (slot_bytes h ++ x) ≡ None) × (held_in (slot_bytes h ++ x) ≡ h) × (drop 9 (slot_bytes h ++ x) ≡ x)
 unfolding lowest blank_from held_in
 loads_slot Nothing x f = (refl, refl, refl)
 loads_slot (Running r) x f =
@@ -70,7 +70,7 @@ loads_slot (Waiting w) x f =
     (refl, simp (a, b, c), refl)
 
 -- R83: nothing is wrong with the slots one by one, from any offset on, whatever follows them
-no_slot_wrong : (ss : List Slot) (at : ℕ) (y : List ℕ) → AllNarrow ss → slots_wrong (length ss) at (slots_bytes ss ++ y) ≡ none
+no_slot_wrong : (ss : List Slot) (at : ℕ) (y : List ℕ) → AllNarrow ss → slots_wrong (length ss) at (slots_bytes ss ++ y) ≡ None
 unfolding slots_wrong
 no_slot_wrong [] at y f = refl
 no_slot_wrong (s ∷ ss) at y f =
@@ -125,13 +125,13 @@ module _ (n : ℕ) (t : Table) (w : TableWidths n t) where
   behind_departed : drop (last_at n) (image_of t) ≡ t.last ∷ []
   behind_departed = sym (drop-drop 8 (departed_at n) (image_of t)) ∙ ap (drop 8) behind_idle
 
-  slots_stored : slots_wrong n 9 (drop 9 (image_of t)) ≡ none
+  slots_stored : slots_wrong n 9 (drop 9 (image_of t)) ≡ None
   slots_stored =
       ap (slots_wrong n 9) behind_front ∙ ap (λ (k : ℕ). slots_wrong k 9 (slots_bytes t.slots ++ tail)) (sym w.slots)
       ∙ no_slot_wrong t.slots 9 tail w.lines
 
   -- R83: nothing is wrong with an image
-  pub image_right : wrong_in n (image_of t) ≡ none
+  pub image_right : wrong_in n (image_of t) ≡ None
   unfolding wrong_in length_wrong
   image_right = rw (first_byte, slots_stored, eq-eqb (length (image_of t)) (size n) (length_image n t w.slots w.counts))
 
@@ -170,12 +170,12 @@ module _ (n : ℕ) (t : Table) (w : TableWidths n t) where
       last = sym (byte_front (last_at n) (image_of t)) ∙ ap (λ (x : List ℕ). byte x 0) behind_departed
 
   -- R82: an image loads as its table
-  pub loads_back : load_with n (image_of t) ≡ gives t
+  pub loads_back : load_with n (image_of t) ≡ Ok t
   unfolding load_with
-  loads_back = ap (λ (o : Option ℕ). unless_wrong o (table_in n (image_of t))) image_right ∙ ap gives table_back
+  loads_back = ap (λ (o : Option ℕ). unless_wrong o (table_in n (image_of t))) image_right ∙ ap Ok table_back
 
 -- R82: no two tables have the same image
 pub one_image : (n : ℕ) (t u : Table) → TableWidths n t → TableWidths n u → image_of t ≡ image_of u → t ≡ u
 one_image n t u v w e =
-    let h : ◌≡◌ {A = Said Table} (gives t) (gives u) = sym (loads_back n t v) ∙ ap (load_with n) e ∙ loads_back n u w in
+    let h : ◌≡◌ {A = Said Table} (Ok t) (Ok u) = sym (loads_back n t v) ∙ ap (load_with n) e ∙ loads_back n u w in
     cc

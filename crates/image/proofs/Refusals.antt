@@ -1,8 +1,8 @@
 -- R83 in its own words: the offset refused is the lowest at which something is wrong, and nothing behind it is looked at.
+use Rattle.std.specs.Prelude.{Ok, Err, Option, None, Some}
 use mathlib.Core.Path.{◌≡◌, refl, sym, ap, ◌∙◌}
 use mathlib.Core.List.{List}
 use mathlib.Core.Bool.{Bool, true, false}
-use mathlib.Core.Option.{Option, none, some}
 use mathlib.Core.Logic.{◌⊎◌, inl, inr, ⊎_elim}
 use Prim.Native.Nat.{ℕ, zero, suc, ◌+◌, ◌*◌, ◌≤◌, ◌<◌, min}
 use native.Mathlib.Omega.{arith}
@@ -16,7 +16,7 @@ use Rattle.line.proofs.Search.{Found, true_false, lowest_says}
 use Rattle.line.proofs.Sound.{both_says}
 use Rattle.table.specs.declared.Table.{Table}
 use Rattle.table.specs.declared.Refusal.{Refusal}
-use Rattle.table.specs.Words.{refusal, gives, refuses}
+use Rattle.table.specs.Words.{refusal}
 use Rattle.image.specs.Image.{size}
 use Rattle.image.specs.Loading.{byte, blank_from, is_wrong, slot_wrong, on_by, slots_wrong, version_wrong, length_wrong, wrong_in, table_in, unless_wrong, load_with}
 use Rattle.image.proofs.Series.{next_drop}
@@ -37,24 +37,24 @@ pub data Wrong (n : ℕ) (l : List ℕ) (p : ℕ) : Type 0 where
 
 -- what a search for the lowest offset with P says when it gives o
 abbrev pub Least : (ℕ → Type 0) → Option ℕ → Type 0
-Least P none = (q : ℕ) → P q → ⊥
-Least P (some p) = P p × ((q : ℕ) → P q → p ≤ q)
+Least P None = (q : ℕ) → P q → ⊥
+Least P (Some p) = P p × ((q : ℕ) → P q → p ≤ q)
 
 -- the same search under another name
 least_same : (P Q : ℕ → Type 0) (o : Option ℕ) → ((q : ℕ) → P q → Q q) → ((q : ℕ) → Q q → P q) → Least P o → Least Q o
-least_same P Q none f g v = λ q h. v q (g q h)
-least_same P Q (some p) f g v = (f p v.0, λ q h. v.1 q (g q h))
+least_same P Q None f g v = λ q h. v q (g q h)
+least_same P Q (Some p) f g v = (f p v.0, λ q h. v.1 q (g q h))
 
 -- two searches, of which the first one's offsets are the lower ones
 least_or : (P Q : ℕ → Type 0) (o u : Option ℕ) → ((p q : ℕ) → P p → Q q → p ≤ q) → Least P o → Least Q u → Least (λ q. P q ⊎ Q q) (or_else o u)
-least_or P Q none none h v w = λ q x. ⊎_elim (v q) (w q) x
-least_or P Q none (some p) h v w = (inr w.0, λ q x. ⊎_elim (λ a. absurd (v q a)) (w.1 q) x)
-least_or P Q (some p) u h v w = (inl v.0, λ q x. ⊎_elim (v.1 q) (h p q v.0) x)
+least_or P Q None None h v w = λ q x. ⊎_elim (v q) (w q) x
+least_or P Q None (Some p) h v w = (inr w.0, λ q x. ⊎_elim (λ a. absurd (v q a)) (w.1 q) x)
+least_or P Q (Some p) u h v w = (inl v.0, λ q x. ⊎_elim (v.1 q) (h p q v.0) x)
 
 -- a search so many bytes further on
 least_on : (P : ℕ → Type 0) (k : ℕ) (o : Option ℕ) → Least P o → Least (λ q. (i : ℕ) × (q ≡ k + i) × P i) (on_by k o)
-least_on P k none v = λ q x. v x.0 x.2
-least_on P k (some i) v = ((i, refl, v.0), λ q x. omega (arith, v.1 x.0 x.2, x.1))
+least_on P k None v = λ q x. v x.0 x.2
+least_on P k (Some i) v = ((i, refl, v.0), λ q x. omega (arith, v.1 x.0 x.2, x.1))
 
 -- R83: of a kind above 3 every byte should be 0, the kind itself too
 blank_above : (k : ℕ) → 3 < k → blank_from k ≡ 0
@@ -100,8 +100,8 @@ module _ (l : List ℕ) where
   slot_least = go (slot_wrong l) (lowest_says (is_wrong l) 9 refl)
     where
       go : (o : Option ℕ) → Found (is_wrong l) 9 o → Least (WrongByte l) o
-      go none v = λ q w. true_false (tested q w).1 (v q (tested q w).0)
-      go (some i) v = (
+      go None v = λ q w. true_false (tested q w).1 (v q (tested q w).0)
+      go (Some i) v = (
         lowest_wrong i v.0 v.1 v.2,
         λ q w. elim (dec_lt q i) [ yes p ↦ absurd (true_false (tested q w).1 (v.2 q p)) | no x ↦ omega arith ],
       )
@@ -167,7 +167,7 @@ module _ (n : ℕ) (l : List ℕ) where
   version_least : Least OfVersion (version_wrong l)
   version_least = go (eqb (byte l 0) 4) refl
     where
-      go : (o : Bool) → eqb (byte l 0) 4 ≡ o → Least OfVersion (pick o none (some 0))
+      go : (o : Bool) → eqb (byte l 0) 4 ≡ o → Least OfVersion (pick o None (Some 0))
       go true e = λ q x. x.1 (eqb-true (byte l 0) 4 e)
       go false e = ((refl, eqb-false (byte l 0) 4 e), λ q x. omega arith)
 
@@ -176,7 +176,7 @@ module _ (n : ℕ) (l : List ℕ) where
   length_least = go (eqb (length l) (size n)) (ltb (length l) (size n)) refl refl
     where
       go : (o u : Bool) → eqb (length l) (size n) ≡ o → ltb (length l) (size n) ≡ u
-          → Least OfLength (pick o none (some (pick u (length l) (size n))))
+          → Least OfLength (pick o None (Some (pick u (length l) (size n))))
       go true u d e = λ q x. x.0 (eqb-true (length l) (size n) d)
       go false true d e =
           let m : length l ≡ min (length l) (size n) = omega (arith, ltb-true (length l) (size n) e) in
@@ -214,46 +214,46 @@ module _ (n : ℕ) (l : List ℕ) where
       order p q x y = let v = wrong_within p (slot_is p x) in omega (arith, v.0, v.1, y.1)
 
   -- R83: bytes that load have nothing wrong at any offset
-  pub loaded_right : (t : Table) → load_with n l ≡ gives t → (q : ℕ) → Wrong n l q → ⊥
+  pub loaded_right : (t : Table) → load_with n l ≡ Ok t → (q : ℕ) → Wrong n l q → ⊥
   loaded_right t e = rw (loads_says n l t e).0 at wrong_least
 
   -- R83: and bytes that have nothing wrong load
-  pub right_loaded : ((q : ℕ) → Wrong n l q → ⊥) → load_with n l ≡ gives (table_in n l)
+  pub right_loaded : ((q : ℕ) → Wrong n l q → ⊥) → load_with n l ≡ Ok (table_in n l)
   unfolding load_with
   right_loaded h = go (wrong_in n l) wrong_least
     where
-      go : (o : Option ℕ) → Least (Wrong n l) o → unless_wrong o (table_in n l) ≡ gives (table_in n l)
-      go none v = refl
-      go (some p) v = absurd (h p v.0)
+      go : (o : Option ℕ) → Least (Wrong n l) o → unless_wrong o (table_in n l) ≡ Ok (table_in n l)
+      go None v = refl
+      go (Some p) v = absurd (h p v.0)
 
   -- R31, R83: a refusal has the number 11 and the lowest offset at which something is wrong
-  pub refused_lowest : (x : Refusal) → load_with n l ≡ refuses x → (p : ℕ) × (x ≡ refusal 11 p) × Wrong n l p × ((q : ℕ) → Wrong n l q → p ≤ q)
+  pub refused_lowest : (x : Refusal) → load_with n l ≡ Err x → (p : ℕ) × (x ≡ refusal 11 p) × Wrong n l p × ((q : ℕ) → Wrong n l q → p ≤ q)
   unfolding load_with
   refused_lowest x e = go (wrong_in n l) wrong_least e
     where
-      go : (o : Option ℕ) → Least (Wrong n l) o → unless_wrong o (table_in n l) ≡ refuses x
+      go : (o : Option ℕ) → Least (Wrong n l) o → unless_wrong o (table_in n l) ≡ Err x
           → (p : ℕ) × (x ≡ refusal 11 p) × Wrong n l p × ((q : ℕ) → Wrong n l q → p ≤ q)
-      go none v e = let z : ◌≡◌ {A = ℕ} 0 1 = cc in absurd (omega arith)
-      go (some p) v e = (p, cc, v.0, v.1)
+      go None v e = let z : ◌≡◌ {A = ℕ} 0 1 = cc in absurd (omega arith)
+      go (Some p) v e = (p, cc, v.0, v.1)
 
   -- R83: and that offset is the one refused
-  pub lowest_refused : (p : ℕ) → Wrong n l p → ((q : ℕ) → Wrong n l q → p ≤ q) → load_with n l ≡ refuses (refusal 11 p)
+  pub lowest_refused : (p : ℕ) → Wrong n l p → ((q : ℕ) → Wrong n l q → p ≤ q) → load_with n l ≡ Err (refusal 11 p)
   unfolding load_with
   lowest_refused p w h = go (wrong_in n l) wrong_least
     where
-      go : (o : Option ℕ) → Least (Wrong n l) o → unless_wrong o (table_in n l) ≡ refuses (refusal 11 p)
-      go none v = absurd (v p w)
-      go (some q) v = let e : q ≡ p = omega (arith, v.1 p w, h q v.0) in rw e
+      go : (o : Option ℕ) → Least (Wrong n l) o → unless_wrong o (table_in n l) ≡ Err (refusal 11 p)
+      go None v = absurd (v p w)
+      go (Some q) v = let e : q ≡ p = omega (arith, v.1 p w, h q v.0) in rw e
 
   -- R83: bytes refused at an offset are wrong there, and nowhere before it
-  pub refused_at_lem : (p : ℕ) → load_with n l ≡ refuses (refusal 11 p) → Wrong n l p × ((q : ℕ) → Wrong n l q → p ≤ q)
+  pub refused_at_lem : (p : ℕ) → load_with n l ≡ Err (refusal 11 p) → Wrong n l p × ((q : ℕ) → Wrong n l q → p ≤ q)
   refused_at_lem p e =
       let v = refused_lowest (refusal 11 p) e in
       let z : p ≡ v.0 = ap (λ (x : Refusal). x.place) v.1 in
       rw z (v.2, v.3)
 
   -- R83: an offset refused is within the bytes and within an image, or at their end
-  pub refused_within : (p : ℕ) → load_with n l ≡ refuses (refusal 11 p) → (p ≤ length l) × (p ≤ size n)
+  pub refused_within : (p : ℕ) → load_with n l ≡ Err (refusal 11 p) → (p ≤ length l) × (p ≤ size n)
   refused_within p e = wrong_within p (refused_at_lem p e).0
 
 -- bytes that agree up to offset p
@@ -276,7 +276,7 @@ module _ (n : ℕ) (l m : List ℕ) (p : ℕ) (same : (j : ℕ) → j ≤ p → 
 
 -- R83: a wrong byte is refused whatever stands behind it: bytes that agree up to it are refused there too
 pub refused_before : (n : ℕ) (l m : List ℕ) (p : ℕ) → take (p + 1) l ≡ take (p + 1) m → p < length l → p < size n
-    → load_with n l ≡ refuses (refusal 11 p) → load_with n m ≡ refuses (refusal 11 p)
+    → load_with n l ≡ Err (refusal 11 p) → load_with n m ≡ Err (refusal 11 p)
 refused_before n l m p e a b r =
     let same : (j : ℕ) → j ≤ p → byte l j ≡ byte m j =
     λ j h. sym (get_or-take (p + 1) l j 0 (omega arith)) ∙ ap (λ (x : List ℕ). byte x j) e ∙ get_or-take (p + 1) m j 0 (omega arith) in

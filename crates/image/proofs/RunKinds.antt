@@ -1,7 +1,7 @@
 -- The kinds of a running line (R81): 1 where it renews, 3 where it leaves. Nine bytes of either are all a line's.
 use mathlib.Core.Path.{◌≡◌, refl}
 use mathlib.Core.List.{List}
-use mathlib.Core.Option.{none}
+use Rattle.std.specs.Prelude.{None}
 use Prim.Native.Nat.{ℕ, ◌<◌}
 use native.Mathlib.Omega.{arith}
 use Rattle.line.specs.declared.Follows.{Follows}
@@ -29,6 +29,6 @@ run_in_lem Renews l e = rw e
 run_in_lem Leaves l e = rw e
 
 -- R83: nothing is wrong with them
-pub run_right : (f : Follows) (l : List ℕ) → byte l 0 ≡ run_kind f → slot_wrong l ≡ none
+pub run_right : (f : Follows) (l : List ℕ) → byte l 0 ≡ run_kind f → slot_wrong l ≡ None
 unfolding lowest
 run_right f l e = rw (e, run_blank f)

@@ -1,4 +1,5 @@
 -- An image in a lent buffer (R84): it stands at the start and loads from there, and every byte behind it is as it was.
+use Rattle.std.specs.Prelude.{Ok, Err}
 use mathlib.Core.Path.{◌≡◌, refl, sym, ap, ◌∙◌, subst}
 use mathlib.Core.List.{List, [], ◌∷◌, ◌++◌, append_assoc}
 use mathlib.Core.Bool.{Bool, true, false}
@@ -11,7 +12,7 @@ use lib.Dec.{leb}
 use Rattle.line.specs.declared.Slot.{Slot}
 use Rattle.line.specs.Slots.{pick}
 use Rattle.table.specs.declared.Table.{Table}
-use Rattle.table.specs.Words.{refusal, gives, refuses}
+use Rattle.table.specs.Words.{refusal}
 use Rattle.card.specs.Bytes.{Bytes, le}
 use Rattle.card.specs.Answers.{filled}
 use Rattle.image.specs.Image.{version, nine, slot_bytes, slots_bytes, counts_bytes, image_of, TableWidths}
@@ -57,21 +58,21 @@ bytes_image t h =
     (bytes_series (le 8) (bytes_le 8) t.had i (bytes_le 8 t.idle d (bytes_le 8 t.departed k (bytes_cons t.last [] h (λ i. omega arith))))))))
 
 -- R84: 298 bytes are room
-pub has_room : (room : ℕ) → 298 ≤ room → store_of room ≡ gives 298
+pub has_room : (room : ℕ) → 298 ≤ room → store_of room ≡ Ok 298
 unfolding store_of
 has_room room h = rw (le-leb 298 room h)
 
 -- R33, R84: fewer are none
-pub no_room : (room : ℕ) → room < 298 → store_of room ≡ refuses (refusal 13 0)
+pub no_room : (room : ℕ) → room < 298 → store_of room ≡ Err (refusal 13 0)
 unfolding store_of
 no_room room h = rw (lt-leb 298 room h)
 
 -- R84: a length that is given is 298, and there was room for it
-pub room_is : (room n : ℕ) → store_of room ≡ gives n → (298 ≤ room) × (n ≡ 298)
+pub room_is : (room n : ℕ) → store_of room ≡ Ok n → (298 ≤ room) × (n ≡ 298)
 unfolding store_of
 room_is room n e = go (leb 298 room) refl e
   where
-    go : (b : Bool) → leb 298 room ≡ b → pick b (gives 298) (refuses (refusal 13 0)) ≡ gives n → (298 ≤ room) × (n ≡ 298)
+    go : (b : Bool) → leb 298 room ≡ b → pick b (Ok 298) (Err (refusal 13 0)) ≡ Ok n → (298 ≤ room) × (n ≡ 298)
     go true h q = (leb-true 298 room h, cc)
     go false h q = let z : ◌≡◌ {A = ℕ} 0 1 = cc in absurd (omega arith)
 
@@ -93,7 +94,7 @@ module _ (t : Table) (l : List ℕ) where
   stored_length e f h = ap length (stored_is h) ∙ omega (arith, length-append (image_of t) (drop 298 l), length_image 16 t e f, length-drop 298 l)
 
   -- R82, R84: what was stored loads
-  pub stored_loads : TableWidths 16 t → 298 ≤ length l → load_of (take 298 (stored_in t l)) ≡ gives t
+  pub stored_loads : TableWidths 16 t → 298 ≤ length l → load_of (take 298 (stored_in t l)) ≡ Ok t
   stored_loads w h =
       ap (λ (x : List ℕ). load_of (take 298 x)) (stored_is h)
       ∙ ap load_of (take_at (image_of t) (drop 298 l) 298 (length_image 16 t w.slots w.counts))

@@ -1,8 +1,8 @@
 -- An image that loads is stored byte for byte as it was (R82).
+use Rattle.std.specs.Prelude.{Ok, Option, None, Some}
 use mathlib.Core.Path.{◌≡◌, refl, sym, ap, ap₂, ◌∙◌}
 use mathlib.Core.List.{List, [], ◌∷◌, ◌++◌, append_assoc}
 use mathlib.Core.Bool.{Bool, true, false}
-use mathlib.Core.Option.{Option, none, some}
 use Prim.Native.Nat.{ℕ, zero, suc, ◌+◌, ◌*◌, ◌≤◌, ◌<◌}
 use native.Mathlib.Omega.{arith}
 use lib.ListN.{length, drop, length-drop, drop_of_length-le}
@@ -17,7 +17,6 @@ use Rattle.line.specs.declared.Slot.{Slot}
 use Rattle.line.specs.Slots.{pick, holding, or_else}
 use Rattle.line.proofs.Search.{lowest_none}
 use Rattle.table.specs.declared.Table.{Table}
-use Rattle.table.specs.Words.{gives}
 use Rattle.card.specs.Bytes.{Bytes, le, value}
 use Rattle.card.proofs.Numbers.{bytes_drop, le_value, value_lt}
 use Rattle.image.specs.Image.{version, counts_at, idle_at, departed_at, last_at, size, run_kind, nine, slot_bytes, slots_bytes, counts_bytes, image_of, Narrow, AllNarrow, InEight, TableWidths}
@@ -25,16 +24,16 @@ use Rattle.image.specs.Loading.{byte, blank_from, is_wrong, slot_wrong, on_by, s
 use Rattle.image.proofs.Series.{next_drop, length_found, series_stand}
 
 -- where a first and a second find none, neither finds one
-pub or_none : (o p : Option ℕ) → or_else o p ≡ none → (o ≡ none) × (p ≡ none)
-or_none none p e = (refl, e)
-or_none (some k) p e = let z : ◌≡◌ {A = ℕ} 0 1 = cc in absurd (omega arith)
+pub or_none : (o p : Option ℕ) → or_else o p ≡ None → (o ≡ None) × (p ≡ None)
+or_none None p e = (refl, e)
+or_none (Some k) p e = let z : ◌≡◌ {A = ℕ} 0 1 = cc in absurd (omega arith)
 
-on_none : (k : ℕ) (o : Option ℕ) → on_by k o ≡ none → o ≡ none
-on_none k none e = refl
-on_none k (some i) e = let z : ◌≡◌ {A = ℕ} 0 1 = cc in absurd (omega arith)
+on_none : (k : ℕ) (o : Option ℕ) → on_by k o ≡ None → o ≡ None
+on_none k None e = refl
+on_none k (Some i) e = let z : ◌≡◌ {A = ℕ} 0 1 = cc in absurd (omega arith)
 
 -- a ground that a failed test gives is not given where the test holds
-pub pick_none : (o : Bool) (k : ℕ) → pick o none (some k) ≡ none → o ≡ true
+pub pick_none : (o : Bool) (k : ℕ) → pick o None (Some k) ≡ None → o ≡ true
 pick_none true k e = refl
 pick_none false k e = let z : ◌≡◌ {A = ℕ} 0 1 = cc in absurd (omega arith)
 
@@ -48,7 +47,7 @@ nine_is l b h =
     ∙ ap (λ (x : List ℕ). le 2 (value 2 l 3) ++ x) (le_value 2 l 5 b (omega arith)
     ∙ ap (λ (x : List ℕ). le 2 (value 2 l 5) ++ x) (le_value 2 l 7 b (omega arith)))))
 
-module _ (l : List ℕ) (w : slot_wrong l ≡ none) where
+module _ (l : List ℕ) (w : slot_wrong l ≡ None) where
   -- R83: where nothing is wrong a byte that should be 0 is 0
   pub blank : (i : ℕ) → i < 9 → blank_from (byte l 0) ≤ i → byte l i ≡ 0
   blank i h k =
@@ -99,7 +98,7 @@ module _ (l : List ℕ) (w : slot_wrong l ≡ none) where
           )
 
 -- R83: where nothing is wrong with n slots nothing is wrong with one of them
-each_right : (n at : ℕ) (l : List ℕ) → slots_wrong n at l ≡ none → (i : ℕ) → i < n → slot_wrong (drop (9 * i) l) ≡ none
+each_right : (n at : ℕ) (l : List ℕ) → slots_wrong n at l ≡ None → (i : ℕ) → i < n → slot_wrong (drop (9 * i) l) ≡ None
 unfolding slots_wrong
 each_right zero at l w i h = absurd (omega arith)
 each_right (suc n) at l w zero h = on_none at (slot_wrong l) (or_none (on_by at (slot_wrong l)) (slots_wrong n (at + 9) (drop 9 l)) w).0
@@ -108,7 +107,7 @@ each_right (suc n) at l w (suc i) h =
     rw (sym (next_drop 9 i l)) (each_right n (at + 9) (drop 9 l) v.1 i (omega arith))
 
 -- R82: the bytes of n slots are what the slots hold
-slots_stand : (n at : ℕ) (l : List ℕ) → Bytes l → 9 * n ≤ length l → slots_wrong n at l ≡ none
+slots_stand : (n at : ℕ) (l : List ℕ) → Bytes l → 9 * n ≤ length l → slots_wrong n at l ≡ None
     → (slots_bytes (slots_in n l) ++ drop (9 * n) l ≡ l) × AllNarrow (slots_in n l)
 slots_stand n at l b h w =
     series_stand 9 (λ (x : List ℕ). holding (held_in x)) (λ (s : Slot). slot_bytes s.held) (λ (s : Slot). Narrow s.held) n l
@@ -123,7 +122,7 @@ counts_stand n l b h =
     (le_value 8 (drop (8 * i) l) 0 c (omega (arith, length-drop (8 * i) l)), value_lt 8 (drop (8 * i) l) 0 c))
 
 -- R83: where nothing is wrong the version is right, the slots are, and the length is
-pub nothing_wrong : (n : ℕ) (l : List ℕ) → wrong_in n l ≡ none → (byte l 0 ≡ version) × (slots_wrong n 9 (drop 9 l) ≡ none) × (length l ≡ size n)
+pub nothing_wrong : (n : ℕ) (l : List ℕ) → wrong_in n l ≡ None → (byte l 0 ≡ version) × (slots_wrong n 9 (drop 9 l) ≡ None) × (length l ≡ size n)
 unfolding wrong_in length_wrong
 nothing_wrong n l w =
     let v = or_none (version_wrong l) _ w in
@@ -131,16 +130,16 @@ nothing_wrong n l w =
     (eqb-true (byte l 0) version (pick_none _ _ v.0), s.0, eqb-true (length l) (size n) (pick_none _ _ s.1))
 
 -- R83: nothing is wrong with bytes that load, and the table is the one that stands in them
-pub loads_says : (n : ℕ) (l : List ℕ) (t : Table) → load_with n l ≡ gives t → (wrong_in n l ≡ none) × (table_in n l ≡ t)
+pub loads_says : (n : ℕ) (l : List ℕ) (t : Table) → load_with n l ≡ Ok t → (wrong_in n l ≡ None) × (table_in n l ≡ t)
 unfolding load_with
 loads_says n l t e = go (wrong_in n l) e
   where
-    go : (o : Option ℕ) → unless_wrong o (table_in n l) ≡ gives t → (o ≡ none) × (table_in n l ≡ t)
-    go none e = (refl, cc)
-    go (some at) e = let z : ◌≡◌ {A = ℕ} 0 1 = cc in absurd (omega arith)
+    go : (o : Option ℕ) → unless_wrong o (table_in n l) ≡ Ok t → (o ≡ None) × (table_in n l ≡ t)
+    go None e = (refl, cc)
+    go (Some at) e = let z : ◌≡◌ {A = ℕ} 0 1 = cc in absurd (omega arith)
 
 -- R81, R83: bytes that load have an image's length
-pub loaded_length : (n : ℕ) (l : List ℕ) (t : Table) → load_with n l ≡ gives t → length l ≡ size n
+pub loaded_length : (n : ℕ) (l : List ℕ) (t : Table) → load_with n l ≡ Ok t → length l ≡ size n
 loaded_length n l t e = (nothing_wrong n l (loads_says n l t e).0).2
 
 -- the version, the clock, and what follows
@@ -165,7 +164,7 @@ joined l a b f s c d ed ec es ef =
     ∙ append_assoc f s (drop a (drop 9 l)) ∙ ap (λ (x : List ℕ). f ++ x) es ∙ sym ef
 
 -- R82: the table that stands in right bytes has these bytes as its image
-table_stands : (n : ℕ) (l : List ℕ) → Bytes l → wrong_in n l ≡ none → (image_of (table_in n l) ≡ l) × TableWidths n (table_in n l)
+table_stands : (n : ℕ) (l : List ℕ) → Bytes l → wrong_in n l ≡ None → (image_of (table_in n l) ≡ l) × TableWidths n (table_in n l)
 unfolding image_of
 table_stands n l b w =
     let v = nothing_wrong n l w in
@@ -195,5 +194,5 @@ table_stands n l b w =
     )
 
 -- R82: an image that loads is stored byte for byte, and its table has the code's widths
-pub stores_back : (n : ℕ) (l : List ℕ) → Bytes l → (t : Table) → load_with n l ≡ gives t → (image_of t ≡ l) × TableWidths n t
+pub stores_back : (n : ℕ) (l : List ℕ) → Bytes l → (t : Table) → load_with n l ≡ Ok t → (image_of t ≡ l) × TableWidths n t
 stores_back n l b t e = let v = loads_says n l t e in rw v.1 at (table_stands n l b v.0)

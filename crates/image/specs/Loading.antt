@@ -1,6 +1,5 @@
 -- Loading: which byte of an image is wrong, and the table that stands in it where none is.
-use Rattle.std.specs.Prelude.{ℕ, zero, suc, ◌+◌, Bool, List, [], ◌∷◌, length, drop, get_or, eqb, leb, ltb}
-use Rattle.std.proofs.Math.Option.{Option, none, some}
+use Rattle.std.specs.Prelude.{Ok, Err, ℕ, zero, suc, ◌+◌, Bool, List, [], ◌∷◌, length, drop, get_or, eqb, leb, ltb, Option, None, Some}
 use Rattle.line.specs.declared.Follows.{Follows}
 use Rattle.line.specs.declared.Follows.TheVariants.{Renews, Leaves}
 use Rattle.line.specs.declared.Run.{Run}
@@ -10,7 +9,7 @@ use Rattle.line.specs.declared.Held.TheVariants.{Nothing, Running, Waiting}
 use Rattle.line.specs.declared.Slot.{Slot}
 use Rattle.line.specs.Slots.{pick, both, run_then, wait_with, holding, or_else, lowest}
 use Rattle.table.specs.declared.Table.{Table}
-use Rattle.table.specs.Words.{table_with, with_counts, with_departed, with_last, refusal, Said, gives, refuses}
+use Rattle.table.specs.Words.{table_with, with_counts, with_departed, with_last, refusal, Said}
 use Rattle.card.specs.Bytes.{value}
 use Rattle.image.specs.Image.{version, counts_at, idle_at, departed_at, last_at, size}
 
@@ -32,21 +31,21 @@ slot_wrong l = lowest (is_wrong l) 9
 
 -- so many bytes further on
 abbrev pub on_by : ℕ → Option ℕ → Option ℕ
-on_by k none = none
-on_by k (some i) = some (k + i)
+on_by k None = None
+on_by k (Some i) = Some (k + i)
 
 -- R83: the lowest wrong byte of n slots, the first of them at an offset
 unfoldable pub slots_wrong : (n at : ℕ) → List ℕ → Option ℕ
-slots_wrong zero at l = none
+slots_wrong zero at l = None
 slots_wrong (suc n) at l = or_else (on_by at (slot_wrong l)) (slots_wrong n (at + 9) (drop 9 l))
 
 -- R83: another version
 abbrev pub version_wrong : List ℕ → Option ℕ
-version_wrong l = pick (eqb (byte l 0) version) none (some 0)
+version_wrong l = pick (eqb (byte l 0) version) None (Some 0)
 
 -- R83: another length, at the lesser of the two
 unfoldable pub length_wrong : (wanted given : ℕ) → Option ℕ
-length_wrong m n = pick (eqb n m) none (some (pick (ltb n m) n m))
+length_wrong m n = pick (eqb n m) None (Some (pick (ltb n m) n m))
 
 -- R83: the lowest offset at which an image of n slots is wrong. What is wrong with a byte stands before the image's end.
 unfoldable pub wrong_in : (n : ℕ) → List ℕ → Option ℕ
@@ -87,8 +86,8 @@ table_in n l =
 
 -- R31, R83: refused as broken where a byte is wrong
 abbrev pub unless_wrong : Option ℕ → Table → Said Table
-unless_wrong none t = gives t
-unless_wrong (some at) t = refuses (refusal 11 at)
+unless_wrong None t = Ok t
+unless_wrong (Some at) t = Err (refusal 11 at)
 
 -- R83: what any bytes are as the image of a table with n slots
 unfoldable pub load_with : (n : ℕ) → List ℕ → Said Table

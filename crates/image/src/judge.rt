@@ -1,11 +1,8 @@
 // Which byte of an image is wrong, the lowest first (R83). A byte that is not there is not wrong: the length is, and it is looked at last.
-ghost use Rattle.std.specs.Prelude.{◌≡◌, ◌+◌, ◌≤◌, length, drop, true, not, eqb};
-ghost use Rattle.table.specs.Words.{slot_of};
-ghost use Rattle.std.proofs.Math.Option.{none};
+ghost use Rattle.std.specs.Prelude.{Some, ◌≡◌, ◌+◌, ◌≤◌, length, drop, true, not, eqb, None};
 ghost use Rattle.image.specs.Image.{version};
 ghost use Rattle.image.specs.Loading.{byte, blank_from, slot_wrong, slots_wrong, length_wrong, wrong_in};
 
-use table::Which;
 
 // R81, R83: from which byte on a slot of this kind has zeros only.
 fn blank_from(kind: u8) -> usize
@@ -21,65 +18,65 @@ fn blank_from(kind: u8) -> usize
 }
 
 // R83: the lowest wrong byte of the slot in front.
-fn slot_wrong(s: &[u8]) -> Which
-    ensures { slot_of result ≡ slot_wrong s.now }
+fn slot_wrong(s: &[u8]) -> Option<usize>
+    ensures { result ≡ slot_wrong s.now }
 {
     if s.len() < 1 {
-        return Which::None;
+        return None;
     }
     let mut i = blank_from(s[0]);
     while i < 9 {
         if s.len() <= i {
-            return Which::None;
+            return None;
         }
         if s[i] != 0 {
-            return Which::At(i);
+            return Some(i);
         }
         i = i + 1;
     }
-    Which::None
+    None
 }
 
 // The slot at an offset.
-fn wrong_at(image: &[u8], at: usize) -> Which
+fn wrong_at(image: &[u8], at: usize) -> Option<usize>
     requires { at ≤ length image.now }
-    ensures { slot_of result ≡ slot_wrong (drop at image.now) }
+    ensures { result ≡ slot_wrong (drop at image.now) }
 {
     slot_wrong(&image[at..])
 }
 
 // R83: the lowest wrong byte of the slots.
-fn slots_wrong(image: &[u8]) -> Which
-    ensures { slot_of result ≡ slots_wrong 16 9 (drop 9 image.now) }
+fn slots_wrong(image: &[u8]) -> Option<usize>
+    ensures { result ≡ slots_wrong 16 9 (drop 9 image.now) }
 {
     let mut k: usize = 0;
     while k < 16 {
         let at = 9 + 9 * k;
         if image.len() <= at {
-            return Which::None;
+            return None;
         }
         match wrong_at(image, at) {
-            Which::At(i) => {
-                return Which::At(at + i);
+            Some(i) => {
+                return Some(at + i);
             }
-            Which::None => {}
+            None => {}
         }
         k = k + 1;
     }
-    Which::None
+    None
 }
 
 // R83: a wrong length, at the lesser of the two.
-fn length_wrong(len: usize) -> Which
-    ensures { slot_of result ≡ length_wrong 298 len }
+fn length_wrong(len: usize) -> Option<usize>
+    ensures { result ≡ length_wrong 298 len }
 {
     if len == 298 {
-        return Which::None;
+        return None;
     }
     if len < 298 {
-        return Which::At(len);
+        return Some(len);
     }
-    Which::At(298)
+    Some(298)
 }
 
 // R81, R83: the first byte is the version, 4.
@@ -95,7 +92,7 @@ fn version_wrong(image: &[u8]) -> bool
 // The nine bytes in front, at one look: whether it finds nothing wrong with them.
 fn slot_right(s: &[u8]) -> bool
     requires { 9 ≤ length s.now }
-    ensures { result ≡ true → slot_wrong s.now ≡ none }
+    ensures { result ≡ true → slot_wrong s.now ≡ None }
 {
     let kind = s[0];
     let v = crate::numbers::eight_at(s, 1);
@@ -111,7 +108,7 @@ fn slot_right(s: &[u8]) -> bool
 // The slot at an offset.
 fn right_at(image: &[u8], at: usize) -> bool
     requires { at + 9 ≤ length image.now }
-    ensures { result ≡ true → slot_wrong (drop at image.now) ≡ none }
+    ensures { result ≡ true → slot_wrong (drop at image.now) ≡ None }
 {
     slot_right(&image[at..])
 }
@@ -119,7 +116,7 @@ fn right_at(image: &[u8], at: usize) -> bool
 // Every slot at one look each.
 fn slots_right(image: &[u8]) -> bool
     requires { 153 ≤ length image.now }
-    ensures { result ≡ true → slots_wrong 16 9 (drop 9 image.now) ≡ none }
+    ensures { result ≡ true → slots_wrong 16 9 (drop 9 image.now) ≡ None }
 {
     let mut k: usize = 0;
     while k < 16 {
@@ -134,28 +131,28 @@ fn slots_right(image: &[u8]) -> bool
 }
 
 // R83: the lowest wrong byte of the slots. An image that is nearly always right is looked at a slot at a time first.
-fn slots_judged(image: &[u8]) -> Which
-    ensures { slot_of result ≡ slots_wrong 16 9 (drop 9 image.now) }
+fn slots_judged(image: &[u8]) -> Option<usize>
+    ensures { result ≡ slots_wrong 16 9 (drop 9 image.now) }
 {
     if image.len() < 153 {
         return slots_wrong(image);
     }
     if slots_right(image) {
-        return Which::None;
+        return None;
     }
     slots_wrong(image)
 }
 
 // R83: the lowest offset at which the image is wrong.
-pub(crate) fn wrong_in(image: &[u8]) -> Which
-    ensures { slot_of result ≡ wrong_in 16 image.now }
+pub(crate) fn wrong_in(image: &[u8]) -> Option<usize>
+    ensures { result ≡ wrong_in 16 image.now }
 {
     if version_wrong(image) {
-        return Which::At(0);
+        return Some(0);
     }
     let w = slots_judged(image);
     match w {
-        Which::At(_) => w,
-        Which::None => length_wrong(image.len()),
+        Some(_) => w,
+        None => length_wrong(image.len()),
     }
 }

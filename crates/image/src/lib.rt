@@ -1,15 +1,13 @@
 // The table as bytes: any bytes of any length loaded as a table or refused, and a table stored.
 #![tactic(auto)]
 
-ghost use Rattle.std.specs.Prelude.{◌≡◌, ◌≤◌, ◌++◌, length, drop};
-ghost use Rattle.card.specs.Answers.{said_written};
+ghost use Rattle.std.specs.Prelude.{None, Err, ◌≡◌, ◌≤◌, ◌++◌, length, drop};
 ghost use Rattle.image.specs.Image.{image_of};
 ghost use Rattle.image.specs.Loading.{table_in, load_of};
 ghost use Rattle.image.specs.Answers.{handed_out, store_of, stored_in};
-ghost use Rattle.table.specs.Words.{refusal, refuses};
+ghost use Rattle.table.specs.Words.{refusal};
 
-use card::WriteAnswer;
-use table::{Refusal, Table, Which};
+use table::{Refusal, Table};
 
 mod counts; // the counts in an image
 mod fields; // the numbers in a slot's bytes
@@ -19,7 +17,7 @@ mod slots; // the slots in an image
 
 // R84: the image was read, or refused.
 #[derive(Clone, Copy)]
-pub enum LoadAnswer {
+pub enum Result<(), Refusal> {
     Read,
     Refused(Refusal),
 }
@@ -28,16 +26,16 @@ pub enum LoadAnswer {
 #[derive(Clone, Copy)]
 pub struct Loaded {
     pub table: Table,
-    pub answer: LoadAnswer,
+    pub answer: Result<(), Refusal>,
 }
 
 // R83: nothing of the image is handed out beside a refusal.
 fn broken(at: usize) -> Loaded
-    ensures { result ≡ handed_out (refuses (refusal 11 at)) }
+    ensures { result ≡ handed_out (Err (refusal 11 at)) }
 {
     Loaded {
         table: Table::empty(),
-        answer: LoadAnswer::Refused(Refusal::new(11, at as u64)),
+        answer: Err(Refusal::new(11, at as u64)),
     }
 }
 
@@ -60,10 +58,10 @@ pub fn load(image: &[u8]) -> Loaded
     ensures { result ≡ handed_out (load_of image.now) }
 {
     match judge::wrong_in(image) {
-        Which::At(at) => broken(at),
-        Which::None => Loaded {
+        Some(at) => broken(at),
+        None => Loaded {
             table: table_in(image),
-            answer: LoadAnswer::Read,
+            answer: Ok(()),
         },
     }
 }
@@ -84,12 +82,12 @@ fn put_image(t: Table, out: &mut [u8])
 }
 
 // R33, R84: a buffer that is too short is left alone. The contract settles the answer and the whole buffer: both parts are equations.
-pub fn store(t: Table, out: &mut [u8]) -> WriteAnswer
-    ensures { (said_written result ≡ store_of (length out.old)) × (out.new ≡ stored_in t out.old) }
+pub fn store(t: Table, out: &mut [u8]) -> Result<usize, Refusal>
+    ensures { (result ≡ store_of (length out.old)) × (out.new ≡ stored_in t out.old) }
 {
     if out.len() < 298 {
-        return WriteAnswer::Refused(Refusal::new(13, 0));
+        return Err(Refusal::new(13, 0));
     }
     put_image(t, out);
-    WriteAnswer::Length(298)
+    Ok(298)
 }

@@ -4,7 +4,7 @@ use mathlib.Core.Path.{◌≡◌, refl, sym, ap, ◌∙◌}
 use mathlib.Core.Bool.{Bool, true, false}
 use mathlib.Core.Logic.{⊎_elim}
 use mathlib.Core.List.{List}
-use mathlib.Core.Option.{Option, none, some}
+use Rattle.std.specs.Prelude.{Option, None, Some}
 use native.Mathlib.Decide.{ℕ_discrete, dec_lt}
 use native.Mathlib.Omega.{arith}
 use lib.ListN.{length}
@@ -172,14 +172,14 @@ module _ (a : ℕ → Stream) (n Cn Tn last : ℕ) where
                     | no l ↦ omega arith
                   ])
 
-              go : (o : Option ℕ) → soonest_of short (ends_by last lines) ≡ o → o ≡ some d
-              go none q = absurd (true_false here (at (λ u. short u ≡ false) (soonest_none short (ends_by last lines) q)))
-              go (some u) q =
+              go : (o : Option ℕ) → soonest_of short (ends_by last lines) ≡ o → o ≡ Some d
+              go None q = absurd (true_false here (at (λ u. short u ≡ false) (soonest_none short (ends_by last lines) q)))
+              go (Some u) q =
                   let w = soonest_here short (λ y. short y ≡ true → d ≤ y) u (ends_by last lines) q after_all in
                   let f = at (λ y. short y ≡ true → u ≤ y) (soonest_first short u (ends_by last lines) q) here in
-                  ap some (omega (arith, w.1 w.0, f))
+                  ap Some (omega (arith, w.1 w.0, f))
 
-              found : soonest_of short (ends_by last lines) ≡ some d
+              found : soonest_of short (ends_by last lines) ≡ Some d
               found = go (soonest_of short (ends_by last lines)) refl
 
           module _ {d' : ℕ} (s : Soonest (nth next') n last d') where

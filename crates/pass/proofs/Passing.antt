@@ -3,7 +3,7 @@ use Prim.Native.Nat.{ℕ, ◌-◌, ◌/◌, ◌≤◌, ◌<◌}
 use mathlib.Core.Path.{◌≡◌, refl, sym, ◌∙◌}
 use mathlib.Core.Bool.{Bool, true, false, not}
 use mathlib.Core.List.{List, [], ◌∷◌}
-use mathlib.Core.Option.{Option, none, some}
+use Rattle.std.specs.Prelude.{Option, None, Some}
 use native.Mathlib.Nat.{le-add_left, mul-le-mul_right}
 use native.Mathlib.Omega.{arith}
 use lib.Dec.{ltb}
@@ -22,9 +22,9 @@ use Rattle.pass.specs.Pass.{demand_of, last_by, ends_by, pass_by, pass_over, sho
 use Rattle.pass.proofs.LastEnd.{last_small}
 
 -- a start is said where no end is short, and it is the greatest bound
-start_one : (all : ℕ → ℕ) (o : Option ℕ) (g r : ℕ) → pass_by all o g ≡ Start r → (o ≡ none) × (g ≡ r)
-start_one all none g r e = (refl, cc)
-start_one all (some d) g r e = let z : ◌≡◌ {A = ℕ} 0 1 = cc in absurd (omega arith)
+start_one : (all : ℕ → ℕ) (o : Option ℕ) (g r : ℕ) → pass_by all o g ≡ Start r → (o ≡ None) × (g ≡ r)
+start_one all None g r e = (refl, cc)
+start_one all (Some d) g r e = let z : ◌≡◌ {A = ℕ} 0 1 = cc in absurd (omega arith)
 
 -- R14: where a start is said it is the greatest bound
 pass_greatest : (all f : ℕ → ℕ) (ds : List ℕ) (r : ℕ) → pass_over all f ds ≡ Start r → greatest f 0 ds ≡ r

@@ -1,7 +1,6 @@
 -- The pass over the ends, counted from the clock: the demand at each end tells whether the running lines have excess there and what start
 -- the new line may have. The period of a line is here the time from one of its ends to the next.
-use Rattle.std.specs.Prelude.{ℕ, ◌-◌, ◌≤◌, max, Bool, not, List, [], ◌∷◌, ◌++◌, map, ltb, ℤ, pos}
-use Rattle.std.proofs.Math.Option.{Option, none, some}
+use Rattle.std.specs.Prelude.{ℕ, ◌-◌, ◌≤◌, max, Bool, not, List, [], ◌∷◌, ◌++◌, map, ltb, ℤ, pos, Option, None, Some}
 use Rattle.std.proofs.Math.IntN.{sub_ℕ}
 use Rattle.std.specs.Int.Signed.{lt_z}
 use Rattle.line.specs.declared.Stream.{Stream}
@@ -56,8 +55,8 @@ bound_by Cn Tn last all d = bound Cn Tn last d (d - all d)
 
 -- R103, R14: what is said of the soonest short end, or else of the start r
 abbrev pub pass_by : (ℕ → ℕ) → Option ℕ → (r : ℕ) → Pass
-pass_by all (some d) r = Short (excess_from all d)
-pass_by all none r = Start r
+pass_by all (Some d) r = Short (excess_from all d)
+pass_by all None r = Start r
 
 -- R30, R14: the soonest of the ends that is short, else the greatest of f at each end. The order of the ends is not looked at.
 unfoldable pub pass_over : (all f : ℕ → ℕ) → List ℕ → Pass
@@ -81,7 +80,7 @@ passed_in e c n p Cn Tn = pick (alike e c n p) (pass_of (lines_of e c n p) Cn Tn
 
 -- R26, R3: what is known of the new line, since its ground did not hold, and of the last end
 pub record FitNew (new : New) : Type 0 where
-  pub some : 1 ≤ new.need
+  pub Some : 1 ≤ new.need
   pub small : new.need ≤ 65535
   pub wide : new.period ≤ 65535
   pub near : new.last ≤ longest

@@ -1,9 +1,10 @@
 -- What an act does to the counts, R79: each slot that holds a line has its own, one that holds nothing has 0, and all of them are the clock.
+use Rattle.std.specs.Prelude.{Ok, Err, Option, None, Some}
+use Rattle.table.specs.Words.{Said}
 use Prim.Native.Nat.{ℕ, ◌+◌, ◌-◌, ◌^◌, ◌<◌}
 use mathlib.Core.Path.{◌≡◌, refl, sym, ap, ◌∙◌, subst}
 use mathlib.Core.Bool.{Bool, true, false}
 use mathlib.Core.List.{List, [], ◌∷◌}
-use mathlib.Core.Option.{Option, none, some}
 use native.Mathlib.Decide.{ℕ_discrete}
 use native.Mathlib.Omega.{arith}
 use borrow.Author.Tests.{ne_eqb}
@@ -21,8 +22,6 @@ use Rattle.line.proofs.Search.{true_false, lowest_is}
 use Rattle.line.proofs.Stretched.{at_stretched}
 use Rattle.table.specs.declared.Table.{Table}
 use Rattle.table.specs.declared.Request.{Request}
-use Rattle.table.specs.declared.Answer.{Answer}
-use Rattle.table.specs.declared.Answer.TheVariants.{Start, Refused}
 use Rattle.table.specs.declared.Stepped.{Stepped}
 use Rattle.table.specs.Words.{empty_table}
 use Rattle.table.specs.Counts.{Inside, had_by, sum, accounted, counting, settle}
@@ -98,12 +97,12 @@ owed_something (Running r) w = refl
 owed_something (Waiting v) w = refl
 
 unserved : (o : Option ℕ) (l : List Slot) (k : ℕ) → May o l → is_nothing (at l k) ≡ true → is_slot k o ≡ 0
-unserved none l k m e = refl
-unserved (some j) l k m e =
+unserved None l k m e = refl
+unserved (Some j) l k m e =
     rw (ne_eqb j k (λ z. true_false e (subst (λ (i : ℕ). is_nothing (at l i) ≡ false) z (owed_something (at l j) m.1))))
 
 -- R43: but for the slot of the new line
-pub nothing_admitted : (t : Table) (q : Request) (r j k : ℕ) → lowest_of is_nothing t.slots ≡ some j → (k ≡ j → ⊥)
+pub nothing_admitted : (t : Table) (q : Request) (r j k : ℕ) → lowest_of is_nothing t.slots ≡ Some j → (k ≡ j → ⊥)
     → is_nothing (at (admitted_at t q r).slots k) ≡ is_nothing (at t.slots k)
 nothing_admitted t q r j k e n =
     ap (λ (l : List Slot). is_nothing (at l k)) (admitted_slots t q r j e)
@@ -202,9 +201,9 @@ pub booked_after : (a : Act) (t : Table) → Good t → Booked t → Booked (aft
 booked_after (asking q) t g b = b
 booked_after (admitting q) t g b = go (ask_of t q) refl
   where
-    go : (a : Answer) → ask_of t q ≡ a → Booked (admit_with t q a).table
-    go (Start r) e = booked_admitted t q r (granted t q r e) b
-    go (Refused x) e = b
+    go : (a : Said ℕ) → ask_of t q ≡ a → Booked (admit_with t q a).table
+    go (Ok r) e = booked_admitted t q r (granted t q r e) b
+    go (Err x) e = b
 booked_after stepping t g b =
     split (2 ^ 48) t.clock
     (λ l. subst (λ (s : Stepped). Booked s.table) (sym (at_last t l)) b)

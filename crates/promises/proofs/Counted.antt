@@ -1,9 +1,10 @@
 -- Every tick is accounted for, R79: what the list of the slots that ran says of the counts.
+use Rattle.std.specs.Prelude.{Ok, Err, Option, None, Some}
+use Rattle.table.specs.Words.{Said}
 use Prim.Native.Nat.{ℕ, ◌+◌, ◌-◌, ◌^◌, ◌<◌}
 use mathlib.Core.Path.{◌≡◌, refl, sym, ap, ◌∙◌, subst}
 use mathlib.Core.Bool.{Bool, true, false}
 use mathlib.Core.List.{List, [], ◌∷◌, ◌++◌}
-use mathlib.Core.Option.{Option, none, some}
 use native.Mathlib.Omega.{arith}
 use borrow.Author.Tests.{eqb-true, eqb-false, eq-eqb, ne_eqb}
 use lib.Dec.{eqb, ltb}
@@ -16,8 +17,6 @@ use Rattle.line.specs.Leave.{let_go}
 use Rattle.line.proofs.Streams.{nothing_passed}
 use Rattle.line.proofs.Search.{true_false, lowest_is}
 use Rattle.table.specs.declared.Table.{Table}
-use Rattle.table.specs.declared.Answer.{Answer}
-use Rattle.table.specs.declared.Answer.TheVariants.{Start, Refused}
 use Rattle.table.specs.declared.Stepped.{Stepped}
 use Rattle.table.specs.Words.{empty_table}
 use Rattle.table.specs.Counts.{had_by, counting, settle}
@@ -50,10 +49,10 @@ times_since k false ran xs = times_append k ran xs
 
 -- R42: 0 for the slot of the new line, and as before for any other
 put_had : (o : Option ℕ) (l : List ℕ) (k : ℕ) → k < length l → get_or (put_at o 0 l) k 0 ≡ pick (names k o) 0 (get_or l k 0)
-put_had none l k h = refl
-put_had (some j) l k h = go (eqb j k) refl
+put_had None l k h = refl
+put_had (Some j) l k h = go (eqb j k) refl
   where
-    go : (b : Bool) → eqb j k ≡ b → get_or (put_at (some j) 0 l) k 0 ≡ pick b 0 (get_or l k 0)
+    go : (b : Bool) → eqb j k ≡ b → get_or (put_at (Some j) 0 l) k 0 ≡ pick b 0 (get_or l k 0)
     go true e = let z : j ≡ k = eqb-true j k e in rw z (get_or-set_same l k 0 0 h)
     go false e = get_or-set_other l j k 0 0 (λ z. eqb-false j k e (sym z))
 
@@ -63,9 +62,9 @@ act_had : (a : Act) (t : Table) (k : ℕ) → Good t → k < length t.had → is
 act_had (asking q) t k g h = λ f. omega arith
 act_had (admitting q) t k g h = λ f. go (ask_of t q)
   where
-    go : (a : Answer) → had_by (admit_with t q a).table k ≡ pick (names k (placed_by a t)) 0 (had_by t k + 0)
-    go (Start r) = put_had (lowest_of is_nothing t.slots) t.had k h ∙ ap (pick (names k (lowest_of is_nothing t.slots)) 0) (omega arith)
-    go (Refused x) = omega arith
+    go : (a : Said ℕ) → had_by (admit_with t q a).table k ≡ pick (names k (placed_by a t)) 0 (had_by t k + 0)
+    go (Ok r) = put_had (lowest_of is_nothing t.slots) t.had k h ∙ ap (pick (names k (lowest_of is_nothing t.slots)) 0) (omega arith)
+    go (Err x) = omega arith
 act_had stepping t k g h =
     split (2 ^ 48) t.clock
     (λ l. subst (λ (s : Stepped). is_nothing (at s.table.slots k) ≡ false → had_by s.table k ≡ had_by t k + times k (ran_in s.outcome)) (sym (at_last t l)) (λ f. omega arith))
@@ -119,13 +118,13 @@ not_placed (asking q) t k e = refl
 not_placed (admitting q) t k e = go (ask_of t q)
   where
     at_lowest : (o : Option ℕ) → lowest_of is_nothing t.slots ≡ o → names k o ≡ false
-    at_lowest none f = refl
-    at_lowest (some j) f =
+    at_lowest None f = refl
+    at_lowest (Some j) f =
         ne_eqb j k (λ z. true_false (lowest_is (λ i. is_nothing (at t.slots i)) (length t.slots) f).here (ap (λ (i : ℕ). is_nothing (at t.slots i)) z ∙ e))
 
-    go : (a : Answer) → names k (placed_by a t) ≡ false
-    go (Start r) = at_lowest (lowest_of is_nothing t.slots) refl
-    go (Refused x) = refl
+    go : (a : Said ℕ) → names k (placed_by a t) ≡ false
+    go (Ok r) = at_lowest (lowest_of is_nothing t.slots) refl
+    go (Err x) = refl
 not_placed stepping t k e = refl
 not_placed (leaving n) t k e = refl
 
@@ -147,9 +146,9 @@ act_idle : (a : Act) (t : Table) → Good t → (after a t).idle ≡ t.idle + id
 act_idle (asking q) t g = omega arith
 act_idle (admitting q) t g = go (ask_of t q)
   where
-    go : (a : Answer) → (admit_with t q a).table.idle ≡ t.idle + 0
-    go (Start r) = omega arith
-    go (Refused x) = omega arith
+    go : (a : Said ℕ) → (admit_with t q a).table.idle ≡ t.idle + 0
+    go (Ok r) = omega arith
+    go (Err x) = omega arith
 act_idle stepping t g =
     split (2 ^ 48) t.clock
     (λ l. subst (λ (s : Stepped). s.table.idle ≡ t.idle + idles (ran_in s.outcome)) (sym (at_last t l)) (omega arith))
@@ -195,7 +194,7 @@ had_since_admitted acts q r k a more u =
     let s = says_start (ask_of t q) r a.granted in
     let n : names k (placed_by (ask_of t q) t) ≡ true = rw (s, a.slot) (eq-eqb k k refl) in
     let f : is_nothing (at (admitted_table acts q).slots k) ≡ false =
-    ap (λ (x : Answer). is_nothing (at (admit_with t q x).table.slots k)) s ∙ ap is_nothing (admitted_new t q r k a.slot) ∙ new_there q.need q.period (r - t.clock) in
+    ap (λ (x : Said ℕ). is_nothing (at (admit_with t q x).table.slots k)) s ∙ ap is_nothing (admitted_new t q r k a.slot) ∙ new_there q.need q.period (r - t.clock) in
     let z : had_by (admitted_table acts q) k ≡ 0 = act_had (admitting q) t k g h f ∙ ap (λ (x : Bool). pick x 0 (had_by t k + 0)) n in
     omega (arith, had_occupied more (admitted_table acts q) k (good_after (admitting q) t g) (rw (act_length (admitting q) t g) h) f u, z)
 
@@ -210,12 +209,12 @@ nothing_unplaced : (a : Act) (t : Table) (k : ℕ) → Good t → names k (place
 nothing_unplaced (asking q) t k g n e = e
 nothing_unplaced (admitting q) t k g n e = go (ask_of t q) refl n
   where
-    go : (a : Answer) → ask_of t q ≡ a → names k (placed_by a t) ≡ false → is_nothing (at (admit_with t q a).table.slots k) ≡ true
-    go (Start r) f m =
+    go : (a : Said ℕ) → ask_of t q ≡ a → names k (placed_by a t) ≡ false → is_nothing (at (admit_with t q a).table.slots k) ≡ true
+    go (Ok r) f m =
         let w = (granted t q r f).cleared in
         let d : eqb w.slot k ≡ false = sym (ap (names k) w.lowest_empty) ∙ m in
         nothing_admitted t q r w.slot k w.lowest_empty (λ z. eqb-false w.slot k d (sym z)) ∙ e
-    go (Refused x) f m = e
+    go (Err x) f m = e
 nothing_unplaced stepping t k g n e =
     split (2 ^ 48) t.clock
     (λ l. subst (λ (s : Stepped). is_nothing (at s.table.slots k) ≡ true) (sym (at_last t l)) e)

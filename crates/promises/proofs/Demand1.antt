@@ -1,28 +1,24 @@
 -- The first demand is kept: one answer by the uniqueness theorems, and what a refusal keeps by the operations' definitions.
+use Rattle.std.specs.Prelude.{Ok, Err, Option, None, Some}
 use mathlib.Core.Path.{◌≡◌, refl, sym, ap, ◌∙◌, subst}
 use mathlib.Core.Bool.{Bool, true, false}
 use mathlib.Core.List.{List}
-use mathlib.Core.Option.{Option, none, some}
 use Prim.Native.Nat.{ℕ}
 use native.Mathlib.Omega.{arith}
 use lib.ListN.{length}
 use Rattle.table.specs.declared.Table.{Table}
 use Rattle.table.specs.declared.Request.{Request}
 use Rattle.table.specs.declared.Refusal.{Refusal}
-use Rattle.table.specs.declared.Answer.{Answer}
-use Rattle.table.specs.declared.Answer.TheVariants.{Start, Refused}
 use Rattle.table.specs.declared.Admitted.{Admitted}
 use Rattle.table.specs.declared.Stepped.{Stepped}
 use Rattle.table.specs.declared.Left.{Left}
-use Rattle.table.specs.declared.Leaving.{Leaving}
-use Rattle.table.specs.declared.Outcome.{Outcome}
 use Rattle.line.specs.Slots.{pick}
-use Rattle.table.specs.Words.{empty_table, Said, gives, refuses}
+use Rattle.table.specs.Words.{empty_table, Said}
 use Rattle.table.specs.Grounds.{grounds, FirstOf, Answers}
-use Rattle.table.specs.Ask.{says, ask_of}
+use Rattle.table.specs.Ask.{ask_of}
 use Rattle.table.specs.Admit.{admit_with, admit_of}
-use Rattle.table.specs.Step.{says_ran, step_of}
-use Rattle.table.specs.Leave.{says_leaving, leave_of}
+use Rattle.table.specs.Step.{step_of}
+use Rattle.table.specs.Leave.{leave_of}
 use Rattle.table.proofs.Step.{refused_keeps}
 use Rattle.table.proofs.LettingGo.{leave_keeps}
 use Rattle.board.proofs.Word.{word_unique}
@@ -63,8 +59,8 @@ by_equations v w x y m n p q = (p.0 ∙ sym q.0, p.1 ∙ sym q.1)
 
 -- R89: a ready word is one, and so is a refusal
 ready_one : (s : Said Table) → One (ReadyFor s)
-ready_one (gives t) x y p q = p.0 ∙ ap (granted_as 0) (word_unique t.slots x.value y.value p.1 q.1) ∙ sym q.0
-ready_one (refuses z) x y p q = p ∙ sym q
+ready_one (Ok t) x y p q = p.0 ∙ ap (granted_as 0) (word_unique t.slots x.value y.value p.1 q.1) ∙ sym q.0
+ready_one (Err z) x y p q = p ∙ sym q
 
 -- R71: every input has one answer
 pub fixed_answer : FixedAnswer
@@ -80,8 +76,8 @@ fixed_answer = record {
   lamp = λ n. by_equation _;
   read = one_reading;
   write = one_writing;
-  reply_to = λ a. reply_settled (answer_line (says a));
-  put_reply = λ a. put_reply_settled (answer_line (says a));
+  reply_to = λ a. reply_settled (answer_line (a));
+  put_reply = λ a. put_reply_settled (answer_line (a));
   answer_card = λ card l. by_equations _ _;
   rewrite_card = λ card l. by_equations _ _;
   run_card = λ card ticks. by_equation _;
@@ -101,99 +97,99 @@ fixed_answer = record {
 -- ---- what a refusal keeps
 
 -- a right answer that refuses is the first ground's refusal
-first_refused : (t : Table) (q : Request) (a : Answer) (x : Refusal) → Answers t q (says a) → says a ≡ refuses x → FirstOf grounds t q x
+first_refused : (t : Table) (q : Request) (a : Said ℕ) (x : Refusal) → Answers t q (a) → a ≡ Err x → FirstOf grounds t q x
 first_refused t q a x h e = subst (Answers t q) e h
 
-admit_keeps : (t : Table) (q : Request) (m : Admitted) (x : Refusal) → m ≡ admit_of t q → says m.answer ≡ refuses x → m.table ≡ t
-admit_keeps t q m x e f = ap (λ (n : Admitted). n.table) e ∙ go (ask_of t q) (ap (λ (n : Admitted). says n.answer) (sym e) ∙ f)
+admit_keeps : (t : Table) (q : Request) (m : Admitted) (x : Refusal) → m ≡ admit_of t q → m.answer ≡ Err x → m.table ≡ t
+admit_keeps t q m x e f = ap (λ (n : Admitted). n.table) e ∙ go (ask_of t q) (ap (λ (n : Admitted). n.answer) (sym e) ∙ f)
   where
-    go : (a : Answer) → says (admit_with t q a).answer ≡ refuses x → (admit_with t q a).table ≡ t
-    go (Start r) h = let z : ◌≡◌ {A = ℕ} 0 1 = cc in absurd (omega arith)
-    go (Refused y) h = refl
+    go : (a : Said ℕ) → (admit_with t q a).answer ≡ Err x → (admit_with t q a).table ≡ t
+    go (Ok r) h = let z : ◌≡◌ {A = ℕ} 0 1 = cc in absurd (omega arith)
+    go (Err y) h = refl
 
 -- a step's answer that says a refusal is that refusal
-step_refused : (o : Outcome) (x : Refusal) → says_ran o ≡ refuses x → o ≡ Outcome.Refused x
-step_refused (Outcome.Ran w) x e = let z : ◌≡◌ {A = ℕ} 0 1 = cc in absurd (omega arith)
-step_refused (Outcome.Refused y) x e = let z : y ≡ x = cc in ap Outcome.Refused z
+step_refused : (o : Said (Option ℕ)) (x : Refusal) → o ≡ Err x → o ≡ Err x
+step_refused (Ok w) x e = let z : ◌≡◌ {A = ℕ} 0 1 = cc in absurd (omega arith)
+step_refused (Err y) x e = let z : y ≡ x = cc in ap Err z
 
-step_keeps : (t : Table) (s : Stepped) (x : Refusal) → s ≡ step_of t → says_ran s.outcome ≡ refuses x → s.table ≡ t
+step_keeps : (t : Table) (s : Stepped) (x : Refusal) → s ≡ step_of t → s.outcome ≡ Err x → s.table ≡ t
 step_keeps t s x e f =
-    ap (λ (r : Stepped). r.table) e ∙ refused_keeps t x (step_refused (step_of t).outcome x (ap (λ (r : Stepped). says_ran r.outcome) (sym e) ∙ f))
+    ap (λ (r : Stepped). r.table) e ∙ refused_keeps t x (step_refused (step_of t).outcome x (ap (λ (r : Stepped). r.outcome) (sym e) ∙ f))
 
 -- a leave's answer that says a refusal is that refusal
-leave_refused : (a : Leaving) (x : Refusal) → says_leaving a ≡ refuses x → a ≡ Leaving.Refused x
-leave_refused (Leaving.In k) x e = let z : ◌≡◌ {A = ℕ} 0 1 = cc in absurd (omega arith)
-leave_refused (Leaving.Refused y) x e = let z : y ≡ x = cc in ap Leaving.Refused z
+leave_refused : (a : Said ℕ) (x : Refusal) → a ≡ Err x → a ≡ Err x
+leave_refused (Ok k) x e = let z : ◌≡◌ {A = ℕ} 0 1 = cc in absurd (omega arith)
+leave_refused (Err y) x e = let z : y ≡ x = cc in ap Err z
 
-left_keeps : (t : Table) (n : ℕ) (r : Left) (x : Refusal) → r ≡ leave_of t n → says_leaving r.leaving ≡ refuses x → r.table ≡ t
+left_keeps : (t : Table) (n : ℕ) (r : Left) (x : Refusal) → r ≡ leave_of t n → r.leaving ≡ Err x → r.table ≡ t
 left_keeps t n r x e f =
-    ap (λ (s : Left). s.table) e ∙ leave_keeps t x n (leave_refused (leave_of t n).leaving x (ap (λ (s : Left). says_leaving s.leaving) (sym e) ∙ f))
+    ap (λ (s : Left). s.table) e ∙ leave_keeps t x n (leave_refused (leave_of t n).leaving x (ap (λ (s : Left). s.leaving) (sym e) ∙ f))
 
-drive_keeps : (t : Table) (o : Outcome) (u : Table) (x : Refusal) → Drives t o u → says_ran o ≡ refuses x → u ≡ t
-drive_keeps t o u x h e = h.1 ∙ refused_drive_keeps t x (step_refused (step_of t).outcome x (ap says_ran (sym h.0) ∙ e))
+drive_keeps : (t : Table) (o : Said (Option ℕ)) (u : Table) (x : Refusal) → Drives t o u → o ≡ Err x → u ≡ t
+drive_keeps t o u x h e = h.1 ∙ refused_drive_keeps t x (step_refused (step_of t).outcome x ((sym h.0) ∙ e))
 
 -- whether the line fits, a number that is not 0 or the missing length says that it does not
-put_kept : (b : Bool) (line l : List ℕ) → pick b (some (length line)) none ≡ none → pick b (laid line l) l ≡ l
+put_kept : (b : Bool) (line l : List ℕ) → pick b (Some (length line)) None ≡ None → pick b (laid line l) l ≡ l
 put_kept true line l e = let z : ◌≡◌ {A = ℕ} 0 1 = cc in absurd (omega arith)
 put_kept false line l e = refl
 
-line_kept : (b : Bool) (line l : List ℕ) → ((result_of (said_put (pick b (some (length line)) none))).number ≡ 0 → ⊥) → pick b (laid line l) l ≡ l
+line_kept : (b : Bool) (line l : List ℕ) → ((result_of (said_put (pick b (Some (length line)) None))).number ≡ 0 → ⊥) → pick b (laid line l) l ≡ l
 line_kept true line l h = absurd (h refl)
 line_kept false line l h = refl
 
 -- what was to be written stands in the buffer only where something was granted
 filled_kept : (k : ℕ) (w : Said ℕ) (bytes l : List ℕ) → ((result_at k w).number ≡ 0 → ⊥) → filled bytes l w ≡ l
-filled_kept k (gives n) bytes l h = absurd (h refl)
-filled_kept k (refuses x) bytes l h = refl
+filled_kept k (Ok n) bytes l h = absurd (h refl)
+filled_kept k (Err x) bytes l h = refl
 
 changed_kept : (w : Said ℕ) (m l : List ℕ) → ((result_of w).number ≡ 0 → ⊥) → changed w m l ≡ l
-changed_kept (gives n) m l h = absurd (h refl)
-changed_kept (refuses x) m l h = refl
+changed_kept (Ok n) m l h = absurd (h refl)
+changed_kept (Err x) m l h = refl
 
 -- whatever was read or loaded, a refusal over the boundary says that nothing was written
 rewrite_kept : (k : ℕ) (s : Said Card) (l : List ℕ) → ((result_at k (rewrite_for s (length l))).number ≡ 0 → ⊥) → rewritten_for s l ≡ l
-rewrite_kept k (refuses x) l h = refl
-rewrite_kept k (gives c) l h = filled_kept k (write_of c.table c.request (length l)) (card_of c.table c.request) l h
+rewrite_kept k (Err x) l h = refl
+rewrite_kept k (Ok c) l h = filled_kept k (write_of c.table c.request (length l)) (card_of c.table c.request) l h
 
 card_kept : (s : Said Table) (q : Request) (l : List ℕ) → ((result_of (write_card_for s q (length l))).number ≡ 0 → ⊥) → card_after s q l ≡ l
-card_kept (refuses x) q l h = refl
-card_kept (gives t) q l h = filled_kept 0 (write_of t q (length l)) (card_of t q) l h
+card_kept (Err x) q l h = refl
+card_kept (Ok t) q l h = filled_kept 0 (write_of t q (length l)) (card_of t q) l h
 
 image_kept : (s : Said Card) (l ns : List ℕ) → ((result_of (read_card_for s (length l))).number ≡ 0 → ⊥) → (image_after s l ≡ l) × (numbers_after s (length l) ns ≡ ns)
-image_kept (refuses x) l ns h = (refl, refl)
-image_kept (gives c) l ns h =
+image_kept (Err x) l ns h = (refl, refl)
+image_kept (Ok c) l ns h =
     (filled_kept 0 (store_of (length l)) (image_of c.table) l h, changed_kept (store_of (length l)) (eighteen c.request) ns h)
 
 admit_kept : (s : Said Table) (q : Request) (l : List ℕ) → ((ask_for s q).number ≡ 0 → ⊥) → after_admit s q l ≡ l
-admit_kept (refuses x) q l h = refl
-admit_kept (gives t) q l h = go (says (ask_of t q)) h
+admit_kept (Err x) q l h = refl
+admit_kept (Ok t) q l h = go ((ask_of t q)) h
   where
     go : (w : Said ℕ) → ((asked_as t w).number ≡ 0 → ⊥) → changed w (stored_in (admit_of t q).table l) l ≡ l
-    go (gives r) h = absurd (h refl)
-    go (refuses x) h = refl
+    go (Ok r) h = absurd (h refl)
+    go (Err x) h = refl
 
 step_kept : (s : Said Table) (l : List ℕ) → ((step_for s).number ≡ 0 → ⊥) → after_step s l ≡ l
-step_kept (refuses x) l h = refl
-step_kept (gives t) l h = go (says_ran (step_of t).outcome) h
+step_kept (Err x) l h = refl
+step_kept (Ok t) l h = go ((step_of t).outcome) h
   where
     go : (w : Said (Option ℕ)) → ((ran_as w).number ≡ 0 → ⊥) → changed w (stored_in (step_of t).table l) l ≡ l
-    go (gives o) h = absurd (h refl)
-    go (refuses x) h = refl
+    go (Ok o) h = absurd (h refl)
+    go (Err x) h = refl
 
 leave_kept : (s : Said Table) (n : ℕ) (l : List ℕ) → ((leave_for s n).number ≡ 0 → ⊥) → after_leave s n l ≡ l
-leave_kept (refuses x) n l h = refl
-leave_kept (gives t) n l h = changed_kept (says_leaving (leave_of t n).leaving) (stored_in (leave_of t n).table l) l h
+leave_kept (Err x) n l h = refl
+leave_kept (Ok t) n l h = changed_kept ((leave_of t n).leaving) (stored_in (leave_of t n).table l) l h
 
 counts_kept : (s : Said Table) (ns : List ℕ) → ((counts_for s).number ≡ 0 → ⊥) → counts_after s ns ≡ ns
-counts_kept (refuses x) ns h = refl
-counts_kept (gives t) ns h = absurd (h refl)
+counts_kept (Err x) ns h = refl
+counts_kept (Ok t) ns h = absurd (h refl)
 
 -- R17: a refusal changes no table and no lent byte
 pub refusal_keeps : RefusalKeeps
 refusal_keeps = record {
   ask = λ t q a x h e. (
     first_refused t q a x h.answers e,
-    λ m g. let f : says m.answer ≡ refuses x = answers_unique t q (says m.answer) (says a) g.answers h.answers ∙ e in
+    λ m g. let f : m.answer ≡ Err x = answers_unique t q (m.answer) (a) g.answers h.answers ∙ e in
         (f, admit_keeps t q m x g.computed f),
   );
   admit = λ t q m x h e. (first_refused t q m.answer x h.answers e, admit_keeps t q m x h.computed e);
@@ -201,13 +197,13 @@ refusal_keeps = record {
   leave = left_keeps;
   drive = drive_keeps;
   read = λ card c x h e.
-      let f : read_of card ≡ refuses x = sym (said_handed (turned_of card) (read_of card)) ∙ ap said_read (sym h) ∙ e in
-      let g : c ≡ handed 0 (refuses x) = h ∙ ap (handed (turned_of card)) f in
+      let f : read_of card ≡ Err x = sym (said_handed (turned_of card) (read_of card)) ∙ ap said_read (sym h) ∙ e in
+      let g : c ≡ handed 0 (Err x) = h ∙ ap (handed (turned_of card)) f in
       (f, ap (λ (y : ReadCard). y.table) g, ap (λ (y : ReadCard). y.request) g, ap (λ (y : ReadCard). y.turned) g);
   write = λ t q l a m x h e. h.1 ∙ ap (filled (card_of t q) l) (sym h.0 ∙ e);
-  put_reply = λ a l w m h e. h.1 ∙ put_kept (fits (answer_line (says a)) l) (answer_line (says a)) l (sym h.0 ∙ e);
+  put_reply = λ a l w m h e. h.1 ∙ put_kept (fits (answer_line (a)) l) (answer_line (a)) l (sym h.0 ∙ e);
   load = λ l y x h e.
-      let f : load_of l ≡ refuses x = sym (said_loaded_lem (load_of l)) ∙ ap said_loaded (sym h) ∙ e in
+      let f : load_of l ≡ Err x = sym (said_loaded_lem (load_of l)) ∙ ap said_loaded (sym h) ∙ e in
       (f, rw h (ap (λ (s : Said Table). (handed_out s).table) f));
   store = λ t l a m x h e. h.1 ∙ ap (filled (image_of t) l) (sym h.0 ∙ e);
   answer_card = λ card l r m h e. h.1 ∙ line_kept (fits (line_for card) l) (line_for card) l (λ z. e (ap (λ (x : Result). x.number) h.0 ∙ z));

@@ -1,4 +1,5 @@
 -- The second demand is kept.
+use Rattle.std.specs.Prelude.{Ok, Err}
 use mathlib.Core.Path.{◌≡◌, refl, sym, ap, ap₂, ◌∙◌, subst}
 use mathlib.Core.Logic.{inl, inr, ⊎_elim}
 use mathlib.Core.List.{List, [], ◌∷◌, ◌++◌}
@@ -9,9 +10,8 @@ use lib.ListN.{length, drop}
 use Rattle.table.specs.declared.Table.{Table}
 use Rattle.table.specs.declared.Request.{Request}
 use Rattle.table.specs.declared.Refusal.{Refusal}
-use Rattle.table.specs.Words.{Said, gives, refuses}
+use Rattle.table.specs.Words.{Said}
 use Rattle.table.specs.Grounds.{Row, grounds, FirstOf, NoneOf, Answers}
-use Rattle.table.specs.Ask.{says}
 use Rattle.card.proofs.Written.{written_reads}
 use Rattle.card.specs.Reading.{card_for, meaning, read_with}
 use Rattle.card.specs.Twin.{turned_of}
@@ -48,12 +48,12 @@ pub exactly_refused : ExactlyRefused
 exactly_refused = record {
   first = λ t q a x h e. subst (Answers t q) e h.answers;
   only = λ t q a x h e. some_first grounds t q x (subst (Answers t q) e h.answers);
-  always = λ t q a h s. by t q (says a) h.answers s;
+  always = λ t q a h s. by t q (a) h.answers s;
 }
   where
-    by : (t : Table) (q : Request) (w : Said ℕ) → Answers t q w → SomeOf grounds t q → (x : Refusal) × (w ≡ refuses x)
-    by t q (gives r) h s = absurd (none_some grounds t q h.0 s)
-    by t q (refuses x) h s = (x, refl)
+    by : (t : Table) (q : Request) (w : Said ℕ) → Answers t q w → SomeOf grounds t q → (x : Refusal) × (w ≡ Err x)
+    by t q (Ok r) h s = absurd (none_some grounds t q h.0 s)
+    by t q (Err x) h s = (x, refl)
 
 -- R72: a written card reads back
 pub written_reads_back : WrittenReadsBack
@@ -96,7 +96,7 @@ stored_loads_back t l a m n w s e =
 pub loaded_stores_back : LoadedStoresBack
 loaded_stores_back image t l a m b e h s =
     let n : length image ≡ 298 = loaded_length 16 image t e in
-    (s.0 ∙ has_room (length l) (omega arith) ∙ ap gives (sym n), s.1 ∙ stored_is t l (omega arith) ∙ ap₂ (λ (x : List ℕ) (k : ℕ). x ++ drop k l) (stores_back 16 image b t e).0 (sym n))
+    (s.0 ∙ has_room (length l) (omega arith) ∙ ap Ok (sym n), s.1 ∙ stored_is t l (omega arith) ∙ ap₂ (λ (x : List ℕ) (k : ℕ). x ++ drop k l) (stores_back 16 image b t e).0 (sym n))
 
 -- R14, R18, R65, R72, R82: the second demand
 pub second_demand : Demand2

@@ -1,4 +1,5 @@
 -- The third demand, R73 to R77, is kept.
+use Rattle.std.specs.Prelude.{Ok}
 use mathlib.Core.Path.{◌≡◌, sym, ap, ◌∙◌}
 use mathlib.Core.List.{List}
 use Prim.Native.Nat.{ℕ, ◌+◌, ◌-◌, ◌^◌, ◌<◌}
@@ -6,9 +7,9 @@ use native.Mathlib.Omega.{arith}
 use lib.ListN.{length}
 use Rattle.table.specs.declared.Table.{Table}
 use Rattle.table.specs.declared.Request.{Request}
-use Rattle.table.specs.Words.{empty_table, refusal, gives}
+use Rattle.table.specs.Words.{empty_table, refusal}
 use Rattle.line.specs.Slots.{at}
-use Rattle.table.specs.Ask.{says, ask_of}
+use Rattle.table.specs.Ask.{ask_of}
 use Rattle.table.specs.Admit.{new_line, admit_with}
 use Rattle.table.specs.Step.{choose}
 use Rattle.table.specs.Runs.{Act, admitting, run}
@@ -87,4 +88,4 @@ no_earlier_start t q r r' six e late less = no_earlier t q r r' six e late less
 -- R77, R41: in the words of ask's contract
 pub no_earlier_than_answered : NoEarlierThanAnswered
 no_earlier_than_answered t q r r' six right late less =
-    no_earlier_start t q r r' six (answers_unique t q (says (ask_of t q)) (gives r) (ask_answers t q) right) late less
+    no_earlier_start t q r r' six (answers_unique t q ((ask_of t q)) (Ok r) (ask_answers t q) right) late less

@@ -1,7 +1,7 @@
 -- An earlier start misses a period: it is not smooth, so some tick before the last end has excess, and no run gets past that tick.
+use Rattle.std.specs.Prelude.{Ok, Err, Option, None, Some}
 use mathlib.Core.Path.{◌≡◌, refl, sym, ap, ◌∙◌, subst}
 use mathlib.Core.Logic.{◌⊎◌, inl, inr, ⊎_elim}
-use mathlib.Core.Option.{Option, none, some}
 use Prim.Native.Nat.{ℕ, zero, suc, ◌+◌, ◌-◌, ◌^◌, ◌≤◌, ◌<◌}
 use native.Mathlib.Nat.{not-suc-le-zero}
 use native.Mathlib.Numerals.{add-one}
@@ -14,16 +14,16 @@ use Rattle.table.specs.declared.Table.{Table}
 use Rattle.table.specs.declared.Request.{Request}
 use Rattle.table.specs.declared.Stepped.{Stepped}
 use Rattle.line.specs.Slots.{at, Each, is_nothing, Waits, lowest_of}
-use Rattle.table.specs.Words.{refusal, gives, refuses}
+use Rattle.table.specs.Words.{refusal}
 use Rattle.line.specs.Sound.{Sound}
 use Rattle.line.specs.Demand.{demands, new_demand, end_of, last_end, Smooth}
 use Rattle.table.specs.Grounds.{entry, asked}
 use Rattle.line.specs.Stretch.{stretch}
 use Rattle.line.specs.Shares.{frame}
 use Rattle.table.specs.Counts.{accounted}
-use Rattle.table.specs.Ask.{says, ask_of}
+use Rattle.table.specs.Ask.{ask_of}
 use Rattle.table.specs.Admit.{admitted_at}
-use Rattle.table.specs.Step.{says_ran, choose, serve, refused_step, ticked, advance, step_of}
+use Rattle.table.specs.Step.{choose, serve, refused_step, ticked, advance, step_of}
 use Rattle.table.proofs.Counts.{booked_within, put_within}
 use Rattle.table.proofs.Step.{slot_of_which}
 use Rattle.line.specs.Tick.{short}
@@ -47,7 +47,7 @@ sound_step : (t : Table) → Each Sound t.slots → accounted t ≤ t.clock → 
 unfolding step_of
 sound_step t s w h = rw (lt-leb (2 ^ 48) t.clock h, sound_faultless t s w)
 
-short_step : (t : Table) (i : ℕ) → Each Sound t.slots → accounted t ≤ t.clock → t.clock < 2 ^ 48 → lowest_of short (serve (choose t) t.slots) ≡ some i
+short_step : (t : Table) (i : ℕ) → Each Sound t.slots → accounted t ≤ t.clock → t.clock < 2 ^ 48 → lowest_of short (serve (choose t) t.slots) ≡ Some i
     → step_of t ≡ refused_step t 14 i
 unfolding advance
 short_step t i s w h e = sound_step t s w h ∙ rw e
@@ -71,26 +71,26 @@ runs_short (suc n) last t s within b l x = go (lowest_of short (serve o t.slots)
       steps = suc w.steps;
       slot = w.slot;
       goes = goes;
-      misses = subst (λ (s : Stepped). says_ran (step_of (stepped w.steps s.table)).outcome ≡ refuses (refusal 14 w.slot)) (sym e) w.misses;
+      misses = subst (λ (s : Stepped). (step_of (stepped w.steps s.table)).outcome ≡ Err (refusal 14 w.slot)) (sym e) w.misses;
       before = omega (arith, w.before);
     }
       where
-        goes : (m : ℕ) → m < suc w.steps → (p : Option ℕ) × (says_ran (step_of (stepped m t)).outcome ≡ gives p)
-        goes zero h = (o, ap (λ (s : Stepped). says_ran s.outcome) e ∙ ap gives (slot_of_which o))
+        goes : (m : ℕ) → m < suc w.steps → (p : Option ℕ) × ((step_of (stepped m t)).outcome ≡ Ok p)
+        goes zero h = (o, ap (λ (s : Stepped). s.outcome) e ∙ ap Ok (slot_of_which o))
         goes (suc m) h =
-            subst (λ (s : Stepped). (p : Option ℕ) × (says_ran (step_of (stepped m s.table)).outcome ≡ gives p)) (sym e) (w.goes m (omega arith))
+            subst (λ (s : Stepped). (p : Option ℕ) × ((step_of (stepped m s.table)).outcome ≡ Ok p)) (sym e) (w.goes m (omega arith))
 
     go : (p : Option ℕ) → lowest_of short (serve o t.slots) ≡ p
         → (Each Sound next.slots → accounted next ≤ next.clock → next.clock + n < last → last ≤ 2 ^ 48 → n < demands next.clock next.slots (next.clock + n) → Misses next last)
         → Misses t last
-    go (some i) e rest = record {
+    go (Some i) e rest = record {
       steps = 0;
       slot = i;
       goes = λ m h. absurd (not-suc-le-zero h);
-      misses = ap (λ (s : Stepped). says_ran s.outcome) (short_step t i s within (omega arith) e);
+      misses = ap (λ (s : Stepped). s.outcome) (short_step t i s within (omega arith) e);
       before = omega arith;
     }
-    go none e rest =
+    go None e rest =
         let v : Each Kept (serve o t.slots) = short_none (serve o t.slots) e in
         let m : May o t.slots = earliest_may o t.slots (choose_earliest t) in
         let y = excess_kept t.clock o t.slots (t.clock + suc n) s m v (omega arith) (omega arith) in
@@ -146,7 +146,7 @@ early_excess t q r r' g late less =
     (search_excess f (last - t0))
 
 -- R77: admitted at any start from the clock on and before the one answered, some period is missed before the last end
-pub no_earlier : (t : Table) (q : Request) (r r' : ℕ) → Sixteen q → says (ask_of t q) ≡ gives r → t.clock ≤ r' → r' < r
+pub no_earlier : (t : Table) (q : Request) (r r' : ℕ) → Sixteen q → ask_of t q ≡ Ok r → t.clock ≤ r' → r' < r
     → Misses (admitted_at t q r') (last_end t.clock (asked t q))
 no_earlier t q r r' six e late less =
     let g = granted t q r (says_start (ask_of t q) r e) in

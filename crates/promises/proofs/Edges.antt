@@ -1,8 +1,8 @@
 -- The edges of the promises: each strictness with an example on each side of it.
+use Rattle.std.specs.Prelude.{Ok, None, Some}
 use Prim.Native.Nat.{ℕ, zero, suc, ◌+◌, ◌-◌, ◌^◌, ◌≤◌, ◌<◌}
 use mathlib.Core.Path.{◌≡◌, refl}
 use mathlib.Core.List.{List, [], ◌∷◌, ◌++◌, map}
-use mathlib.Core.Option.{none, some}
 use native.Mathlib.Omega.{arith}
 use native.Mathlib.Nat.{not-suc-le-zero}
 use lib.ListN.{length, take, drop, replicate}
@@ -15,10 +15,10 @@ use Rattle.line.specs.Demand.{last_end}
 use Rattle.line.specs.Shares.{periods_in}
 use Rattle.line.specs.Ends.{ends_of, slack, bound, greatest, soonest_of, first_short, start}
 use Rattle.line.proofs.Search.{true_false}
-use Rattle.table.specs.Words.{request_with, empty_table, gives}
-use Rattle.table.specs.Ask.{says, ask_in, ask_of}
+use Rattle.table.specs.Words.{request_with, empty_table}
+use Rattle.table.specs.Ask.{ask_in, ask_of}
 use Rattle.table.specs.Counts.{settling}
-use Rattle.table.specs.Step.{says_ran, Earliest, chosen, advance, step_of}
+use Rattle.table.specs.Step.{Earliest, chosen, advance, step_of}
 use Rattle.table.specs.Leave.{leave_of}
 use Rattle.table.specs.Runs.{Act, asking, admitting, stepping, leaving, run, trace, times, idles, since}
 use Rattle.table.specs.Cases.{running, table_of, case_a}
@@ -44,17 +44,17 @@ halves = admitting (half []) ∷ admitting (half (2 ∷ [])) ∷ stepping ∷ []
 
 -- R106: slot 1 gets a tick, renews, and is among the least ends then, also if it is asked to leave meanwhile
 pub goes_on_met : Got halves 1 × (trace (asking (half (2 ∷ 2 ∷ [])) ∷ leaving 1 ∷ []) (ran_table halves) ≡ [])
-    × Earliest (some 1) (run (asking (half (2 ∷ 2 ∷ [])) ∷ leaving 1 ∷ []) (ran_table halves)).slots × ((run (asking (half (2 ∷ 2 ∷ [])) ∷ leaving 1 ∷ []) (ran_table halves)).clock < 2 ^ 48)
+    × Earliest (Some 1) (run (asking (half (2 ∷ 2 ∷ [])) ∷ leaving 1 ∷ []) (ran_table halves)).slots × ((run (asking (half (2 ∷ 2 ∷ [])) ∷ leaving 1 ∷ []) (ran_table halves)).clock < 2 ^ 48)
 unfolding euclid gcd_of lcm_of frame_from total lowest due last_end map_at periods_in every ends_before ends_of slack bound greatest soonest_of first_short start ask_in ask_of chosen settling advance step_of leave_of
 goes_on_met = (record { ran = refl; there = refl }, refl, choose_earliest (run (asking (half (2 ∷ 2 ∷ [])) ∷ leaving 1 ∷ []) (ran_table halves)), omega arith)
 
 -- R106: so that tick is promised to it, with an ask and a leave between the two
-pub goes_on_held : says_ran (step_of (run (asking (half (2 ∷ 2 ∷ [])) ∷ leaving 1 ∷ []) (ran_table halves))).outcome ≡ gives (some 1)
+pub goes_on_held : (step_of (run (asking (half (2 ∷ 2 ∷ [])) ∷ leaving 1 ∷ []) (ran_table halves))).outcome ≡ Ok (Some 1)
 goes_on_held = who_ran_goes_on halves 1 goes_on_met.0 (asking (half (2 ∷ 2 ∷ [])) ∷ leaving 1 ∷ []) goes_on_met.1 goes_on_met.2 goes_on_met.3
 
 -- R106: so the third tick is slot 1's; where its line is gone with the second, and another is admitted in its place, it is slot 0's
-pub gone_edges : (trace (halves ++ (stepping ∷ stepping ∷ stepping ∷ [])) empty_table ≡ some 0 ∷ some 1 ∷ some 1 ∷ some 0 ∷ [])
-    × (trace (halves ++ (leaving 1 ∷ stepping ∷ admitting (half (2 ∷ [])) ∷ stepping ∷ [])) empty_table ≡ some 0 ∷ some 1 ∷ some 0 ∷ [])
+pub gone_edges : (trace (halves ++ (stepping ∷ stepping ∷ stepping ∷ [])) empty_table ≡ Some 0 ∷ Some 1 ∷ Some 1 ∷ Some 0 ∷ [])
+    × (trace (halves ++ (leaving 1 ∷ stepping ∷ admitting (half (2 ∷ [])) ∷ stepping ∷ [])) empty_table ≡ Some 0 ∷ Some 1 ∷ Some 0 ∷ [])
 unfolding euclid gcd_of lcm_of frame_from total lowest due last_end map_at periods_in every ends_before ends_of slack bound greatest soonest_of first_short start ask_in ask_of chosen settling advance step_of leave_of
 gone_edges = (refl, refl)
 
@@ -63,9 +63,9 @@ abbrev two_of_six : List Act
 two_of_six = admitting (request_with (replicate 16 0) 2 6) ∷ admitting (request_with (6 ∷ replicate 15 0) 4 6) ∷ replicate 8 stepping
 
 -- R44, R107: ask answers alike for a table, not along a history: after a run in which the lowest of equals had each tick the start would be 9
-pub history_edges : (trace two_of_six empty_table ≡ some 0 ∷ some 0 ∷ replicate 6 (some 1))
-    × (says (ask_of (run two_of_six empty_table) (request_with (24 ∷ 6 ∷ replicate 14 0) 1 4)) ≡ gives 8)
-    × (says (ask_of (table_of 8 (running 2 6 2 0 ∷ running 4 6 2 4 ∷ [])) (request_with (24 ∷ 6 ∷ replicate 14 0) 1 4)) ≡ gives 9)
+pub history_edges : (trace two_of_six empty_table ≡ Some 0 ∷ Some 0 ∷ replicate 6 (Some 1))
+    × ((ask_of (run two_of_six empty_table) (request_with (24 ∷ 6 ∷ replicate 14 0) 1 4)) ≡ Ok 8)
+    × ((ask_of (table_of 8 (running 2 6 2 0 ∷ running 4 6 2 4 ∷ [])) (request_with (24 ∷ 6 ∷ replicate 14 0) 1 4)) ≡ Ok 9)
 unfolding euclid gcd_of lcm_of frame_from total lowest due last_end map_at periods_in every ends_before ends_of slack bound greatest soonest_of first_short start ask_in ask_of chosen settling advance step_of
 history_edges = (refl, refl, refl)
 
@@ -113,24 +113,24 @@ abbrev two_lines : List Act
 two_lines = admitting (request_with (replicate 16 0) 1 2) ∷ stepping ∷ stepping ∷ admitting (request_with (2 ∷ replicate 15 0) 1 4) ∷ stepping ∷ stepping ∷ []
 
 -- R76: in case A slot 2 waits five ticks, and of the four ticks from its start on it gets one
-pub trace_a : trace on_from_case_a (admitted_table to_case_a case_a.request) ≡ replicate 8 (some 1) ++ (some 2 ∷ [])
+pub trace_a : trace on_from_case_a (admitted_table to_case_a case_a.request) ≡ replicate 8 (Some 1) ++ (Some 2 ∷ [])
 unfolding euclid gcd_of lcm_of frame_from total lowest due last_end map_at periods_in every ends_before ends_of slack bound greatest soonest_of first_short start ask_in ask_of chosen settling advance step_of
 trace_a = refl
 
 -- R73, R76: a tick that goes to nobody names no slot, and a refused step is no tick
-pub times_edges : (times 1 (some 1 ∷ none ∷ some 2 ∷ some 1 ∷ []) ≡ 2) × (trace (stepping ∷ stepping ∷ []) (table_of 0 (running 1 4 2 0 ∷ [])) ≡ none ∷ none ∷ [])
+pub times_edges : (times 1 (Some 1 ∷ None ∷ Some 2 ∷ Some 1 ∷ []) ≡ 2) × (trace (stepping ∷ stepping ∷ []) (table_of 0 (running 1 4 2 0 ∷ [])) ≡ None ∷ None ∷ [])
     × (trace (stepping ∷ []) ending ≡ [])
 unfolding lowest chosen settling advance step_of
 times_edges = (refl, refl, refl)
 
 -- R79: what ran before an admission counts for the slots that were there, and not for the new line's, nor for a slot that holds none
-pub since_edges : (since 1 two_lines ≡ some 0 ∷ some 1 ∷ []) × (since 0 two_lines ≡ some 0 ∷ none ∷ some 0 ∷ some 1 ∷ []) × (since 2 two_lines ≡ [])
+pub since_edges : (since 1 two_lines ≡ Some 0 ∷ Some 1 ∷ []) × (since 0 two_lines ≡ Some 0 ∷ None ∷ Some 0 ∷ Some 1 ∷ []) × (since 2 two_lines ≡ [])
 unfolding euclid gcd_of lcm_of frame_from total lowest due last_end map_at periods_in every ends_before ends_of slack bound greatest soonest_of first_short start ask_in ask_of chosen settling advance step_of
 since_edges = (refl, refl, refl)
 
 -- R79: who has had what then, and how many ticks were idle
 pub had_edges : ((run two_lines empty_table).had ≡ 2 ∷ 1 ∷ replicate 14 0) × ((run two_lines empty_table).idle ≡ 1) × ((run two_lines empty_table).clock ≡ 4)
-    × (idles (some 1 ∷ none ∷ some 2 ∷ none ∷ none ∷ []) ≡ 3)
+    × (idles (Some 1 ∷ None ∷ Some 2 ∷ None ∷ None ∷ []) ≡ 3)
 unfolding euclid gcd_of lcm_of frame_from total lowest due last_end map_at periods_in every ends_before ends_of slack bound greatest soonest_of first_short start ask_in ask_of chosen settling advance step_of
 had_edges = (refl, refl, refl, refl)
 
@@ -172,7 +172,7 @@ leaves_and_comes = admitting (request_with (replicate 16 0) 1 2) ∷ stepping �
 pub departed_edges : (map (λ (n : ℕ). times 0 (since 0 (take n leaves_and_comes))) (2 ∷ 3 ∷ 4 ∷ 5 ∷ 6 ∷ []) ≡ 1 ∷ 1 ∷ 0 ∷ 0 ∷ 1 ∷ [])
     × (map (λ (n : ℕ). (run (take n leaves_and_comes) empty_table).departed) (3 ∷ 4 ∷ 6 ∷ []) ≡ 0 ∷ 1 ∷ 1 ∷ [])
     × ((run leaves_and_comes empty_table).had ≡ 1 ∷ replicate 15 0) × ((run leaves_and_comes empty_table).idle ≡ 1) × ((run leaves_and_comes empty_table).clock ≡ 3)
-    × (trace leaves_and_comes empty_table ≡ some 0 ∷ none ∷ some 0 ∷ [])
+    × (trace leaves_and_comes empty_table ≡ Some 0 ∷ None ∷ Some 0 ∷ [])
 unfolding euclid gcd_of lcm_of frame_from total lowest due last_end map_at periods_in every ends_before ends_of slack bound greatest soonest_of first_short start ask_in ask_of chosen settling advance step_of leave_of
 departed_edges = (refl, refl, refl, refl, refl, refl)
 

@@ -1,12 +1,12 @@
 -- The premises of R75 to R77, of R79 and of R80 are met: by the run to case A, its admission, and the nine ticks after it; those of R104 by case J.
+use Rattle.std.specs.Prelude.{Ok, Err, Some}
 use Prim.Native.Nat.{ℕ, zero, suc, ◌+◌, ◌^◌, ◌≤◌, ◌<◌}
 use mathlib.Core.Path.{◌≡◌, refl}
 use mathlib.Core.List.{[], ◌∷◌, map}
-use mathlib.Core.Option.{some}
 use native.Mathlib.Omega.{arith}
 use lib.ListN.{get_or, replicate}
 use Rattle.periods.specs.Multiples.{euclid, gcd_of, lcm_of, frame_from}
-use Rattle.table.specs.Words.{empty_table, refusal, short_refusal, gives, refuses}
+use Rattle.table.specs.Words.{empty_table, refusal, short_refusal}
 use Rattle.line.specs.Slots.{run_with, RunsAs, at, total, map_at, Waits, lowest}
 use Rattle.line.specs.Streams.{due, every, ends_before}
 use Rattle.line.specs.Demand.{last_end}
@@ -15,8 +15,8 @@ use Rattle.line.specs.Ends.{ends_of, slack, bound, greatest, soonest_of, first_s
 use Rattle.table.specs.Ask.{ask_in, ask_of}
 use Rattle.table.specs.Admit.{admitted_at}
 use Rattle.table.specs.Counts.{settling}
-use Rattle.table.specs.Step.{says_ran, chosen, advance, step_of}
-use Rattle.table.specs.Leave.{says_leaving, leave_of}
+use Rattle.table.specs.Step.{chosen, advance, step_of}
+use Rattle.table.specs.Leave.{leave_of}
 use Rattle.table.specs.Runs.{run}
 use Rattle.table.specs.Cases.{tallied, ran_last, cases, case_a, case_j}
 use Rattle.theory.proofs.Cases.{cases_answer}
@@ -61,12 +61,12 @@ unfolding euclid gcd_of lcm_of frame_from total lowest due last_end map_at perio
 case_a_unplaced = (refl, (refl, (refl, (refl, (refl, (refl, (refl, (refl, (refl, (refl, tt))))))))))
 
 -- R80: in the table of case A slot 1 runs, and may leave in eight ticks
-pub case_a_parts : (says_leaving (leave_of (run to_case_a empty_table) 1).leaving ≡ gives 8) × RunsAs 8 16 8 8 (at (run to_case_a empty_table).slots 1)
+pub case_a_parts : ((leave_of (run to_case_a empty_table) 1).leaving ≡ Ok 8) × RunsAs 8 16 8 8 (at (run to_case_a empty_table).slots 1)
 unfolding euclid gcd_of lcm_of frame_from total lowest due last_end map_at periods_in every ends_before ends_of slack bound greatest soonest_of first_short start ask_in ask_of chosen settling advance step_of leave_of
 case_a_parts = (refl, (run_with 8 16 8 8, refl, refl, refl, refl, refl))
 
 -- R100: with the new line admitted slot 2 waits, and may be removed at once
-pub case_a_removed : (says_leaving (leave_of (admitted_table to_case_a case_a.request) 2).leaving ≡ gives 0) × Waits (at (admitted_table to_case_a case_a.request).slots 2)
+pub case_a_removed : ((leave_of (admitted_table to_case_a case_a.request) 2).leaving ≡ Ok 0) × Waits (at (admitted_table to_case_a case_a.request).slots 2)
 unfolding euclid gcd_of lcm_of frame_from total lowest due last_end map_at periods_in every ends_before ends_of slack bound greatest soonest_of first_short start ask_in ask_of chosen settling advance step_of leave_of
 case_a_removed = (refl, refl)
 
@@ -97,7 +97,7 @@ unfolding cases
 case_j_tells = (ten_tells case_j.table case_j.request (short_refusal 3 2) sixteen_j cases_answer.1.1.1.1.1.1.1.1.1.0 refl).2
 
 -- R104: two steps go, and the third, which ends at 3 and not before, reports 14 for slot 0
-pub case_j_misses : (map (λ (n : ℕ). says_ran (step_of (stepped n case_j.table)).outcome) (0 ∷ 1 ∷ 2 ∷ []) ≡ gives (some 0) ∷ gives (some 0) ∷ refuses (refusal 14 0) ∷ [])
+pub case_j_misses : (map (λ (n : ℕ). (step_of (stepped n case_j.table)).outcome) (0 ∷ 1 ∷ 2 ∷ []) ≡ Ok (Some 0) ∷ Ok (Some 0) ∷ Err (refusal 14 0) ∷ [])
     × (case_j.table.clock + 2 + 1 ≡ 3)
 unfolding lowest chosen settling advance step_of
 case_j_misses = (refl, refl)

@@ -1,4 +1,5 @@
 -- What the contracts rule out: no function that meets one is such a wrong program.
+use Rattle.std.specs.Prelude.{Ok}
 use Prim.Native.Nat.{ℕ, ◌≤◌}
 use mathlib.Core.Path.{◌≡◌, refl, sym, ap, ◌∙◌}
 use mathlib.Core.Bool.{true}
@@ -8,16 +9,14 @@ use lib.ListN.{get_or, replicate}
 use Rattle.line.specs.declared.Held.{Held}
 use Rattle.table.specs.declared.Table.{Table}
 use Rattle.table.specs.declared.Request.{Request}
-use Rattle.table.specs.declared.Answer.{Answer}
 use Rattle.table.specs.declared.Stepped.{Stepped}
 use Rattle.table.specs.declared.Left.{Left}
-use Rattle.table.specs.Words.{empty_table, Said, gives}
+use Rattle.table.specs.Words.{empty_table, Said}
 use Rattle.line.specs.Slots.{run_with, if_runs, at, lowest}
 use Rattle.table.specs.Grounds.{asked, Answers}
-use Rattle.table.specs.Ask.{says}
 use Rattle.table.specs.Counts.{settling}
 use Rattle.table.specs.Step.{chosen, advance, step_of}
-use Rattle.table.specs.Leave.{says_leaving, leave_of}
+use Rattle.table.specs.Leave.{leave_of}
 use Rattle.line.specs.Leave.{is_parting}
 use Rattle.line.proofs.Search.{true_false}
 use Rattle.table.specs.Cases.{Case, cases, case_a, case_b, case_c, case_d, case_m}
@@ -34,16 +33,16 @@ use Rattle.theory.proofs.Unique.{answers_unique}
 use Rattle.promises.specs.Excluded.{MeetsAsk, MeetsStep, MeetsLeave, RefusesEverything, SaysTheClock, LeavesTheTable, OnlyMovesTheClock, OnlySaysSo, DropsAtOnce, MeetsRead, MeetsWrite, OneRequest, WritesNothing}
 
 -- whatever meets ask's contract gives each case its answer
-pub right_in : (f : Table → Request → Answer) → MeetsAsk f → (c : Case) → Answers c.table c.request c.answer
-    → says (f c.table c.request) ≡ c.answer
-right_in f m c h = answers_unique c.table c.request (says (f c.table c.request)) c.answer (m c.table c.request) h
+pub right_in : (f : Table → Request → Said ℕ) → MeetsAsk f → (c : Case) → Answers c.table c.request c.answer
+    → f c.table c.request ≡ c.answer
+right_in f m c h = answers_unique c.table c.request ((f c.table c.request)) c.answer (m c.table c.request) h
 
-says_thirteen : (f : Table → Request → Answer) → MeetsAsk f → says (f case_a.table case_a.request) ≡ gives 13
+says_thirteen : (f : Table → Request → Said ℕ) → MeetsAsk f → f case_a.table case_a.request ≡ Ok 13
 unfolding cases
 says_thirteen f m = right_in f m case_a cases_answer.0
 
 -- R18: a request that no ground refuses is granted
-pub no_ask_refuses_everything : (f : Table → Request → Answer) → MeetsAsk f → RefusesEverything f → ⊥
+pub no_ask_refuses_everything : (f : Table → Request → Said ℕ) → MeetsAsk f → RefusesEverything f → ⊥
 no_ask_refuses_everything f m r =
     let e = says_thirteen f m in
     let x = r case_a.table case_a.request in
@@ -51,35 +50,35 @@ no_ask_refuses_everything f m r =
     let z : ◌≡◌ {A = ℕ} 0 1 = cc in omega arith
 
 -- R14: some starts are later than the clock
-pub no_ask_says_the_clock : (f : Table → Request → Answer) → MeetsAsk f → SaysTheClock f → ⊥
+pub no_ask_says_the_clock : (f : Table → Request → Said ℕ) → MeetsAsk f → SaysTheClock f → ⊥
 no_ask_says_the_clock f m r =
     let e = says_thirteen f m in
-    let x : says (f case_a.table case_a.request) ≡ gives 8 = r case_a.table case_a.request in
+    let x : f case_a.table case_a.request ≡ Ok 8 = r case_a.table case_a.request in
     let z : ◌≡◌ {A = ℕ} 8 13 = cc in omega arith
 
 -- R68: the closed formula, in case B
-pub no_ask_uses_the_closed_formula : (f : Table → Request → Answer) → MeetsAsk f
-    → says (f case_b.table case_b.request) ≡ gives (closed_start 6 (run_with 8 16 6 2) 32) → ⊥
+pub no_ask_uses_the_closed_formula : (f : Table → Request → Said ℕ) → MeetsAsk f
+    → f case_b.table case_b.request ≡ Ok (closed_start 6 (run_with 8 16 6 2) 32) → ⊥
 unfolding cases
 no_ask_uses_the_closed_formula f m r =
-    let x : ◌≡◌ {A = Said ℕ} (gives 6) (gives 8) = sym (right_in f m case_b cases_answer.1.0) ∙ r ∙ ap gives closed_formula_b in
+    let x : ◌≡◌ {A = Said ℕ} (Ok 6) (Ok 8) = sym (right_in f m case_b cases_answer.1.0) ∙ r ∙ ap Ok closed_formula_b in
     let z : ◌≡◌ {A = ℕ} 6 8 = cc in omega arith
 
 -- R68: the floor, in case D at the end 108
-pub no_ask_uses_the_floor : (f : Table → Request → Answer) → MeetsAsk f
-    → says (f case_d.table case_d.request) ≡ gives (floor_start 100 (asked case_d.table case_d.request) 2 4 108) → ⊥
+pub no_ask_uses_the_floor : (f : Table → Request → Said ℕ) → MeetsAsk f
+    → f case_d.table case_d.request ≡ Ok (floor_start 100 (asked case_d.table case_d.request) 2 4 108) → ⊥
 unfolding cases
 no_ask_uses_the_floor f m r =
-    let x : ◌≡◌ {A = Said ℕ} (gives 105) (gives 103) = sym (right_in f m case_d cases_answer.1.1.1.0) ∙ r ∙ ap gives floor_d in
+    let x : ◌≡◌ {A = Said ℕ} (Ok 105) (Ok 103) = sym (right_in f m case_d cases_answer.1.1.1.0) ∙ r ∙ ap Ok floor_d in
     let z : ◌≡◌ {A = ℕ} 105 103 = cc in omega arith
 
 -- R68: the least start with no excess at the running lines' ends, in case M
-pub no_ask_looks_at_the_running_ends_alone : (f : Table → Request → Answer) → MeetsAsk f → (u : ℕ)
+pub no_ask_looks_at_the_running_ends_alone : (f : Table → Request → Said ℕ) → MeetsAsk f → (u : ℕ)
     → ((v : ℕ) → 100 ≤ v → QuietAtEnds 100 (asked case_m.table case_m.request) 3 6 v → u ≤ v)
-    → says (f case_m.table case_m.request) ≡ gives u → ⊥
+    → f case_m.table case_m.request ≡ Ok u → ⊥
 unfolding cases
 no_ask_looks_at_the_running_ends_alone f m u least r =
-    let x : ◌≡◌ {A = Said ℕ} (gives 104) (gives u) = sym (right_in f m case_m cases_answer.1.1.1.1.1.1.1.1.1.1.1.1.0) ∙ r in
+    let x : ◌≡◌ {A = Said ℕ} (Ok 104) (Ok u) = sym (right_in f m case_m cases_answer.1.1.1.1.1.1.1.1.1.1.1.1.0) ∙ r in
     let z : ◌≡◌ {A = ℕ} 104 u = cc in
     omega (arith, least 103 (omega arith) only_ends_m)
 
@@ -110,7 +109,7 @@ no_step_only_moves_the_clock f m r =
     case_a_serves (sym y ∙ x)
 
 -- in case A slot 1 is let go: it runs on, and no other period follows
-case_a_left : (says_leaving (leave_of case_a.table 1).leaving ≡ gives 8) × (is_parting (at (leave_of case_a.table 1).table.slots 1) ≡ true)
+case_a_left : ((leave_of case_a.table 1).leaving ≡ Ok 8) × (is_parting (at (leave_of case_a.table 1).table.slots 1) ≡ true)
 unfolding lowest leave_of
 case_a_left = (refl, refl)
 
@@ -118,22 +117,22 @@ case_a_left = (refl, refl)
 pub no_leave_only_says_so : (f : Table → ℕ → Left) → MeetsLeave f → OnlySaysSo f → ⊥
 no_leave_only_says_so f m r =
     let e = m case_a.table 1 in
-    let x = r case_a.table 1 8 (ap (λ (s : Left). says_leaving s.leaving) e ∙ case_a_left.0) in
+    let x = r case_a.table 1 8 (ap (λ (s : Left). s.leaving) e ∙ case_a_left.0) in
     true_false case_a_left.1 (ap (λ (s : Left). is_parting (at s.table.slots 1)) (sym e) ∙ ap (λ (t : Table). is_parting (at t.slots 1)) x)
 
 -- R100: who runs finishes his period
 pub no_leave_drops_at_once : (f : Table → ℕ → Left) → MeetsLeave f → DropsAtOnce f → ⊥
 no_leave_drops_at_once f m r =
     let e = m case_a.table 1 in
-    let x = r case_a.table 1 8 (ap (λ (s : Left). says_leaving s.leaving) e ∙ case_a_left.0) in
+    let x = r case_a.table 1 8 (ap (λ (s : Left). s.leaving) e ∙ case_a_left.0) in
     true_false case_a_left.1 (ap (λ (s : Left). is_parting (at s.table.slots 1)) (sym e) ∙ ap is_parting x)
 
 -- the cards of cases A and C read as their tables and requests
-reads_a : read_of (card_of case_a.table case_a.request) ≡ gives (carrying case_a.table case_a.request)
+reads_a : read_of (card_of case_a.table case_a.request) ≡ Ok (carrying case_a.table case_a.request)
 unfolding card_of marked record_of records_of read_with
 reads_a = refl
 
-reads_c : read_of (card_of case_c.table case_c.request) ≡ gives (carrying case_c.table case_c.request)
+reads_c : read_of (card_of case_c.table case_c.request) ≡ Ok (carrying case_c.table case_c.request)
 unfolding card_of marked record_of records_of read_with
 reads_c = refl
 

@@ -1,4 +1,6 @@
 -- What ask's contract rules out of refusal 10: wrong ticks and wrong excesses (R103), on one table with two short ends.
+use Rattle.std.specs.Prelude.{Err}
+use Rattle.table.specs.Words.{Said}
 use Prim.Native.Nat.{ℕ, ◌+◌, ◌≤◌}
 use mathlib.Core.Path.{◌≡◌, refl, ◌∙◌}
 use mathlib.Core.List.{[], ◌∷◌}
@@ -12,10 +14,9 @@ use Rattle.line.specs.Shares.{periods_in}
 use Rattle.line.specs.Ends.{ends_of, slack, bound, greatest, soonest_of, excess_at, short_at, first_short, start}
 use Rattle.table.specs.declared.Table.{Table}
 use Rattle.table.specs.declared.Request.{Request}
-use Rattle.table.specs.declared.Answer.{Answer}
-use Rattle.table.specs.Words.{refusal, short_refusal, refuses}
+use Rattle.table.specs.Words.{refusal, short_refusal}
 use Rattle.table.specs.Grounds.{asked}
-use Rattle.table.specs.Ask.{says, ask_in, ask_of}
+use Rattle.table.specs.Ask.{ask_in, ask_of}
 use Rattle.table.specs.Cases.{Case, line, case, cases, case_g}
 use Rattle.theory.proofs.Answers.{ask_answers}
 use Rattle.theory.proofs.Cases.{cases_answer}
@@ -24,14 +25,14 @@ use Rattle.promises.specs.Excluded.{MeetsAsk, first_listed, TenOf, FirstBySlot, 
 
 -- at clock 100 slot 1 ends at 103, two ticks short, and slot 0 at 107, four ticks short
 abbrev pub late : Case
-late = case 100 (line 6 20 20 13 6 ∷ line 5 20 20 17 5 ∷ line 15 40 40 0 0 ∷ []) 1 40 (refuses (short_refusal 103 2))
+late = case 100 (line 6 20 20 13 6 ∷ line 5 20 20 17 5 ∷ line 15 40 40 0 0 ∷ []) 1 40 (Err (short_refusal 103 2))
 
-late_asked : says (ask_of late.table late.request) ≡ late.answer
+late_asked : ask_of late.table late.request ≡ late.answer
 unfolding euclid gcd_of lcm_of frame_from total lowest due last_end map_at periods_in every ends_before ends_of slack bound greatest soonest_of first_short start ask_in ask_of
 late_asked = refl
 
-module _ (f : Table → Request → Answer) (m : MeetsAsk f) where
-  says_late : says (f late.table late.request) ≡ refuses (short_refusal 103 2)
+module _ (f : Table → Request → Said ℕ) (m : MeetsAsk f) where
+  says_late : f late.table late.request ≡ Err (short_refusal 103 2)
   says_late = right_in f m late (rw late_asked at (ask_answers late.table late.request))
 
   slot_order : first_listed (short_at 100 (asked late.table late.request)) (ends_of 100 (last_end 100 (asked late.table late.request)) (asked late.table late.request)) ≡ 107
@@ -70,7 +71,7 @@ module _ (f : Table → Request → Answer) (m : MeetsAsk f) where
       let h : 2 ≡ 1 + 2 = rw first_excess at (w late.table late.request _ says_late refl) in
       omega arith
 
-  says_nine : says (f case_g.table case_g.request) ≡ refuses (refusal 9 0)
+  says_nine : f case_g.table case_g.request ≡ Err (refusal 9 0)
   unfolding cases
   says_nine = right_in f m case_g cases_answer.1.1.1.1.1.1.0
 

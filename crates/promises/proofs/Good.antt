@@ -1,7 +1,8 @@
 -- What every act keeps: the table is fine for some common multiple, accounts for no more than its clock, and the clock is within its limit.
+use Rattle.std.specs.Prelude.{Ok, Err, Option, Some}
+use Rattle.table.specs.Words.{Said}
 use mathlib.Core.Path.{◌≡◌, refl, sym, ap, ◌∙◌, subst}
 use mathlib.Core.List.{List, [], ◌∷◌}
-use mathlib.Core.Option.{Option, some}
 use Prim.Native.Nat.{ℕ, ◌+◌, ◌-◌, ◌^◌, ◌≤◌, ◌<◌}
 use native.Mathlib.Omega.{arith}
 use borrow.Author.Tests.{le-leb}
@@ -9,8 +10,6 @@ use lib.ListN.{length}
 use Rattle.line.specs.declared.Held.TheVariants.{Nothing}
 use Rattle.table.specs.declared.Table.{Table}
 use Rattle.table.specs.declared.Request.{Request}
-use Rattle.table.specs.declared.Answer.{Answer}
-use Rattle.table.specs.declared.Answer.TheVariants.{Start, Refused}
 use Rattle.table.specs.declared.Stepped.{Stepped}
 use Rattle.table.specs.Words.{empty_table}
 use Rattle.line.specs.Slots.{holding, at, is_nothing, lowest_of}
@@ -49,7 +48,7 @@ good_empty = record { multiple = 1; fine = empty_fine 0 16; within = omega arith
 -- ---- an admission
 
 -- the slot that the new line gets is empty, also among the stretched lines
-pub slot_empty : (t : Table) (q : Request) (k : ℕ) → lowest_of is_nothing t.slots ≡ some k
+pub slot_empty : (t : Table) (q : Request) (k : ℕ) → lowest_of is_nothing t.slots ≡ Some k
     → (k < length t.slots) × (at t.slots k ≡ Nothing) × (k < length (asked t q)) × (at (asked t q) k ≡ Nothing)
 slot_empty t q k e =
     let w = lowest_is (λ i. is_nothing (at t.slots i)) (length t.slots) e in
@@ -57,8 +56,8 @@ slot_empty t q k e =
     (w.inside, n, rw (length_stretched t.slots (entry q)) w.inside, at_stretched t.slots (entry q) k ∙ ap (stretch (entry q k)) n)
 
 -- R43: with an empty slot at k the new line stands there, beside the lines at their T'
-pub admitted_slots : (t : Table) (q : Request) (r k : ℕ) → lowest_of is_nothing t.slots ≡ some k
-    → (admitted_at t q r).slots ≡ put_at (some k) (holding (new_line q.need q.period (r - t.clock))) (asked t q)
+pub admitted_slots : (t : Table) (q : Request) (r k : ℕ) → lowest_of is_nothing t.slots ≡ Some k
+    → (admitted_at t q r).slots ≡ put_at (Some k) (holding (new_line q.need q.period (r - t.clock))) (asked t q)
 admitted_slots t q r k e = ap (λ (o : Option ℕ). put_at o (holding (new_line q.need q.period (r - t.clock))) (asked t q)) e
 
 -- R42: a granted request makes a good table
@@ -88,9 +87,9 @@ pub good_after : (a : Act) (t : Table) → Good t → Good (after a t)
 good_after (asking q) t g = g
 good_after (admitting q) t g = go (ask_of t q) refl
   where
-    go : (a : Answer) → ask_of t q ≡ a → Good (admit_with t q a).table
-    go (Start r) e = good_admitted t q r (granted t q r e)
-    go (Refused x) e = g
+    go : (a : Said ℕ) → ask_of t q ≡ a → Good (admit_with t q a).table
+    go (Ok r) e = good_admitted t q r (granted t q r e)
+    go (Err x) e = g
 good_after stepping t g =
     split (2 ^ 48) t.clock (λ h. subst Good (sym (ap (λ (s : Stepped). s.table) (at_last t h))) g)
     (λ h. let e = fine_step t g.fine g.within h in

@@ -1,21 +1,17 @@
 -- Runs over the boundary, R78: each act on an image leaves the image of the table after it, and so does a run.
+use Rattle.std.specs.Prelude.{Ok, Err, Option}
 use mathlib.Core.Path.{◌≡◌, refl, sym, ap, ◌∙◌, subst}
 use mathlib.Core.List.{List, [], ◌∷◌, ◌++◌, append-nil}
-use mathlib.Core.Option.{Option}
 use Prim.Native.Nat.{ℕ, ◌^◌}
 use native.Mathlib.Omega.{arith}
 use lib.ListN.{length, replicate, drop_of_length-le}
 use Rattle.table.specs.declared.Table.{Table}
 use Rattle.table.specs.declared.Request.{Request}
-use Rattle.table.specs.declared.Answer.{Answer}
-use Rattle.table.specs.declared.Answer.TheVariants.{Start, Refused}
-use Rattle.table.specs.declared.Outcome.{Outcome}
-use Rattle.table.specs.declared.Leaving.{Leaving}
-use Rattle.table.specs.Words.{empty_table, refusal, Said, gives, refuses}
-use Rattle.table.specs.Ask.{says, ask_of}
+use Rattle.table.specs.Words.{empty_table, refusal, Said}
+use Rattle.table.specs.Ask.{ask_of}
 use Rattle.table.specs.Admit.{admit_with}
-use Rattle.table.specs.Step.{says_ran, step_of}
-use Rattle.table.specs.Leave.{says_leaving, leave_of}
+use Rattle.table.specs.Step.{step_of}
+use Rattle.table.specs.Leave.{leave_of}
 use Rattle.table.specs.Runs.{Act, asking, admitting, stepping, leaving, after, run}
 use Rattle.table.proofs.Step.{refused_keeps}
 use Rattle.table.proofs.LettingGo.{leave_keeps}
@@ -53,23 +49,23 @@ module _ (t : Table) (w : TableWidths 16 t) where
   admit_image : (q : Request) → admitted_in t q (image_of t) ≡ image_of (after (admitting q) t)
   admit_image q = go (ask_of t q)
     where
-      go : (a : Answer) → changed (says a) (stored_in (admit_with t q a).table (image_of t)) (image_of t) ≡ image_of (admit_with t q a).table
-      go (Start r) = over (admit_with t q (Start r)).table
-      go (Refused x) = refl
+      go : (a : Said ℕ) → changed (a) (stored_in (admit_with t q a).table (image_of t)) (image_of t) ≡ image_of (admit_with t q a).table
+      go (Ok r) = over (admit_with t q (Ok r)).table
+      go (Err x) = refl
 
   step_image : stepped_in t (image_of t) ≡ image_of (step_of t).table
   step_image = go (step_of t).outcome refl
     where
-      go : (o : Outcome) → (step_of t).outcome ≡ o → changed (says_ran o) (stored_in (step_of t).table (image_of t)) (image_of t) ≡ image_of (step_of t).table
-      go (Outcome.Ran k) e = over (step_of t).table
-      go (Outcome.Refused x) e = ap image_of (sym (refused_keeps t x e))
+      go : (o : Said (Option ℕ)) → (step_of t).outcome ≡ o → changed (o) (stored_in (step_of t).table (image_of t)) (image_of t) ≡ image_of (step_of t).table
+      go (Ok k) e = over (step_of t).table
+      go (Err x) e = ap image_of (sym (refused_keeps t x e))
 
   leave_image : (n : ℕ) → left_in t n (image_of t) ≡ image_of (leave_of t n).table
   leave_image n = go (leave_of t n).leaving refl
     where
-      go : (a : Leaving) → (leave_of t n).leaving ≡ a → changed (says_leaving a) (stored_in (leave_of t n).table (image_of t)) (image_of t) ≡ image_of (leave_of t n).table
-      go (Leaving.In k) e = over (leave_of t n).table
-      go (Leaving.Refused x) e = ap image_of (sym (leave_keeps t x n e))
+      go : (a : Said ℕ) → (leave_of t n).leaving ≡ a → changed (a) (stored_in (leave_of t n).table (image_of t)) (image_of t) ≡ image_of (leave_of t n).table
+      go (Ok k) e = over (leave_of t n).table
+      go (Err x) e = ap image_of (sym (leave_keeps t x n e))
 
   image_after_lem : (a : Act) → image_by a (image_of t) ≡ image_of (after a t)
   image_after_lem (asking q) = refl
@@ -114,13 +110,13 @@ image_loads acts n = let e = image_run_from acts empty_table n wide_empty in ap 
 unfailing_step : (t : Table) → Unfailing t → UnfailingStep t.clock (stepped_as t)
 unfailing_step t u = record {
   goes_on = λ h. let g = u.goes_on h in (g.0, ap ran_as g.1);
-  only_fifteen = go (says_ran (step_of t).outcome) refl;
+  only_fifteen = go ((step_of t).outcome) refl;
   at_the_last = λ h. ap ran_as (u.at_the_last h);
 }
   where
-    go : (s : Said (Option ℕ)) → says_ran (step_of t).outcome ≡ s → ((ran_as s).number ≡ 0 → ⊥) → (ran_as s ≡ refused_as (refusal 15 0)) × (t.clock ≡ 2 ^ 48)
-    go (gives o) e h = absurd (h refl)
-    go (refuses x) e h = let v = u.only_fifteen x e in (ap refused_as v.0, v.1)
+    go : (s : Said (Option ℕ)) → (step_of t).outcome ≡ s → ((ran_as s).number ≡ 0 → ⊥) → (ran_as s ≡ refused_as (refusal 15 0)) × (t.clock ≡ 2 ^ 48)
+    go (Ok o) e h = absurd (h refl)
+    go (Err x) e h = let v = u.only_fifteen x e in (ap refused_as v.0, v.1)
 
 -- R74, R78: no step of a run over the boundary misses a period
 pub never_missed_on_images : NeverMissedOnImages

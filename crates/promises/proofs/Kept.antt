@@ -1,7 +1,8 @@
 -- What an act leaves of one slot: an admission leaves a line that it does not stretch, a step serves it or lets it wait, a leave keeps its numbers.
+use Rattle.std.specs.Prelude.{Ok, Err, Option, None, Some}
+use Rattle.table.specs.Words.{Said}
 use mathlib.Core.Path.{◌≡◌, refl, sym, ap, ◌∙◌, subst}
 use mathlib.Core.Bool.{Bool, true, false}
-use mathlib.Core.Option.{Option, none, some}
 use mathlib.Core.List.{List}
 use Prim.Native.Nat.{ℕ, suc, ◌+◌, ◌-◌, ◌^◌, ◌≤◌, ◌<◌}
 use native.Mathlib.Decide.{ℕ_discrete}
@@ -15,8 +16,6 @@ use Rattle.line.specs.declared.Held.TheVariants.{Nothing, Running}
 use Rattle.line.specs.declared.Slot.{Slot}
 use Rattle.table.specs.declared.Table.{Table}
 use Rattle.table.specs.declared.Request.{Request}
-use Rattle.table.specs.declared.Answer.{Answer}
-use Rattle.table.specs.declared.Answer.TheVariants.{Start, Refused}
 use Rattle.table.specs.declared.Stepped.{Stepped}
 use Rattle.line.specs.Slots.{pick, with_follows, holding, empty, RunsAs, slot_at, at, is_nothing, lowest_of}
 use Rattle.table.specs.Grounds.{entry, asked}
@@ -26,11 +25,11 @@ use Rattle.line.proofs.Sound.{not_barred}
 use Rattle.table.specs.Counts.{settle}
 use Rattle.table.proofs.LettingGo.{may_inside, left_is}
 use Rattle.table.proofs.Step.{slot_of_which}
-use Rattle.table.specs.Ask.{says, ask_of}
+use Rattle.table.specs.Ask.{ask_of}
 use Rattle.table.specs.Admit.{new_line, put_at, admitted_at, admit_with}
 use Rattle.line.specs.Tick.{served}
-use Rattle.table.specs.Words.{refusal, gives, refuses}
-use Rattle.table.specs.Step.{says_ran, choose, serve, ticked, step_of}
+use Rattle.table.specs.Words.{refusal}
+use Rattle.table.specs.Step.{choose, serve, ticked, step_of}
 use Rattle.table.specs.Runs.{Act, asking, admitting, stepping, leaving, after}
 use Rattle.theory.specs.Fine.{May}
 use Rattle.theory.specs.Given.{Granted}
@@ -49,13 +48,13 @@ use Rattle.promises.proofs.Good.{Good, at_last, slot_empty, admitted_slots}
 pub admit_clock : (t : Table) (q : Request) → (after (admitting q) t).clock ≡ t.clock
 admit_clock t q = go (ask_of t q)
   where
-    go : (a : Answer) → (admit_with t q a).table.clock ≡ t.clock
-    go (Start r) = refl
-    go (Refused x) = refl
+    go : (a : Said ℕ) → (admit_with t q a).table.clock ≡ t.clock
+    go (Ok r) = refl
+    go (Err x) = refl
 
 length_put : {A : Type 0} (o : Option ℕ) (x : A) (l : List A) → length (put_at o x l) ≡ length l
-length_put none x l = refl
-length_put (some k) x l = length-set l k x
+length_put None x l = refl
+length_put (Some k) x l = length-set l k x
 
 -- an admission at any start leaves the number of slots as it was
 pub length_admitted : (t : Table) (q : Request) (r : ℕ) → length (admitted_at t q r).slots ≡ length t.slots
@@ -65,28 +64,28 @@ length_admitted t q r = length_put (lowest_of is_nothing t.slots) (holding (new_
 pub admit_length : (t : Table) (q : Request) → length (after (admitting q) t).slots ≡ length t.slots
 admit_length t q = go (ask_of t q)
   where
-    go : (a : Answer) → length (admit_with t q a).table.slots ≡ length t.slots
-    go (Start r) = length_admitted t q r
-    go (Refused x) = refl
+    go : (a : Said ℕ) → length (admit_with t q a).table.slots ≡ length t.slots
+    go (Ok r) = length_admitted t q r
+    go (Err x) = refl
 
 -- an admission leaves as many counts
 pub admit_counts : (t : Table) (q : Request) → length (after (admitting q) t).had ≡ length t.had
 admit_counts t q = go (ask_of t q)
   where
-    go : (a : Answer) → length (admit_with t q a).table.had ≡ length t.had
-    go (Start r) = length_put (lowest_of is_nothing t.slots) 0 t.had
-    go (Refused x) = refl
+    go : (a : Said ℕ) → length (admit_with t q a).table.had ≡ length t.had
+    go (Ok r) = length_put (lowest_of is_nothing t.slots) 0 t.had
+    go (Err x) = refl
 
 -- R105: who ran last still did
 pub admit_last : (t : Table) (q : Request) → (after (admitting q) t).last ≡ t.last
 admit_last t q = go (ask_of t q)
   where
-    go : (a : Answer) → (admit_with t q a).table.last ≡ t.last
-    go (Start r) = refl
-    go (Refused x) = refl
+    go : (a : Said ℕ) → (admit_with t q a).table.last ≡ t.last
+    go (Ok r) = refl
+    go (Err x) = refl
 
 -- the new line stands in the slot it was given
-pub admitted_new : (t : Table) (q : Request) (r k : ℕ) → lowest_of is_nothing t.slots ≡ some k
+pub admitted_new : (t : Table) (q : Request) (r k : ℕ) → lowest_of is_nothing t.slots ≡ Some k
     → at (admitted_at t q r).slots k ≡ new_line q.need q.period (r - t.clock)
 admitted_new t q r k e =
     ap (λ (l : List Slot). at l k) (admitted_slots t q r k e)
@@ -115,17 +114,17 @@ pub admit_running : (t : Table) (q : Request) (j C P a x : ℕ) → RunsAs C P a
     → (T : ℕ) × RunsAs C T a x (at (after (admitting q) t).slots j) × (P ≤ T) × ((Stretches j (admitting q) t → ⊥) → T ≡ P)
 admit_running t q j C P a x e b = go (ask_of t q) refl
   where
-    go : (d : Answer) → ask_of t q ≡ d
+    go : (d : Said ℕ) → ask_of t q ≡ d
         → (T : ℕ) × RunsAs C T a x (at (admit_with t q d).table.slots j) × (P ≤ T) × ((Stretches j (admitting q) t → ⊥) → T ≡ P)
-    go (Start r) h =
+    go (Ok r) h =
         let g = granted t q r h in
         let up : P ≤ entry q j = omega (arith, not_barred (entry q j) e.0 (λ v. g.cleared.unbarred j b (rw e.1 v)), e.3) in (
           entry q j,
           admitted_old t q r j C P a x g e,
           up,
-          λ n. split (entry q j) P (λ y. omega arith) (λ y. absurd (n ((r, ap says h), rw e.1 (omega (arith, y, e.3))))),
+          λ n. split (entry q j) P (λ y. omega arith) (λ y. absurd (n ((r, h), rw e.1 (omega (arith, y, e.3))))),
         )
-    go (Refused y) h = (P, e, omega arith, λ n. refl)
+    go (Err y) h = (P, e, omega arith, λ n. refl)
 
 -- not stretched: as it was
 pub admit_kept : (t : Table) (q : Request) (j C P a x : ℕ) → RunsAs C P a x (at t.slots j) → j < length t.slots
@@ -136,9 +135,9 @@ admit_kept t q j C P a x e b n = let w = admit_running t q j C P a x e b in subs
 pub admit_waiting : (t : Table) (q : Request) (j C P w : ℕ) → at t.slots j ≡ new_line C P (suc w) → j < length t.slots → after (admitting q) t ≡ t
 admit_waiting t q j C P w e b = go (ask_of t q) refl
   where
-    go : (b : Answer) → ask_of t q ≡ b → (admit_with t q b).table ≡ t
-    go (Start r) h = absurd ((granted t q r h).cleared.none_waits j b (rw (e, lt-ltb 0 (suc w) (omega arith)) refl))
-    go (Refused y) h = refl
+    go : (b : Said ℕ) → ask_of t q ≡ b → (admit_with t q b).table ≡ t
+    go (Ok r) h = absurd ((granted t q r h).cleared.none_waits j b (rw (e, lt-ltb 0 (suc w) (omega arith)) refl))
+    go (Err y) h = refl
 
 -- ---- a leave
 
@@ -190,12 +189,12 @@ pub step_table : (t : Table) → Good t → t.clock < 2 ^ 48 → step_of t ≡ t
 step_table t g h = fine_step t g.fine g.within h
 
 -- and says whom it chose
-pub says_choice : (t : Table) → Good t → t.clock < 2 ^ 48 → says_ran (step_of t).outcome ≡ gives (choose t)
-says_choice t g h = ap (λ (s : Stepped). says_ran s.outcome) (step_table t g h) ∙ ap gives (slot_of_which (choose t))
+pub says_choice : (t : Table) → Good t → t.clock < 2 ^ 48 → (step_of t).outcome ≡ Ok (choose t)
+says_choice t g h = ap (λ (s : Stepped). s.outcome) (step_table t g h) ∙ ap Ok (slot_of_which (choose t))
 
 -- at the last tick it says 15
-pub says_last : (t : Table) → 2 ^ 48 ≤ t.clock → says_ran (step_of t).outcome ≡ refuses (refusal 15 0)
-says_last t h = ap (λ (s : Stepped). says_ran s.outcome) (at_last t h)
+pub says_last : (t : Table) → 2 ^ 48 ≤ t.clock → (step_of t).outcome ≡ Err (refusal 15 0)
+says_last t h = ap (λ (s : Stepped). s.outcome) (at_last t h)
 
 -- the choice serves nobody who is not owed
 pub choice_may : (t : Table) → May (choose t) t.slots
@@ -203,8 +202,8 @@ choice_may t = earliest_may (choose t) t.slots (choose_earliest t)
 
 -- what serving does not change of a line stays in every slot
 pub serve_keeps : {A : Type 0} (f : Held → A) → ((h : Held) → f (served h) ≡ f h) → (o : Option ℕ) (l : List Slot) (k : ℕ) → May o l → f (at (serve o l) k) ≡ f (at l k)
-serve_keeps f e none l k m = refl
-serve_keeps f e (some j) l k m =
+serve_keeps f e None l k m = refl
+serve_keeps f e (Some j) l k m =
     elim (ℕ_discrete j k) [
       | yes z ↦ rw (← z) (ap f (at_served l j m.0) ∙ e (at l j))
       | no n ↦ ap f (at_others l j k n)

@@ -1,9 +1,10 @@
 -- Who ran goes on: its slot is kept up to the next tick, and among the least ends it is taken. And ask does not look at who ran last.
+use Rattle.std.specs.Prelude.{Ok, Err, Option, Some}
+use Rattle.table.specs.Words.{Said}
 use Prim.Native.Nat.{ℕ, ◌+◌, ◌-◌, ◌^◌, ◌<◌}
 use mathlib.Core.Path.{◌≡◌, refl, sym, ap, ◌∙◌, subst}
 use mathlib.Core.Bool.{Bool, true, false}
 use mathlib.Core.List.{List, [], ◌∷◌}
-use mathlib.Core.Option.{Option, some}
 use native.Mathlib.Omega.{arith}
 use native.Mathlib.Decide.{ℕ_discrete}
 use lib.Dec.{ltb}
@@ -19,17 +20,15 @@ use Rattle.line.specs.Leave.{let_go}
 use Rattle.line.proofs.Search.{true_false}
 use Rattle.table.specs.declared.Table.{Table}
 use Rattle.table.specs.declared.Request.{Request}
-use Rattle.table.specs.declared.Answer.{Answer}
-use Rattle.table.specs.declared.Answer.TheVariants.{Start, Refused}
 use Rattle.table.specs.declared.Admitted.{Admitted}
 use Rattle.table.specs.declared.Stepped.{Stepped}
-use Rattle.table.specs.Words.{empty_table, with_last, gives}
+use Rattle.table.specs.Words.{empty_table, with_last}
 use Rattle.table.specs.Grounds.{Answers}
 use Rattle.table.specs.Counts.{counting, settle}
-use Rattle.table.specs.Ask.{says, ask_of}
+use Rattle.table.specs.Ask.{ask_of}
 use Rattle.table.specs.Admit.{admit_with}
 use Rattle.table.specs.Leave.{let_go_at}
-use Rattle.table.specs.Step.{says_ran, choose, serve, departs_in, ticked, step_of}
+use Rattle.table.specs.Step.{choose, serve, departs_in, ticked, step_of}
 use Rattle.table.specs.Runs.{Act, asking, admitting, stepping, leaving, after, run, trace}
 use Rattle.table.proofs.Choice.{last_goes_on}
 use Rattle.table.proofs.Counts.{settle_other, settling_last}
@@ -78,18 +77,18 @@ record RanLast (k : ℕ) (t : Table) : Type 0 where
   last : t.last ≡ k
 
 -- R105: the slot that got the tick, its line still there
-module _ (t : Table) (k : ℕ) (m : May (some k) t.slots) (f : is_nothing (at (ticked (some k) t).table.slots k) ≡ false) where
+module _ (t : Table) (k : ℕ) (m : May (Some k) t.slots) (f : is_nothing (at (ticked (Some k) t).table.slots k) ≡ false) where
   abbrev got : Runs (at t.slots k)
   got = owed_runs (at t.slots k) m.1
 
-  now : at (ticked (some k) t).table.slots k ≡ passed (served (Running got.0))
-  now = at_pass (serve (some k) t.slots) k ∙ ap passed (at_served t.slots k m.0 ∙ ap served got.1)
+  now : at (ticked (Some k) t).table.slots k ≡ passed (served (Running got.0))
+  now = at_pass (serve (Some k) t.slots) k ∙ ap passed (at_served t.slots k m.0 ∙ ap served got.1)
 
-  ticked_last : RanLast k (ticked (some k) t).table
+  ticked_last : RanLast k (ticked (Some k) t).table
   ticked_last = record {
-    inside = rw (length_tick (some k) t.slots) m.0;
+    inside = rw (length_tick (Some k) t.slots) m.0;
     runs = subst Runs (sym now) (passed_runs (with_remaining got.0 (got.0.remaining - 1)) (sym (ap is_nothing now) ∙ f));
-    last = settling_last (departs_in (some k) t.slots) (length t.slots) (counting (some k) t) (stayed (some k) t.slots k f);
+    last = settling_last (departs_in (Some k) t.slots) (length t.slots) (counting (Some k) t) (stayed (Some k) t.slots k f);
   }
 
 -- R42, R105: an admission keeps it
@@ -128,13 +127,13 @@ kept_last (leaving n ∷ rest) t k g v = kept_last rest (after (leaving n) t) k 
 -- ---- who ran goes on
 
 -- a step that says slot k chose it, and made the table a tick later
-chose : (t : Table) (k : ℕ) → Good t → says_ran (step_of t).outcome ≡ gives (some k) → (choose t ≡ some k) × (step_of t ≡ ticked (some k) t)
+chose : (t : Table) (k : ℕ) → Good t → (step_of t).outcome ≡ Ok (Some k) → (choose t ≡ Some k) × (step_of t ≡ ticked (Some k) t)
 chose t k g e =
     split (2 ^ 48) t.clock
     (λ h. let p = says_last t h in
     let z : ◌≡◌ {A = ℕ} 0 1 = cc in absurd (omega arith))
     (λ h. let p = says_choice t g h in
-    let z : choose t ≡ some k = cc in
+    let z : choose t ≡ Some k = cc in
     (z, step_table t g h ∙ ap (λ (o : Option ℕ). ticked o t) z))
 
 -- R106: who ran goes on
@@ -143,12 +142,12 @@ who_ran_goes_on acts k v more quiet first early =
     let t = run acts empty_table in
     let g = good_reached acts in
     let c = chose t k g v.ran in
-    let e : (step_of t).table ≡ (ticked (some k) t).table = ap (λ (s : Stepped). s.table) c.1 in
+    let e : (step_of t).table ≡ (ticked (Some k) t).table = ap (λ (s : Stepped). s.table) c.1 in
     let l = subst (RanLast k) (sym e) (ticked_last t k (subst (λ (o : Option ℕ). May o t.slots) c.0 (choice_may t)) (subst (λ (u : Table). is_nothing (at u.slots k) ≡ false) e v.there)) in
     let h = good_after stepping t g in
     let u = run more (ran_table acts) in
     says_choice u (good_run more (ran_table acts) h) early
-    ∙ ap gives (last_goes_on u (rw (kept_last more (ran_table acts) k h l quiet).last first) ∙ ap some (kept_last more (ran_table acts) k h l quiet).last)
+    ∙ ap Ok (last_goes_on u (rw (kept_last more (ran_table acts) k h l quiet).last first) ∙ ap Some (kept_last more (ran_table acts) k h l quiet).last)
 
 -- ---- ask does not look at it
 
@@ -156,7 +155,7 @@ who_ran_goes_on acts k v more quiet first early =
 pub last_not_asked : LastNotAsked
 unfolding ask_of
 last_not_asked t k q = record {
-  answers = λ a v. subst (Answers (with_last t k) q) (answers_unique t q (says (ask_of t q)) a (ask_answers t q) v) (ask_answers (with_last t k) q);
+  answers = λ a v. subst (Answers (with_last t k) q) (answers_unique t q ((ask_of t q)) a (ask_answers t q) v) (ask_answers (with_last t k) q);
   ask = λ a b x y. x.computed ∙ sym y.computed;
   admit = λ m n x y. (
     ap (λ (r : Admitted). r.answer) x.computed ∙ (both (ask_of t q)).0 ∙ sym (ap (λ (r : Admitted). r.answer) y.computed),
@@ -164,6 +163,6 @@ last_not_asked t k q = record {
   );
 }
   where
-    both : (a : Answer) → ((admit_with t q a).answer ≡ (admit_with (with_last t k) q a).answer) × (with_last (admit_with t q a).table k ≡ (admit_with (with_last t k) q a).table)
-    both (Start r) = (refl, refl)
-    both (Refused x) = (refl, refl)
+    both : (a : Said ℕ) → ((admit_with t q a).answer ≡ (admit_with (with_last t k) q a).answer) × (with_last (admit_with t q a).table k ≡ (admit_with (with_last t k) q a).table)
+    both (Ok r) = (refl, refl)
+    both (Err x) = (refl, refl)

@@ -1,4 +1,5 @@
 -- Refusal 10 names the first short end, and a pump that goes on from the table misses a period by then: with its own periods more is wanted, not less.
+use Rattle.std.specs.Prelude.{Err}
 use mathlib.Core.Path.{◌≡◌, sym, ap, subst, ◌∙◌}
 use Prim.Native.Nat.{ℕ, ◌+◌, ◌-◌, ◌≤◌, ◌<◌}
 use native.Mathlib.Omega.{arith}
@@ -10,7 +11,6 @@ use Rattle.line.proofs.Stretched.{length_stretched}
 use Rattle.table.specs.declared.Table.{Table}
 use Rattle.table.specs.declared.Request.{Request}
 use Rattle.table.specs.declared.Refusal.{Refusal}
-use Rattle.table.specs.declared.Answer.TheVariants.{Refused}
 use Rattle.table.specs.Words.{short_refusal}
 use Rattle.table.specs.Grounds.{entry, asked, Short}
 use Rattle.theory.specs.Given.{Cleared}
@@ -45,7 +45,7 @@ module _ (t : Table) (q : Request) (d : ℕ) (six : Sixteen q) (c : Cleared t q)
 -- R103, R104: refusal 10 names the first short tick and its excess, and what the tick tells
 pub ten_tells : TenTells
 ten_tells t q x six a ten =
-    let w = told_ten t q x (sym (answers_is t q (Refused x) a)) ten in
+    let w = told_ten t q x (sym (answers_is t q (Err x) a)) ten in
     let d = w.1.0 in
     let e : x ≡ short_refusal d (ticks_short (excess_at t.clock (asked t q) d)) = w.1.2 in
     let short = first_is t q d w.1.1 in

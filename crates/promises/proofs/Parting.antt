@@ -1,4 +1,6 @@
 -- What a line that leaves gets, R80: it stays up to its end, has what was left of its need by then, and is gone with that tick.
+use Rattle.std.specs.Prelude.{Ok, Err}
+use Rattle.table.specs.Words.{Said}
 use mathlib.Core.Path.{◌≡◌, refl, sym, ap, ◌∙◌, subst}
 use mathlib.Core.Bool.{true}
 use mathlib.Core.List.{List, [], ◌∷◌}
@@ -20,8 +22,6 @@ use Rattle.line.specs.Leave.{is_parting, let_go, let_go_slot, ticks_left}
 use Rattle.line.proofs.Search.{true_false}
 use Rattle.table.specs.declared.Table.{Table}
 use Rattle.table.specs.declared.Request.{Request}
-use Rattle.table.specs.declared.Answer.{Answer}
-use Rattle.table.specs.declared.Answer.TheVariants.{Start, Refused}
 use Rattle.table.specs.declared.Stepped.{Stepped}
 use Rattle.table.specs.Words.{empty_table}
 use Rattle.table.specs.Grounds.{entry}
@@ -102,9 +102,9 @@ parting_admitted : (t : Table) (q : Request) (k C P a : ℕ) → k < length t.sl
 parting_admitted t q k C P a b v =
     (v.0, admit_kept t q k C P a v.0 v.1 b (parting_unstretched (admitting q) t k b v.2), go (ask_of t q) refl)
   where
-    go : (d : Answer) → ask_of t q ≡ d → is_parting (at (admit_with t q d).table.slots k) ≡ true
-    go (Start r) e = rw (admitted_stands t q r k C P a v.0 (granted t q r e) v.1) (parting_stretched (entry q k) (at t.slots k) ∙ v.2)
-    go (Refused x) e = v.2
+    go : (d : Said ℕ) → ask_of t q ≡ d → is_parting (at (admit_with t q d).table.slots k) ≡ true
+    go (Ok r) e = rw (admitted_stands t q r k C P a v.0 (granted t q r e) v.1) (parting_stretched (entry q k) (at t.slots k) ∙ v.2)
+    go (Err x) e = v.2
 
 parting_ticked : (t : Table) (k C P a : ℕ) → Good t → k < length t.slots → a + 1 < P → Parting C P a (at t.slots k) → Parting C P (a + 1) (at (next t).slots k)
 parting_ticked t k C P a g b h v =

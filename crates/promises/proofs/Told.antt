@@ -1,16 +1,16 @@
 -- Grants and refusals are told apart (R63): no refusal has the number 0. And none but 10 says a tick and an excess (R103).
+use Rattle.std.specs.Prelude.{Ok, Err, Option}
 use mathlib.Core.Path.{◌≡◌, refl, sym, ap, subst, ◌∙◌}
-use mathlib.Core.Option.{Option}
 use Prim.Native.Nat.{ℕ}
 use mathlib.Core.List.{List}
 use lib.ListN.{length}
 use Rattle.line.specs.Slots.{is_nothing, lowest_of}
 use Rattle.table.specs.declared.Table.{Table}
 use Rattle.table.specs.declared.Request.{Request}
-use Rattle.table.specs.Words.{Said, gives, refuses, slot_number}
-use Rattle.table.specs.Ask.{says, ask_of}
-use Rattle.table.specs.Step.{says_ran, step_of}
-use Rattle.table.specs.Leave.{says_leaving, leave_of}
+use Rattle.table.specs.Words.{Said, slot_number}
+use Rattle.table.specs.Ask.{ask_of}
+use Rattle.table.specs.Step.{step_of}
+use Rattle.table.specs.Leave.{leave_of}
 use Rattle.theory.proofs.Answers.{ask_answers}
 use Rattle.theory.proofs.Unique.{answers_unique}
 use Rattle.card.specs.Reading.{read_of}
@@ -27,33 +27,33 @@ use Rattle.promises.proofs.Numbered.{Numbered, zero_grants, result_tens, ask_num
 number_is : {r s : Result} → r ≡ s → r.number ≡ 0 → s.number ≡ 0
 number_is e z = ap (λ (x : Result). x.number) (sym e) ∙ z
 
-ask_told : (s : Said Table) (q : Request) → Numbered s → (ask_for s q).number ≡ 0 → (t : Table) × (s ≡ gives t) × ((k : ℕ) × (says (ask_of t q) ≡ gives k))
-ask_told (refuses x) q h e = absurd (h.0 e)
-ask_told (gives t) q h e = (t, refl, go (says (ask_of t q)) (ask_numbered t q) e)
+ask_told : (s : Said Table) (q : Request) → Numbered s → (ask_for s q).number ≡ 0 → (t : Table) × (s ≡ Ok t) × ((k : ℕ) × (ask_of t q ≡ Ok k))
+ask_told (Err x) q h e = absurd (h.0 e)
+ask_told (Ok t) q h e = (t, refl, go ((ask_of t q)) (ask_numbered t q) e)
   where
-    go : (w : Said ℕ) → Numbered w → (asked_as t w).number ≡ 0 → (k : ℕ) × (w ≡ gives k)
-    go (gives k) n z = (k, refl)
-    go (refuses x) n z = absurd (n.0 z)
+    go : (w : Said ℕ) → Numbered w → (asked_as t w).number ≡ 0 → (k : ℕ) × (w ≡ Ok k)
+    go (Ok k) n z = (k, refl)
+    go (Err x) n z = absurd (n.0 z)
 
-step_told : (s : Said Table) → Numbered s → (step_for s).number ≡ 0 → (t : Table) × (s ≡ gives t) × ((o : Option ℕ) × (says_ran (step_of t).outcome ≡ gives o))
-step_told (refuses x) h e = absurd (h.0 e)
-step_told (gives t) h e = (t, refl, go (says_ran (step_of t).outcome) (step_numbered t) e)
+step_told : (s : Said Table) → Numbered s → (step_for s).number ≡ 0 → (t : Table) × (s ≡ Ok t) × ((o : Option ℕ) × ((step_of t).outcome ≡ Ok o))
+step_told (Err x) h e = absurd (h.0 e)
+step_told (Ok t) h e = (t, refl, go ((step_of t).outcome) (step_numbered t) e)
   where
-    go : (w : Said (Option ℕ)) → Numbered w → (ran_as w).number ≡ 0 → (o : Option ℕ) × (w ≡ gives o)
-    go (gives o) n z = (o, refl)
-    go (refuses x) n z = absurd (n.0 z)
+    go : (w : Said (Option ℕ)) → Numbered w → (ran_as w).number ≡ 0 → (o : Option ℕ) × (w ≡ Ok o)
+    go (Ok o) n z = (o, refl)
+    go (Err x) n z = absurd (n.0 z)
 
-leave_told : (s : Said Table) (n : ℕ) → Numbered s → (leave_for s n).number ≡ 0 → (t : Table) × (s ≡ gives t) × ((k : ℕ) × (says_leaving (leave_of t n).leaving ≡ gives k))
-leave_told (refuses x) n h e = absurd (h.0 e)
-leave_told (gives t) n h e = (t, refl, zero_grants 0 (says_leaving (leave_of t n).leaving) (leave_numbered t n) e)
+leave_told : (s : Said Table) (n : ℕ) → Numbered s → (leave_for s n).number ≡ 0 → (t : Table) × (s ≡ Ok t) × ((k : ℕ) × ((leave_of t n).leaving ≡ Ok k))
+leave_told (Err x) n h e = absurd (h.0 e)
+leave_told (Ok t) n h e = (t, refl, zero_grants 0 ((leave_of t n).leaving) (leave_numbered t n) e)
 
-ready_told : (s : Said Table) (r : Result) → Numbered s → ReadyFor s r → r.number ≡ 0 → (t : Table) × (s ≡ gives t)
-ready_told (gives t) r h k e = (t, refl)
-ready_told (refuses x) r h k e = absurd (h.0 (number_is k e))
+ready_told : (s : Said Table) (r : Result) → Numbered s → ReadyFor s r → r.number ≡ 0 → (t : Table) × (s ≡ Ok t)
+ready_told (Ok t) r h k e = (t, refl)
+ready_told (Err x) r h k e = absurd (h.0 (number_is k e))
 
-counts_told : (s : Said Table) (ns : List ℕ) → Numbered s → (counts_for s).number ≡ 0 → (t : Table) × (s ≡ gives t) × (counts_after s ns ≡ all_counts t)
-counts_told (gives t) ns h e = (t, refl, refl)
-counts_told (refuses x) ns h e = absurd (h.0 e)
+counts_told : (s : Said Table) (ns : List ℕ) → Numbered s → (counts_for s).number ≡ 0 → (t : Table) × (s ≡ Ok t) × (counts_after s ns ≡ all_counts t)
+counts_told (Ok t) ns h e = (t, refl, refl)
+counts_told (Err x) ns h e = absurd (h.0 e)
 
 -- R63: a result with the number 0 is a grant, whichever operation gave it
 pub told_apart : ToldApart
@@ -78,36 +78,36 @@ tens_is : {r s : Result} → r ≡ s → TensOf s → TensOf r
 tens_is e h = subst TensOf (sym e) h
 
 ask_tens : (s : Said Table) (q : Request) → Numbered s → TensOf (ask_for s q)
-ask_tens (gives t) q h = result_tens (slot_number (lowest_of is_nothing t.slots)) (says (ask_of t q)) (ask_numbered t q)
-ask_tens (refuses x) q h = h.1
+ask_tens (Ok t) q h = result_tens (slot_number (lowest_of is_nothing t.slots)) ((ask_of t q)) (ask_numbered t q)
+ask_tens (Err x) q h = h.1
 
 step_tens : (s : Said Table) → Numbered s → TensOf (step_for s)
-step_tens (gives t) h = go (says_ran (step_of t).outcome) (step_numbered t)
+step_tens (Ok t) h = go ((step_of t).outcome) (step_numbered t)
   where
     go : (w : Said (Option ℕ)) → Numbered w → TensOf (ran_as w)
-    go (gives o) n = result_tens 0 (gives (slot_number o)) tt
-    go (refuses x) n = n.1
-step_tens (refuses x) h = h.1
+    go (Ok o) n = result_tens 0 (Ok (slot_number o)) tt
+    go (Err x) n = n.1
+step_tens (Err x) h = h.1
 
 leave_tens : (s : Said Table) (n : ℕ) → Numbered s → TensOf (leave_for s n)
-leave_tens (gives t) n h = result_tens 0 (says_leaving (leave_of t n).leaving) (leave_numbered t n)
-leave_tens (refuses x) n h = h.1
+leave_tens (Ok t) n h = result_tens 0 ((leave_of t n).leaving) (leave_numbered t n)
+leave_tens (Err x) n h = h.1
 
 ready_tens : (s : Said Table) (r : Result) → Numbered s → ReadyFor s r → TensOf r
-ready_tens (gives t) r h k = tens_is k.0 (result_tens 0 (gives r.value) tt)
-ready_tens (refuses x) r h k = tens_is k h.1
+ready_tens (Ok t) r h k = tens_is k.0 (result_tens 0 (Ok r.value) tt)
+ready_tens (Err x) r h k = tens_is k h.1
 
 counts_tens : (s : Said Table) → Numbered s → TensOf (counts_for s)
-counts_tens (gives t) h = result_tens 0 (gives t.clock) tt
-counts_tens (refuses x) h = h.1
+counts_tens (Ok t) h = result_tens 0 (Ok t.clock) tt
+counts_tens (Err x) h = h.1
 
-said_tens : (t : Table) (q : Request) (s : Said ℕ) → s ≡ says (ask_of t q) → Numbered s
+said_tens : (t : Table) (q : Request) (s : Said ℕ) → s ≡ (ask_of t q) → Numbered s
 said_tens t q s e = subst Numbered (sym e) (ask_numbered t q)
 
 -- R103: refusal 10 alone says a tick and an excess, whichever operation gave the result
 pub ten_alone : TenAlone
 ten_alone = record {
-  ask = λ t q x h. (said_tens t q (refuses x) (answers_unique t q (refuses x) (says (ask_of t q)) h (ask_answers t q))).1;
+  ask = λ t q x h. (said_tens t q (Err x) (answers_unique t q (Err x) ((ask_of t q)) h (ask_answers t q))).1;
   answer_card = λ card l r m h. tens_is h.0 (result_tens 0 (put_of (line_for card) l) (put_numbered (line_for card) l));
   rewrite_card = λ card l r m h. tens_is h.0 (result_tens (turned_of card) (rewrite_of card (length l)) (rewrite_numbered card (length l)));
   run_card = λ card ticks r h. tens_is h (result_tens 0 (run_of card ticks) (run_numbered card ticks));

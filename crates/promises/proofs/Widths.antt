@@ -1,8 +1,9 @@
 -- Every act keeps the code's widths: numbers of sixteen bits stay so in a tick and in an admission, and the clock ends long before its own width.
+use Rattle.std.specs.Prelude.{Ok, Err, Option, None, Some}
+use Rattle.table.specs.Words.{Said}
 use mathlib.Core.Path.{◌≡◌, refl, sym, ◌∙◌, subst}
 use mathlib.Core.Bool.{Bool, true, false}
 use mathlib.Core.List.{List, [], ◌∷◌}
-use mathlib.Core.Option.{Option, none, some}
 use Prim.Native.Nat.{ℕ, zero, suc, ◌+◌, ◌-◌, ◌^◌, ◌≤◌, ◌<◌}
 use native.Mathlib.Omega.{arith}
 use borrow.Author.Tests.{lt-ltb, le-ltb, lt-leb}
@@ -16,8 +17,6 @@ use Rattle.line.specs.declared.Held.TheVariants.{Nothing, Running, Waiting}
 use Rattle.line.specs.declared.Slot.{Slot}
 use Rattle.table.specs.declared.Table.{Table}
 use Rattle.table.specs.declared.Request.{Request}
-use Rattle.table.specs.declared.Answer.{Answer}
-use Rattle.table.specs.declared.Answer.TheVariants.{Start, Refused}
 use Rattle.table.specs.declared.Stepped.{Stepped}
 use Rattle.line.specs.Slots.{pick, wait_with, holding, empty, begun, following, slot_at, at, map_at, is_nothing, lowest_of}
 use Rattle.line.specs.Demand.{end_of, last_end}
@@ -65,8 +64,8 @@ narrow_set (s ∷ l) zero v n m = (m, n.1)
 narrow_set (s ∷ l) (suc j) v n m = (n.0, narrow_set l j v n.1 m)
 
 narrow_put : (o : Option ℕ) (s : Slot) (l : List Slot) → Narrow s.held → AllNarrow l → AllNarrow (put_at o s l)
-narrow_put none s l m n = n
-narrow_put (some k) s l m n = narrow_set l k s n m
+narrow_put None s l m n = n
+narrow_put (Some k) s l m n = narrow_set l k s n m
 
 -- ---- a tick
 
@@ -76,8 +75,8 @@ narrow_served (Running r) n = omega arith
 narrow_served (Waiting w) n = n
 
 narrow_serve : (o : Option ℕ) (l : List Slot) → AllNarrow l → AllNarrow (serve o l)
-narrow_serve none l n = n
-narrow_serve (some j) l n = narrow_put (some j) (served_slot (slot_at l j)) l (narrow_served (at l j) (narrow_at l n j)) n
+narrow_serve None l n = n
+narrow_serve (Some j) l n = narrow_put (Some j) (served_slot (slot_at l j)) l (narrow_served (at l j) (narrow_at l n j)) n
 
 -- R46, R99: what follows a period
 narrow_following : (f : Follows) (C T : ℕ) → C < 65536 → T < 65536 → Narrow (following f C T)
@@ -104,8 +103,8 @@ wide_within (n ∷ l) h = (omega arith, wide_within l (omega arith))
 
 -- R105: the number of a slot has eight bits, and so has that of none
 narrow_number : (o : Option ℕ) → Inside 16 o → slot_number o < 256
-narrow_number none i = omega arith
-narrow_number (some k) i = omega arith
+narrow_number None i = omega arith
+narrow_number (Some k) i = omega arith
 
 -- R105: also where a line is gone
 narrow_last : (i k : ℕ) → k < 256 → last_without i k < 256
@@ -131,8 +130,8 @@ wide_ticked o t w a h i =
     }
 
 wide_unless : (o : Option ℕ) (n : ℕ) (t : Table) (s : Stepped) → TableWidths 16 t → TableWidths 16 s.table → TableWidths 16 (step_unless o n t s).table
-wide_unless none n t s v w = w
-wide_unless (some k) n t s v w = v
+wide_unless None n t s v w = w
+wide_unless (Some k) n t s v w = v
 
 wide_advance : (o : Option ℕ) (t : Table) → TableWidths 16 t → accounted t ≤ t.clock → t.clock < 2 ^ 48 → Inside 16 o → TableWidths 16 (advance o t).table
 unfolding advance
@@ -150,8 +149,8 @@ wide_step t w =
     (λ h. subst (λ (s : Stepped). TableWidths 16 s.table) (sym (early_step t h)) (go h (fault t) refl))
   where
     go : t.clock < 2 ^ 48 → (o : Option ℕ) → fault t ≡ o → TableWidths 16 (step_unless o 4 t (advance (choose t) t)).table
-    go h none e = wide_advance (choose t) t w (faultless t e).1 h (subst (λ (n : ℕ). Inside n (choose t)) w.slots (choose_inside t))
-    go h (some k) e = w
+    go h None e = wide_advance (choose t) t w (faultless t e).1 h (subst (λ (n : ℕ). Inside n (choose t)) w.slots (choose_inside t))
+    go h (Some k) e = w
 
 -- ---- an admission
 
@@ -184,7 +183,7 @@ last_near : (t0 : ℕ) (l : List Slot) → AllNarrow l → last_end t0 l < t0 + 
 last_near t0 l n = last_within t0 65536 l (omega arith) (λ i b. end_near t0 (at l i) (narrow_at l n i))
 
 -- R15, R42: so is a start that is granted
-wait_near : (t : Table) (q : Request) (r : ℕ) → AllNarrow (asked t q) → ask_of t q ≡ Start r → r - t.clock < 65536
+wait_near : (t : Table) (q : Request) (r : ℕ) → AllNarrow (asked t q) → ask_of t q ≡ Ok r → r - t.clock < 65536
 wait_near t q r n e =
     let g = granted t q r e in
     omega (arith, least_by_last _ t.clock _ q.need q.period r g.cleared.given g.alone g.least, last_near t.clock (asked t q) n)
@@ -195,26 +194,26 @@ narrow_admitted t q f n = go (ask_of t q) refl
     lines : AllNarrow (asked t q)
     lines = narrow_stretched t.slots (entry q) f.2 n
 
-    go : (a : Answer) → ask_of t q ≡ a → AllNarrow (admit_with t q a).table.slots
-    go (Start r) e =
+    go : (a : Said ℕ) → ask_of t q ≡ a → AllNarrow (admit_with t q a).table.slots
+    go (Ok r) e =
         narrow_put (lowest_of is_nothing t.slots) (holding (new_line q.need q.period (r - t.clock))) (asked t q)
         (narrow_new q.need q.period (r - t.clock) f.0 f.1 (wait_near t q r lines e)) lines
-    go (Refused x) e = n
+    go (Err x) e = n
 
 -- R42: a count becomes 0
 wide_put : (o : Option ℕ) (l : List ℕ) → All InEight l → All InEight (put_at o 0 l)
-wide_put none l w = w
-wide_put (some k) [] w = tt
-wide_put (some zero) (n ∷ l) w = (omega arith, w.1)
-wide_put (some (suc k)) (n ∷ l) w = (w.0, wide_put (some k) l w.1)
+wide_put None l w = w
+wide_put (Some k) [] w = tt
+wide_put (Some zero) (n ∷ l) w = (omega arith, w.1)
+wide_put (Some (suc k)) (n ∷ l) w = (w.0, wide_put (Some k) l w.1)
 
 wide_counts : (t : Table) (q : Request) → TableWidths 16 t
     → All InEight (after (admitting q) t).had × InEight (after (admitting q) t).idle × InEight (after (admitting q) t).departed
 wide_counts t q w = go (ask_of t q)
   where
-    go : (a : Answer) → All InEight (admit_with t q a).table.had × InEight (admit_with t q a).table.idle × InEight (admit_with t q a).table.departed
-    go (Start r) = (wide_put (lowest_of is_nothing t.slots) t.had w.had, w.idle, w.departed)
-    go (Refused x) = (w.had, w.idle, w.departed)
+    go : (a : Said ℕ) → All InEight (admit_with t q a).table.had × InEight (admit_with t q a).table.idle × InEight (admit_with t q a).table.departed
+    go (Ok r) = (wide_put (lowest_of is_nothing t.slots) t.had w.had, w.idle, w.departed)
+    go (Err x) = (w.had, w.idle, w.departed)
 
 -- R42: an admission keeps the code's widths, granted or not
 pub wide_admit : (t : Table) (q : Request) → NarrowRequest q → TableWidths 16 t → TableWidths 16 (after (admitting q) t)
@@ -242,7 +241,7 @@ wide_settled : (t : Table) (n : ℕ) (b : Bool) → TableWidths 16 t → account
     × ((pick b (settle n t) t).last < 256)
 wide_settled t n false w a h = (w.counts, w.had, w.idle, w.departed, w.last)
 wide_settled t n true w a h =
-    (length-set t.had n 0 ∙ w.counts, wide_put (some n) t.had w.had, w.idle, omega (arith, a, w.clock, count_within t.had n 0 h), narrow_last n t.last w.last)
+    (length-set t.had n 0 ∙ w.counts, wide_put (Some n) t.had w.had, w.idle, omega (arith, a, w.clock, count_within t.had n 0 h), narrow_last n t.last w.last)
 
 -- R100: a leave keeps the code's widths, granted or not
 pub wide_leave : (t : Table) (n : ℕ) → TableWidths 16 t → TableWidths 16 (after (leaving n) t)

@@ -1,28 +1,24 @@
 -- The first demand: every input has one fixed answer, R71, and a refusal changes no table and no lent byte, R17.
-use Rattle.std.specs.Prelude.{◌≡◌, List, ℕ, ◌≤◌, length}
-use Rattle.std.proofs.Math.Option.{Option, none}
+use Rattle.std.specs.Prelude.{Ok, Err, ◌≡◌, List, ℕ, ◌≤◌, length, Option, None}
+use Rattle.table.specs.Words.{Said}
 use Rattle.table.specs.declared.Table.{Table}
 use Rattle.table.specs.declared.Request.{Request}
 use Rattle.table.specs.declared.Refusal.{Refusal}
-use Rattle.table.specs.declared.Answer.{Answer}
 use Rattle.table.specs.declared.Admitted.{Admitted}
 use Rattle.table.specs.declared.Stepped.{Stepped}
-use Rattle.table.specs.declared.Outcome.{Outcome}
 use Rattle.table.specs.declared.Left.{Left}
-use Rattle.table.specs.Words.{empty_table, gives, refuses}
+use Rattle.table.specs.Words.{empty_table}
 use Rattle.table.specs.Grounds.{grounds, FirstOf, Answers}
-use Rattle.table.specs.Ask.{says, ask_of}
-use Rattle.table.specs.Step.{says_ran, step_of}
-use Rattle.table.specs.Leave.{says_leaving, leave_of}
+use Rattle.table.specs.Ask.{ask_of}
+use Rattle.table.specs.Step.{step_of}
+use Rattle.table.specs.Leave.{leave_of}
 use Rattle.board.specs.Board.{ReadyWord, blinks}
 use Rattle.ask.specs.Asked.{Asked}
 use Rattle.admit.specs.Admits.{Admits}
 use Rattle.card.specs.declared.ReadCard.{ReadCard}
-use Rattle.card.specs.declared.WriteAnswer.{WriteAnswer}
 use Rattle.card.specs.Reading.{read_of}
-use Rattle.card.specs.Answers.{said_read, said_written, zero_request}
-use Rattle.reply.specs.declared.Written.{Written}
-use Rattle.reply.specs.Line.{answer_line, said_length, Replied}
+use Rattle.card.specs.Answers.{said_read, zero_request}
+use Rattle.reply.specs.Line.{answer_line, Replied}
 use Rattle.image.specs.declared.Loaded.{Loaded}
 use Rattle.image.specs.Loading.{load_of}
 use Rattle.image.specs.Answers.{said_loaded, store_of}
@@ -48,7 +44,7 @@ Three {A = A} {B = B} {C = C} P = (x y : A) (m n : B) (k l : C) → P x m k → 
 
 -- R71: for every input, operation by operation. Every function is proved to end, so an answer there is; ask's relation is also shown to be met.
 pub record FixedAnswer : Type 0 where
-  pub ask_met : (t : Table) (q : Request) → (a : Answer) × Answers t q (says a)
+  pub ask_met : (t : Table) (q : Request) → (a : Said ℕ) × Answers t q (a)
   pub ask_said : (t : Table) (q : Request) → One (Answers t q)
   pub ask : (t : Table) (q : Request) → One (Asked t q)
   pub admit : (t : Table) (q : Request) → One (Admits t q)
@@ -59,8 +55,8 @@ pub record FixedAnswer : Type 0 where
   pub lamp : (n : ℕ) → One (λ (b : ℕ). b ≡ blinks n)
   pub read : (card : List ℕ) → One (Reads card)
   pub write : (t : Table) (q : Request) (l : List ℕ) → Both (Writes t q l)
-  pub reply_to : (a : Answer) → One (Replied (answer_line (says a)))
-  pub put_reply : (a : Answer) (l : List ℕ) → Both (Puts a l)
+  pub reply_to : (a : Said ℕ) → One (Replied (answer_line (a)))
+  pub put_reply : (a : Said ℕ) (l : List ℕ) → Both (Puts a l)
   pub answer_card : (card l : List ℕ) → Both (AnswersCard card l)
   pub rewrite_card : (card l : List ℕ) → Both (Rewrites card l)
   pub run_card : (card : List ℕ) (ticks : ℕ) → One (RunsCard card ticks)
@@ -81,21 +77,21 @@ pub record FixedAnswer : Type 0 where
 -- R17: operation by operation, of any answer that the contract allows and that refuses. Over the boundary a refusal is a number that is not 0.
 pub record RefusalKeeps : Type 0 where
   -- ask's refusal is the first ground's, and admit then hands back the same table with the same refusal
-  pub ask : (t : Table) (q : Request) (a : Answer) (x : Refusal) → Asked t q a → says a ≡ refuses x
-      → FirstOf grounds t q x × ((m : Admitted) → Admits t q m → (says m.answer ≡ refuses x) × (m.table ≡ t))
-  pub admit : (t : Table) (q : Request) (m : Admitted) (x : Refusal) → Admits t q m → says m.answer ≡ refuses x
+  pub ask : (t : Table) (q : Request) (a : Said ℕ) (x : Refusal) → Asked t q a → a ≡ Err x
+      → FirstOf grounds t q x × ((m : Admitted) → Admits t q m → (m.answer ≡ Err x) × (m.table ≡ t))
+  pub admit : (t : Table) (q : Request) (m : Admitted) (x : Refusal) → Admits t q m → m.answer ≡ Err x
       → FirstOf grounds t q x × (m.table ≡ t)
-  pub step : (t : Table) (s : Stepped) (x : Refusal) → Steps t s → says_ran s.outcome ≡ refuses x → s.table ≡ t
-  pub leave : (t : Table) (n : ℕ) (r : Left) (x : Refusal) → LetsGo t n r → says_leaving r.leaving ≡ refuses x → r.table ≡ t
-  pub drive : (t : Table) (o : Outcome) (u : Table) (x : Refusal) → Drives t o u → says_ran o ≡ refuses x → u ≡ t
+  pub step : (t : Table) (s : Stepped) (x : Refusal) → Steps t s → s.outcome ≡ Err x → s.table ≡ t
+  pub leave : (t : Table) (n : ℕ) (r : Left) (x : Refusal) → LetsGo t n r → r.leaving ≡ Err x → r.table ≡ t
+  pub drive : (t : Table) (o : Said (Option ℕ)) (u : Table) (x : Refusal) → Drives t o u → o ≡ Err x → u ≡ t
   -- the reader is lent nothing to change: it hands out the empty table, zeros and no slot, with the refusal
-  pub read : (card : List ℕ) (c : ReadCard) (x : Refusal) → Reads card c → said_read c ≡ refuses x
-      → (read_of card ≡ refuses x) × (c.table ≡ empty_table) × (c.request ≡ zero_request) × (c.turned ≡ 0)
-  pub write : (t : Table) (q : Request) (l : List ℕ) (a : WriteAnswer) (m : List ℕ) (x : Refusal) → Writes t q l a m → said_written a ≡ refuses x → m ≡ l
-  pub put_reply : (a : Answer) (l : List ℕ) (w : Written) (m : List ℕ) → Puts a l w m → said_length w ≡ none → m ≡ l
+  pub read : (card : List ℕ) (c : ReadCard) (x : Refusal) → Reads card c → said_read c ≡ Err x
+      → (read_of card ≡ Err x) × (c.table ≡ empty_table) × (c.request ≡ zero_request) × (c.turned ≡ 0)
+  pub write : (t : Table) (q : Request) (l : List ℕ) (a : Said ℕ) (m : List ℕ) (x : Refusal) → Writes t q l a m → a ≡ Err x → m ≡ l
+  pub put_reply : (a : Said ℕ) (l : List ℕ) (w : Option ℕ) (m : List ℕ) → Puts a l w m → w ≡ None → m ≡ l
   -- loading is lent nothing to change either
-  pub load : (l : List ℕ) (y : Loaded) (x : Refusal) → Loads l y → said_loaded y ≡ refuses x → (load_of l ≡ refuses x) × (y.table ≡ empty_table)
-  pub store : (t : Table) (l : List ℕ) (a : WriteAnswer) (m : List ℕ) (x : Refusal) → Stores t l a m → said_written a ≡ refuses x → m ≡ l
+  pub load : (l : List ℕ) (y : Loaded) (x : Refusal) → Loads l y → said_loaded y ≡ Err x → (load_of l ≡ Err x) × (y.table ≡ empty_table)
+  pub store : (t : Table) (l : List ℕ) (a : Said ℕ) (m : List ℕ) (x : Refusal) → Stores t l a m → a ≡ Err x → m ≡ l
   pub answer_card : (card l : List ℕ) (r : Result) (m : List ℕ) → AnswersCard card l r m → (r.number ≡ 0 → ⊥) → m ≡ l
   pub rewrite_card : (card l : List ℕ) (r : Result) (m : List ℕ) → Rewrites card l r m → (r.number ≡ 0 → ⊥) → m ≡ l
   pub empty_image : (l : List ℕ) (r : Result) (m : List ℕ) → Empties l r m → (r.number ≡ 0 → ⊥) → m ≡ l
@@ -110,24 +106,24 @@ pub record RefusalKeeps : Type 0 where
 
 -- R63: operation by operation, a result whose number is 0 is a grant
 pub record ToldApart : Type 0 where
-  pub answer_card : (card l : List ℕ) (r : Result) (m : List ℕ) → AnswersCard card l r m → r.number ≡ 0 → (n : ℕ) × (put_of (line_for card) l ≡ gives n)
-  pub rewrite_card : (card l : List ℕ) (r : Result) (m : List ℕ) → Rewrites card l r m → r.number ≡ 0 → (n : ℕ) × (rewrite_of card (length l) ≡ gives n)
-  pub run_card : (card : List ℕ) (ticks : ℕ) (r : Result) → RunsCard card ticks r → r.number ≡ 0 → (n : ℕ) × (run_of card ticks ≡ gives n)
-  pub empty_image : (l : List ℕ) (r : Result) (m : List ℕ) → Empties l r m → r.number ≡ 0 → (n : ℕ) × (store_of (length l) ≡ gives n)
+  pub answer_card : (card l : List ℕ) (r : Result) (m : List ℕ) → AnswersCard card l r m → r.number ≡ 0 → (n : ℕ) × (put_of (line_for card) l ≡ Ok n)
+  pub rewrite_card : (card l : List ℕ) (r : Result) (m : List ℕ) → Rewrites card l r m → r.number ≡ 0 → (n : ℕ) × (rewrite_of card (length l) ≡ Ok n)
+  pub run_card : (card : List ℕ) (ticks : ℕ) (r : Result) → RunsCard card ticks r → r.number ≡ 0 → (n : ℕ) × (run_of card ticks ≡ Ok n)
+  pub empty_image : (l : List ℕ) (r : Result) (m : List ℕ) → Empties l r m → r.number ≡ 0 → (n : ℕ) × (store_of (length l) ≡ Ok n)
   pub ask_image : (l : List ℕ) (q : Request) (r : Result) → AsksImage l q r → r.number ≡ 0
-      → (t : Table) × (load_of l ≡ gives t) × ((s : ℕ) × (says (ask_of t q) ≡ gives s))
+      → (t : Table) × (load_of l ≡ Ok t) × ((s : ℕ) × (ask_of t q ≡ Ok s))
   pub admit_image : (l : List ℕ) (q : Request) (r : Result) (m : List ℕ) → AdmitsImage l q r m → r.number ≡ 0
-      → (t : Table) × (load_of l ≡ gives t) × ((s : ℕ) × (says (ask_of t q) ≡ gives s))
+      → (t : Table) × (load_of l ≡ Ok t) × ((s : ℕ) × (ask_of t q ≡ Ok s))
   pub step_image : (l : List ℕ) (r : Result) (m : List ℕ) → StepsImage l r m → r.number ≡ 0
-      → (t : Table) × (load_of l ≡ gives t) × ((o : Option ℕ) × (says_ran (step_of t).outcome ≡ gives o))
+      → (t : Table) × (load_of l ≡ Ok t) × ((o : Option ℕ) × ((step_of t).outcome ≡ Ok o))
   pub leave_image : (l : List ℕ) (n : ℕ) (r : Result) (m : List ℕ) → LetsGoImage l n r m → r.number ≡ 0
-      → (t : Table) × (load_of l ≡ gives t) × ((k : ℕ) × (says_leaving (leave_of t n).leaving ≡ gives k))
-  pub ready_image : (l : List ℕ) (r : Result) → ReadiesImage l r → r.number ≡ 0 → (t : Table) × (load_of l ≡ gives t)
-  pub counts_image : (l ns : List ℕ) (r : Result) (m : List ℕ) → CountsImage l ns r m → r.number ≡ 0 → (t : Table) × (load_of l ≡ gives t) × (m ≡ all_counts t)
+      → (t : Table) × (load_of l ≡ Ok t) × ((k : ℕ) × ((leave_of t n).leaving ≡ Ok k))
+  pub ready_image : (l : List ℕ) (r : Result) → ReadiesImage l r → r.number ≡ 0 → (t : Table) × (load_of l ≡ Ok t)
+  pub counts_image : (l ns : List ℕ) (r : Result) (m : List ℕ) → CountsImage l ns r m → r.number ≡ 0 → (t : Table) × (load_of l ≡ Ok t) × (m ≡ all_counts t)
   pub write_image : (l : List ℕ) (q : Request) (out : List ℕ) (r : Result) (m : List ℕ) → WritesImage l q out r m → r.number ≡ 0
-      → (n : ℕ) × (write_card_for (load_of l) q (length out) ≡ gives n)
+      → (n : ℕ) × (write_card_for (load_of l) q (length out) ≡ Ok n)
   pub read_image : (card l ns : List ℕ) (r : Result) (m n : List ℕ) → ReadsImage card l ns r m n → r.number ≡ 0
-      → (k : ℕ) × (read_card_for (read_of card) (length l) ≡ gives k)
+      → (k : ℕ) × (read_card_for (read_of card) (length l) ≡ Ok k)
 
 -- ---- who says a tick and an excess
 
@@ -142,7 +138,7 @@ TensOf r = OnlyTen r.number r.tick r.excess
 
 -- R103: operation by operation, of any result that the contract allows
 pub record TenAlone : Type 0 where
-  pub ask : (t : Table) (q : Request) (x : Refusal) → Answers t q (refuses x) → OnlyTen x.number x.tick x.excess
+  pub ask : (t : Table) (q : Request) (x : Refusal) → Answers t q (Err x) → OnlyTen x.number x.tick x.excess
   pub answer_card : (card l : List ℕ) (r : Result) (m : List ℕ) → AnswersCard card l r m → TensOf r
   pub rewrite_card : (card l : List ℕ) (r : Result) (m : List ℕ) → Rewrites card l r m → TensOf r
   pub run_card : (card : List ℕ) (ticks : ℕ) (r : Result) → RunsCard card ticks r → TensOf r

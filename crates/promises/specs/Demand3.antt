@@ -1,22 +1,21 @@
 -- The third demand, R73 to R77, over all runs from the empty table.
-use Rattle.std.specs.Prelude.{ℕ, ◌+◌, ◌-◌, ◌^◌, ◌≤◌, ◌<◌, ◌≡◌, List, [], ◌∷◌, take, drop, replicate, true}
-use Rattle.std.proofs.Math.Option.{Option, none, some}
+use Rattle.std.specs.Prelude.{Ok, Err, ℕ, ◌+◌, ◌-◌, ◌^◌, ◌≤◌, ◌<◌, ◌≡◌, List, [], ◌∷◌, take, drop, replicate, true, Option, None, Some}
 use Rattle.line.specs.declared.Held.{Held}
 use Rattle.line.specs.declared.Held.TheVariants.{Nothing}
 use Rattle.table.specs.declared.Table.{Table}
 use Rattle.table.specs.declared.Request.{Request}
 use Rattle.table.specs.declared.Refusal.{Refusal}
-use Rattle.table.specs.Words.{empty_table, refusal, gives, refuses}
+use Rattle.table.specs.Words.{empty_table, refusal}
 use Rattle.line.specs.Slots.{if_runs, RunsAs, at, Each, is_nothing, Waits, lowest_of}
 use Rattle.line.specs.Sound.{Sound}
 use Rattle.line.specs.Demand.{last_end}
 use Rattle.line.specs.Leave.{is_parting}
 use Rattle.table.specs.Grounds.{entry, asked, Answers}
 use Rattle.table.specs.Counts.{fault}
-use Rattle.table.specs.Ask.{says, ask_of}
+use Rattle.table.specs.Ask.{ask_of}
 use Rattle.table.specs.Admit.{admitted_at}
-use Rattle.table.specs.Step.{says_ran, step_of}
-use Rattle.table.specs.Leave.{says_leaving, leave_of}
+use Rattle.table.specs.Step.{step_of}
+use Rattle.table.specs.Leave.{leave_of}
 use Rattle.table.specs.Runs.{Act, asking, admitting, stepping, leaving, after, run, trace, times}
 
 -- ---- no missed period
@@ -25,11 +24,11 @@ use Rattle.table.specs.Runs.{Act, asking, admitting, stepping, leaving, after, r
 -- last tick, and a step that is refused is refused with 15 at the last tick
 pub record Unfailing (t : Table) : Type 0 where
   pub sound : Each Sound t.slots
-  pub no_fault : fault t ≡ none
+  pub no_fault : fault t ≡ None
   pub clock_in : t.clock ≤ 2 ^ 48
-  pub goes_on : t.clock < 2 ^ 48 → (o : Option ℕ) × (says_ran (step_of t).outcome ≡ gives o)
-  pub only_fifteen : (x : Refusal) → says_ran (step_of t).outcome ≡ refuses x → (x ≡ refusal 15 0) × (t.clock ≡ 2 ^ 48)
-  pub at_the_last : t.clock ≡ 2 ^ 48 → says_ran (step_of t).outcome ≡ refuses (refusal 15 0)
+  pub goes_on : t.clock < 2 ^ 48 → (o : Option ℕ) × ((step_of t).outcome ≡ Ok o)
+  pub only_fifteen : (x : Refusal) → (step_of t).outcome ≡ Err x → (x ≡ refusal 15 0) × (t.clock ≡ 2 ^ 48)
+  pub at_the_last : t.clock ≡ 2 ^ 48 → (step_of t).outcome ≡ Err (refusal 15 0)
 
 -- R74, R73: after any run
 abbrev pub NeverMissed : Type 0
@@ -39,8 +38,8 @@ NeverMissed = (acts : List Act) → Unfailing (run acts empty_table)
 
 -- R75: after the run `acts` the request q is granted the start r, in slot k
 pub record Admission (acts : List Act) (q : Request) (r k : ℕ) : Type 0 where
-  pub granted : says (ask_of (run acts empty_table) q) ≡ gives r
-  pub slot : lowest_of is_nothing (run acts empty_table).slots ≡ some k
+  pub granted : (ask_of (run acts empty_table) q) ≡ Ok r
+  pub slot : lowest_of is_nothing (run acts empty_table).slots ≡ Some k
 
 -- the table at the request, and the table with the line admitted
 abbrev pub asking_table : List Act → Table
@@ -62,7 +61,7 @@ Lengthened p h = if_runs ⊥ (λ r. r.period < p) h
 -- R76: the act makes the period of slot k longer
 abbrev pub Stretches : ℕ → Act → Table → Type 0
 Stretches k (asking q) t = ⊥
-Stretches k (admitting q) t = ((r : ℕ) × (says (ask_of t q) ≡ gives r)) × Lengthened (entry q k) (at t.slots k)
+Stretches k (admitting q) t = ((r : ℕ) × (ask_of t q ≡ Ok r)) × Lengthened (entry q k) (at t.slots k)
 Stretches k stepping t = ⊥
 Stretches k (leaving n) t = ⊥
 
@@ -113,13 +112,13 @@ pub record Parts (t : Table) (k C P a c : ℕ) : Type 0 where
 
 -- R80: of every leave of a run that is granted to a running line of these numbers: in P − a ticks it is gone
 abbrev pub LeavesAtItsEnd : Type 0
-LeavesAtItsEnd = (acts : List Act) (k n C P a c : ℕ) → says_leaving (leave_of (run acts empty_table) k).leaving ≡ gives n
+LeavesAtItsEnd = (acts : List Act) (k n C P a c : ℕ) → (leave_of (run acts empty_table) k).leaving ≡ Ok n
     → RunsAs C P a c (at (run acts empty_table).slots k)
     → (n ≡ P - a) × Parts (after (leaving k) (run acts empty_table)) k C P a c
 
 -- R100: and of one that is granted to a waiting line: it is gone at once
 abbrev pub LeavesAtOnce : Type 0
-LeavesAtOnce = (acts : List Act) (k n : ℕ) → says_leaving (leave_of (run acts empty_table) k).leaving ≡ gives n
+LeavesAtOnce = (acts : List Act) (k n : ℕ) → (leave_of (run acts empty_table) k).leaving ≡ Ok n
     → Waits (at (run acts empty_table).slots k)
     → (n ≡ 0) × (at (after (leaving k) (run acts empty_table)).slots k ≡ Nothing)
 
@@ -137,16 +136,16 @@ Sixteen q = (i : ℕ) → entry q i < 2 ^ 16
 pub record Misses (t : Table) (last : ℕ) : Type 0 where
   pub steps : ℕ
   pub slot : ℕ
-  pub goes : (m : ℕ) → m < steps → (o : Option ℕ) × (says_ran (step_of (stepped m t)).outcome ≡ gives o)
-  pub misses : says_ran (step_of (stepped steps t)).outcome ≡ refuses (refusal 14 slot)
+  pub goes : (m : ℕ) → m < steps → (o : Option ℕ) × ((step_of (stepped m t)).outcome ≡ Ok o)
+  pub misses : (step_of (stepped steps t)).outcome ≡ Err (refusal 14 slot)
   pub before : t.clock + steps + 1 < last
 
 -- R77: of any table and request that are granted a start r, reached by a run or not, admitted at an earlier r' instead
 abbrev pub NoEarlierStart : Type 0
-NoEarlierStart = (t : Table) (q : Request) (r r' : ℕ) → Sixteen q → says (ask_of t q) ≡ gives r → t.clock ≤ r' → r' < r
+NoEarlierStart = (t : Table) (q : Request) (r r' : ℕ) → Sixteen q → ask_of t q ≡ Ok r → t.clock ≤ r' → r' < r
     → Misses (admitted_at t q r') (last_end t.clock (asked t q))
 
 -- R77, R41: the same of any start that ask's contract allows
 abbrev pub NoEarlierThanAnswered : Type 0
-NoEarlierThanAnswered = (t : Table) (q : Request) (r r' : ℕ) → Sixteen q → Answers t q (gives r) → t.clock ≤ r' → r' < r
+NoEarlierThanAnswered = (t : Table) (q : Request) (r r' : ℕ) → Sixteen q → Answers t q (Ok r) → t.clock ≤ r' → r' < r
     → Misses (admitted_at t q r') (last_end t.clock (asked t q))

@@ -1,5 +1,6 @@
 -- What meets a contract, and wrong programs that do not.
-use Rattle.std.specs.Prelude.{ℕ, ◌+◌, ◌≤◌, ◌<◌, ◌≡◌, Bool, List, [], ◌∷◌, pos}
+use Rattle.std.specs.Prelude.{Ok, Err, ℕ, ◌+◌, ◌≤◌, ◌<◌, ◌≡◌, Bool, List, [], ◌∷◌, pos}
+use Rattle.table.specs.Words.{Said}
 use Rattle.line.specs.declared.Held.TheVariants.{Nothing}
 use Rattle.line.specs.Slots.{pick, at}
 use Rattle.line.specs.Demand.{last_end, ticks_short}
@@ -7,14 +8,12 @@ use Rattle.line.specs.Ends.{ends_of, excess_at, short_at}
 use Rattle.table.specs.declared.Table.{Table}
 use Rattle.table.specs.declared.Request.{Request}
 use Rattle.table.specs.declared.Refusal.{Refusal}
-use Rattle.table.specs.declared.Answer.{Answer}
 use Rattle.table.specs.declared.Stepped.{Stepped}
 use Rattle.table.specs.declared.Left.{Left}
-use Rattle.table.specs.Words.{later_with, gives, refuses}
+use Rattle.table.specs.Words.{later_with}
 use Rattle.table.specs.Grounds.{asked, Answers}
-use Rattle.table.specs.Ask.{says}
 use Rattle.table.specs.Step.{step_of}
-use Rattle.table.specs.Leave.{says_leaving, leave_of}
+use Rattle.table.specs.Leave.{leave_of}
 use Rattle.card.specs.declared.ReadCard.{ReadCard}
 use Rattle.card.specs.Card.{Card}
 use Rattle.card.specs.Reading.{read_of}
@@ -22,8 +21,8 @@ use Rattle.card.specs.Twin.{turned_of}
 use Rattle.card.specs.Answers.{handed, buffer_of}
 
 -- R41: what ask's contract says of a function
-abbrev pub MeetsAsk : (Table → Request → Answer) → Type 0
-MeetsAsk f = (t : Table) (q : Request) → Answers t q (says (f t q))
+abbrev pub MeetsAsk : (Table → Request → Said ℕ) → Type 0
+MeetsAsk f = (t : Table) (q : Request) → Answers t q ((f t q))
 
 -- R48: what step's says
 abbrev pub MeetsStep : (Table → Stepped) → Type 0
@@ -42,12 +41,12 @@ abbrev pub MeetsWrite : (Table → Request → List ℕ → List ℕ) → Type 0
 MeetsWrite f = (t : Table) (q : Request) (l : List ℕ) → f t q l ≡ buffer_of t q l
 
 -- R18, R41: it refuses whatever it is asked
-abbrev pub RefusesEverything : (Table → Request → Answer) → Type 0
-RefusesEverything f = (t : Table) (q : Request) → (x : Refusal) × (says (f t q) ≡ refuses x)
+abbrev pub RefusesEverything : (Table → Request → Said ℕ) → Type 0
+RefusesEverything f = (t : Table) (q : Request) → (x : Refusal) × (f t q ≡ Err x)
 
 -- R14, R41: it starts every line at once
-abbrev pub SaysTheClock : (Table → Request → Answer) → Type 0
-SaysTheClock f = (t : Table) (q : Request) → says (f t q) ≡ gives t.clock
+abbrev pub SaysTheClock : (Table → Request → Said ℕ) → Type 0
+SaysTheClock f = (t : Table) (q : Request) → f t q ≡ Ok t.clock
 
 -- the first tick in the list at which the test holds, else 0
 abbrev pub first_listed : (ℕ → Bool) → List ℕ → ℕ
@@ -55,8 +54,8 @@ first_listed test [] = 0
 first_listed test (d ∷ ds) = pick (test d) d (first_listed test ds)
 
 -- R103: refusal 10 of it says what P says of the table and the request
-abbrev pub TenOf : (Table → Request → Answer) → (Table → Request → Refusal → Type 0) → Type 0
-TenOf f P = (t : Table) (q : Request) (x : Refusal) → says (f t q) ≡ refuses x → x.number ≡ 10 → P t q x
+abbrev pub TenOf : (Table → Request → Said ℕ) → (Table → Request → Refusal → Type 0) → Type 0
+TenOf f P = (t : Table) (q : Request) (x : Refusal) → f t q ≡ Err x → x.number ≡ 10 → P t q x
 
 -- R103: of the short ends the first by slots, lowest first, and not by time
 abbrev pub FirstBySlot : Table → Request → Refusal → Type 0
@@ -75,8 +74,8 @@ abbrev pub OneTooGreat : Table → Request → Refusal → Type 0
 OneTooGreat t q x = x.excess ≡ 1 + ticks_short (excess_at t.clock (asked t q) x.tick)
 
 -- R103: a refusal of another number says an excess too
-abbrev pub KeptInAnother : (Table → Request → Answer) → Type 0
-KeptInAnother f = (t : Table) (q : Request) (x : Refusal) → says (f t q) ≡ refuses x → 1 ≤ x.excess
+abbrev pub KeptInAnother : (Table → Request → Said ℕ) → Type 0
+KeptInAnother f = (t : Table) (q : Request) (x : Refusal) → f t q ≡ Err x → 1 ≤ x.excess
 
 -- R45: it does nothing to the table
 abbrev pub LeavesTheTable : (Table → Stepped) → Type 0
@@ -88,15 +87,15 @@ OnlyMovesTheClock f = (t : Table) → 0 < t.clock → (f t).table ≡ later_with
 
 -- R99, R100: it grants a leave, and every line renews as before
 abbrev pub OnlySaysSo : (Table → ℕ → Left) → Type 0
-OnlySaysSo f = (t : Table) (n k : ℕ) → says_leaving (f t n).leaving ≡ gives k → (f t n).table ≡ t
+OnlySaysSo f = (t : Table) (n k : ℕ) → (f t n).leaving ≡ Ok k → (f t n).table ≡ t
 
 -- R100: whoever is granted a leave is gone at once
 abbrev pub DropsAtOnce : (Table → ℕ → Left) → Type 0
-DropsAtOnce f = (t : Table) (n k : ℕ) → says_leaving (f t n).leaving ≡ gives k → at (f t n).table.slots n ≡ Nothing
+DropsAtOnce f = (t : Table) (n k : ℕ) → (f t n).leaving ≡ Ok k → at (f t n).table.slots n ≡ Nothing
 
 -- R56: it hands out one and the same request for all cards that read
 abbrev pub OneRequest : (List ℕ → ReadCard) → Type 0
-OneRequest f = (l m : List ℕ) (c d : Card) → read_of l ≡ gives c → read_of m ≡ gives d → (f l).request ≡ (f m).request
+OneRequest f = (l m : List ℕ) (c d : Card) → read_of l ≡ Ok c → read_of m ≡ Ok d → (f l).request ≡ (f m).request
 
 -- R59: it leaves every buffer as it was
 abbrev pub WritesNothing : (Table → Request → List ℕ → List ℕ) → Type 0

@@ -1,10 +1,9 @@
 -- Runs over the boundary, R78: lent bytes that only admit, step and leave change are the image of the table that the same run comes to.
-use Rattle.std.specs.Prelude.{ℕ, ◌^◌, ◌<◌, ◌≡◌, List, [], ◌∷◌, length}
-use Rattle.std.proofs.Math.Option.{Option}
+use Rattle.std.specs.Prelude.{Ok, ℕ, ◌^◌, ◌<◌, ◌≡◌, List, [], ◌∷◌, length, Option}
 use Rattle.table.specs.declared.Table.{Table}
 use Rattle.table.specs.declared.Request.{Request}
-use Rattle.table.specs.Words.{empty_table, refusal, gives, slot_number}
-use Rattle.table.specs.Ask.{says, ask_of}
+use Rattle.table.specs.Words.{empty_table, refusal, slot_number}
+use Rattle.table.specs.Ask.{ask_of}
 use Rattle.table.specs.Runs.{Act, asking, admitting, stepping, leaving, after, run}
 use Rattle.image.specs.Image.{size, image_of, TableWidths}
 use Rattle.image.specs.Loading.{load_of}
@@ -65,7 +64,7 @@ ActsAlike = (a : Act) (t : Table) → Narrowed a → TableWidths 16 t → (image
 -- R86, R87, R88, R102: on the image of a table is answered what is answered on the table
 abbrev pub AnswersAlike : Type 0
 AnswersAlike = (t : Table) → TableWidths 16 t
-    → ((q : Request) → ask_for (load_of (image_of t)) q ≡ asked_as t (says (ask_of t q))) × (step_for (load_of (image_of t)) ≡ stepped_as t)
+    → ((q : Request) → ask_for (load_of (image_of t)) q ≡ asked_as t ((ask_of t q))) × (step_for (load_of (image_of t)) ≡ stepped_as t)
     × ((n : ℕ) → leave_for (load_of (image_of t)) n ≡ left_as t n)
 
 -- R78: a run over the boundary
@@ -74,7 +73,7 @@ ImageRuns = (acts : List Act) → AllNarrowed acts → image_run acts (image_of 
 
 -- R78, R82: whose bytes load at any time, as the table that the run comes to
 abbrev pub ImageLoads : Type 0
-ImageLoads = (acts : List Act) → AllNarrowed acts → load_of (image_run acts (image_of empty_table)) ≡ gives (run acts empty_table)
+ImageLoads = (acts : List Act) → AllNarrowed acts → load_of (image_run acts (image_of empty_table)) ≡ Ok (run acts empty_table)
 
 -- ---- no missed period over the boundary
 

@@ -1,12 +1,12 @@
 -- What refusal 10 tells, R103 and R104: the first tick that is short, by how much, and that the pump misses a period by then.
-use Rattle.std.specs.Prelude.{ℕ, ◌+◌, ◌≤◌, ◌<◌, ◌≡◌, pos, length, ◌≤ℤ◌}
+use Rattle.std.specs.Prelude.{Err, ℕ, ◌+◌, ◌≤◌, ◌<◌, ◌≡◌, pos, length, ◌≤ℤ◌}
 use Rattle.line.specs.Slots.{at, Waits}
 use Rattle.line.specs.Demand.{last_end}
 use Rattle.line.specs.Ends.{excess_at}
 use Rattle.table.specs.declared.Table.{Table}
 use Rattle.table.specs.declared.Request.{Request}
 use Rattle.table.specs.declared.Refusal.{Refusal}
-use Rattle.table.specs.Words.{short_refusal, refuses}
+use Rattle.table.specs.Words.{short_refusal}
 use Rattle.table.specs.Grounds.{asked, Short, Answers}
 use Rattle.theory.specs.Given.{IsEnd}
 use Rattle.promises.specs.Demand3.{Sixteen, Misses}
@@ -27,5 +27,5 @@ pub record Tells (t : Table) (q : Request) (d : ℕ) : Type 0 where
 
 -- R103, R104: of any refusal with the number 10 that ask's contract allows, for any table, reached by a run or not
 abbrev pub TenTells : Type 0
-TenTells = (t : Table) (q : Request) (x : Refusal) → Sixteen q → Answers t q (refuses x) → x.number ≡ 10
+TenTells = (t : Table) (q : Request) (x : Refusal) → Sixteen q → Answers t q (Err x) → x.number ≡ 10
     → (x ≡ short_refusal x.tick x.excess) × Short t q x.tick x.excess × Tells t q x.tick

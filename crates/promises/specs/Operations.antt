@@ -1,23 +1,19 @@
 -- What the contract of each public operation allows, in one place: its answer, and what a lent table or buffer holds then.
-use Rattle.std.specs.Prelude.{ℕ, ◌≡◌, List, length}
+use Rattle.std.specs.Prelude.{Option, ℕ, ◌≡◌, List, length}
+use Rattle.table.specs.Words.{Said}
 use Rattle.table.specs.declared.Table.{Table}
 use Rattle.table.specs.declared.Request.{Request}
-use Rattle.table.specs.declared.Answer.{Answer}
 use Rattle.table.specs.declared.Stepped.{Stepped}
-use Rattle.table.specs.declared.Outcome.{Outcome}
 use Rattle.table.specs.declared.Left.{Left}
 use Rattle.table.specs.Words.{empty_table}
-use Rattle.table.specs.Ask.{says}
 use Rattle.table.specs.Step.{step_of}
 use Rattle.table.specs.Leave.{leave_of}
 use Rattle.card.specs.declared.ReadCard.{ReadCard}
-use Rattle.card.specs.declared.WriteAnswer.{WriteAnswer}
 use Rattle.card.specs.Reading.{read_of}
 use Rattle.card.specs.Twin.{turned_of}
-use Rattle.card.specs.Answers.{handed, said_written, write_of, buffer_of}
+use Rattle.card.specs.Answers.{handed, write_of, buffer_of}
 use Rattle.driver.specs.Driven.{driven_of}
-use Rattle.reply.specs.declared.Written.{Written}
-use Rattle.reply.specs.Line.{answer_line, said_length, length_for, held_after}
+use Rattle.reply.specs.Line.{answer_line, length_for, held_after}
 use Rattle.image.specs.declared.Loaded.{Loaded}
 use Rattle.image.specs.Loading.{load_of}
 use Rattle.image.specs.Answers.{handed_out, store_of, stored_in}
@@ -36,7 +32,7 @@ abbrev pub LetsGo : Table → (number : ℕ) → Left → Type 0
 LetsGo t n r = r ≡ leave_of t n
 
 -- R51: drive answers o and leaves the table u behind the reference
-abbrev pub Drives : Table → Outcome → Table → Type 0
+abbrev pub Drives : Table → Said (Option ℕ) → Table → Type 0
 Drives t o u = (o ≡ (step_of t).outcome) × (u ≡ driven_of t)
 
 -- R56: read
@@ -44,20 +40,20 @@ abbrev pub Reads : List ℕ → ReadCard → Type 0
 Reads card c = c ≡ handed (turned_of card) (read_of card)
 
 -- R59: write answers a and leaves the bytes m in the buffer
-abbrev pub Writes : Table → Request → (buffer : List ℕ) → WriteAnswer → List ℕ → Type 0
-Writes t q l a m = (said_written a ≡ write_of t q (length l)) × (m ≡ buffer_of t q l)
+abbrev pub Writes : Table → Request → (buffer : List ℕ) → Said ℕ → List ℕ → Type 0
+Writes t q l a m = (a ≡ write_of t q (length l)) × (m ≡ buffer_of t q l)
 
 -- R62: put_reply answers w and leaves the bytes m in the buffer
-abbrev pub Puts : Answer → (buffer : List ℕ) → Written → List ℕ → Type 0
-Puts a l w m = (said_length w ≡ length_for (answer_line (says a)) l) × (m ≡ held_after (answer_line (says a)) l)
+abbrev pub Puts : Said ℕ → (buffer : List ℕ) → Option ℕ → List ℕ → Type 0
+Puts a l w m = (w ≡ length_for (answer_line (a)) l) × (m ≡ held_after (answer_line (a)) l)
 
 -- R83: load
 abbrev pub Loads : List ℕ → Loaded → Type 0
 Loads l x = x ≡ handed_out (load_of l)
 
 -- R84: store answers a and leaves the bytes m in the buffer
-abbrev pub Stores : Table → (buffer : List ℕ) → WriteAnswer → List ℕ → Type 0
-Stores t l a m = (said_written a ≡ store_of (length l)) × (m ≡ stored_in t l)
+abbrev pub Stores : Table → (buffer : List ℕ) → Said ℕ → List ℕ → Type 0
+Stores t l a m = (a ≡ store_of (length l)) × (m ≡ stored_in t l)
 
 -- ---- over the boundary
 

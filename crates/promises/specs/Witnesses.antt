@@ -1,10 +1,10 @@
 -- R20: for each refusal an input that meets it, with the place.
-use Rattle.std.specs.Prelude.{ℕ, ◌+◌, ◌-◌, ◌^◌, List, [], ◌∷◌, ◌++◌, take, replicate}
+use Rattle.std.specs.Prelude.{Err, ℕ, ◌+◌, ◌-◌, ◌^◌, List, [], ◌∷◌, ◌++◌, take, replicate}
 use Rattle.table.specs.declared.Table.{Table}
 use Rattle.table.specs.declared.Request.{Request}
 use Rattle.table.specs.declared.Refusal.{Refusal}
 use Rattle.line.specs.Slots.{empty}
-use Rattle.table.specs.Words.{refusal, refuses}
+use Rattle.table.specs.Words.{refusal}
 use Rattle.table.specs.Cases.{CaseLine, Case, line, running, parting, waiting, table_of, tallied, table_for, request_for, case, case_a, case_g, case_i, case_j, case_l}
 use Rattle.card.specs.Layout.{TA}
 use Rattle.card.specs.Card.{card_of}
@@ -20,13 +20,13 @@ sixteen_lines = replicate 16 (line 1 64 64 0 1)
 -- R20: 1 to 10, both parts of 4
 unfoldable pub ask_meets : List Case
 ask_meets =
-    case (2 ^ 48 - 65536 + 1) [] 1 4 (refuses (refusal 1 0))
-    ∷ case 0 sixteen_lines 1 64 (refuses (refusal 2 0))
-    ∷ record { table = waiting_table; request = request_for [] 1 4; answer = refuses (refusal 3 2) }
-    ∷ case 0 (line 1 4 4 0 1 ∷ line 5 4 4 0 0 ∷ []) 1 4 (refuses (refusal 4 1))
-    ∷ record { table = tallied (1 ∷ []) 0 (table_of 0 []); request = request_for [] 1 4; answer = refuses (refusal 4 0) }
-    ∷ case 0 (line 1 4 4 0 1 ∷ line 1 4 3 0 1 ∷ []) 1 4 (refuses (refusal 5 1))
-    ∷ case 0 [] 5 4 (refuses (refusal 6 0))
+    case (2 ^ 48 - 65536 + 1) [] 1 4 (Err (refusal 1 0))
+    ∷ case 0 sixteen_lines 1 64 (Err (refusal 2 0))
+    ∷ record { table = waiting_table; request = request_for [] 1 4; answer = Err (refusal 3 2) }
+    ∷ case 0 (line 1 4 4 0 1 ∷ line 5 4 4 0 0 ∷ []) 1 4 (Err (refusal 4 1))
+    ∷ record { table = tallied (1 ∷ []) 0 (table_of 0 []); request = request_for [] 1 4; answer = Err (refusal 4 0) }
+    ∷ case 0 (line 1 4 4 0 1 ∷ line 1 4 3 0 1 ∷ []) 1 4 (Err (refusal 5 1))
+    ∷ case 0 [] 5 4 (Err (refusal 6 0))
     ∷ case_l
     ∷ case_i
     ∷ case_g

@@ -1,4 +1,5 @@
 -- What the reader's loop over the records keeps, and what each of its ways does. n is the number of slots.
+use Rattle.std.specs.Prelude.{Ok, Err}
 use mathlib.Core.Path.{◌≡◌, refl, sym, ap, ap₂, ◌∙◌}
 use mathlib.Core.List.{List, [], ◌∷◌, ◌++◌, map}
 use mathlib.Core.Bool.{Bool, true, false}
@@ -11,7 +12,7 @@ use lib.Dec.{eqb}
 use borrow.Author.Tests.{eq-eqb, ne_eqb}
 use Rattle.line.specs.Slots.{pick, empty}
 use Rattle.table.specs.declared.Table.{Table}
-use Rattle.table.specs.Words.{table_with, with_slots, request_with, refusal, Said, gives, refuses}
+use Rattle.table.specs.Words.{table_with, with_slots, request_with, refusal, Said}
 use Rattle.table.proofs.Counts.{still_unbooked}
 use Rattle.card.specs.declared.SlotRecord.{SlotRecord}
 use Rattle.card.specs.declared.Record.{Record}
@@ -68,19 +69,19 @@ module _ (gap : Bool) (at len : ℕ) (c : Card) where
   -- R57: RQ is not the end of the card
   pub closing_more : gap ≡ false → (len ≡ at + last_length → ⊥) → closing gap at (len - at) c ≡ broken (at + last_length)
   closing_more g h =
-      ap₂ (λ (o u : Bool). pick o (broken at) (pick u (gives c) (broken (at + last_length)))) g (ne_eqb (len - at) last_length (λ e. h (omega arith)))
+      ap₂ (λ (o u : Bool). pick o (broken at) (pick u (Ok c) (broken (at + last_length)))) g (ne_eqb (len - at) last_length (λ e. h (omega arith)))
 
   -- R57: RQ ends the card
-  pub closing_good : gap ≡ false → len ≡ at + last_length → closing gap at (len - at) c ≡ gives c
+  pub closing_good : gap ≡ false → len ≡ at + last_length → closing gap at (len - at) c ≡ Ok c
   closing_good g h =
-      ap₂ (λ (o u : Bool). pick o (broken at) (pick u (gives c) (broken (at + last_length)))) g (eq-eqb (len - at) last_length (omega arith))
+      ap₂ (λ (o u : Bool). pick o (broken at) (pick u (Ok c) (broken (at + last_length)))) g (eq-eqb (len - at) last_length (omega arith))
 
 -- what is handed out of the records that RQ closes
-handed_closing : (gap : Bool) (at b : ℕ) (m : Records) → handed_of (closing gap at b m) ≡ handed (turned_in (gives m)) (closing gap at b (card_for m))
+handed_closing : (gap : Bool) (at b : ℕ) (m : Records) → handed_of (closing gap at b m) ≡ handed (turned_in (Ok m)) (closing gap at b (card_for m))
 handed_closing true at b m = refl
 handed_closing false at b m = go (eqb b last_length)
   where
-    go : (o : Bool) → handed_of (pick o (gives m) (broken (at + last_length))) ≡ handed (turned_in (gives m)) (pick o (gives (card_for m)) (broken (at + last_length)))
+    go : (o : Bool) → handed_of (pick o (Ok m) (broken (at + last_length))) ≡ handed (turned_in (Ok m)) (pick o (Ok (card_for m)) (broken (at + last_length)))
     go true = refl
     go false = refl
 
@@ -90,8 +91,8 @@ in_front_closing : (rs : List SlotRecord) (gap : Bool) (at b k left c t : ℕ)
 in_front_closing rs true at b k left c t = refl
 in_front_closing rs false at b k left c t = go (eqb b last_length)
   where
-    go : (o : Bool) → put_in_front rs (pick o (gives (ending k left c t)) (broken (at + last_length)))
-        ≡ pick o (gives (saying k (rs ++ replicate left free) c t)) (broken (at + last_length))
+    go : (o : Bool) → put_in_front rs (pick o (Ok (ending k left c t)) (broken (at + last_length)))
+        ≡ pick o (Ok (saying k (rs ++ replicate left free) c t)) (broken (at + last_length))
     go true = refl
     go false = refl
 
@@ -141,7 +142,7 @@ module _ {n : ℕ} {l : List ℕ} {rs : List SlotRecord} {at i : ℕ} {gap : Boo
       (ap (λ (y : List SlotRecord). take i rs ++ y) (sym m.rest) ∙ take-append-drop i rs)
 
   -- R57: a refused record refuses the card, at its offset
-  pub mid_refused : (r : ℕ) → x ≡ Refused r → reading n l ≡ refuses (refusal r at)
+  pub mid_refused : (r : ℕ) → x ≡ Refused r → reading n l ≡ Err (refusal r at)
   mid_refused r e = m.whole ∙ ap (put_in_front (take i rs)) (records_refused (value 8 l clock_at) (n - i) gap at (drop at l) r (sym s ∙ e))
 
 -- ---- slots and entries

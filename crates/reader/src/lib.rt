@@ -1,8 +1,8 @@
 // The card reader: any bytes of any length in, a table and a request or a refusal out.
 #![tactic(auto)]
 
-ghost use Rattle.std.specs.Prelude.{◌≡◌, false, ◌+◌, ◌-◌, ◌*◌, ◌^◌, ◌≤◌, ◌<◌, length, drop};
-ghost use Rattle.table.specs.Words.{refusal, refuses};
+ghost use Rattle.std.specs.Prelude.{Err, ◌≡◌, false, ◌+◌, ◌-◌, ◌*◌, ◌^◌, ◌≤◌, ◌<◌, length, drop};
+ghost use Rattle.table.specs.Words.{refusal};
 ghost use Rattle.card.specs.Bytes.{value, mark_of, marked};
 ghost use Rattle.line.specs.Slots.{pick};
 ghost use Rattle.card.specs.Layout.{clock_at, clock_length, last_length};
@@ -11,7 +11,7 @@ ghost use Rattle.card.specs.Reading.{line_record_of, last_of, slot_record_of, re
 ghost use Rattle.card.specs.Twin.{is_old, turned_of};
 ghost use Rattle.card.specs.Answers.{handed, handed_of};
 
-use card::{CardAnswer, Mark, ReadCard, Record, SlotRecord, layout};
+use card::{Mark, ReadCard, Record, SlotRecord, layout};
 use line::Slot;
 use table::{Refusal, Request, Table};
 
@@ -123,14 +123,14 @@ fn record_at(card: &[u8], at: usize, left: usize) -> Record
 
 // R56: what is handed out beside a refusal.
 fn refused(number: u16, at: usize) -> ReadCard
-    ensures { result ≡ handed 0 (refuses (refusal number at)) }
+    ensures { result ≡ handed 0 (Err (refusal number at)) }
 {
     let refusal = Refusal::new(number, at as u64);
     ReadCard {
         table: Table::empty(),
         request: Request::new([0u16; 16], 0, 0),
         turned: 0,
-        answer: CardAnswer::Refused(refusal),
+        answer: Err(refusal),
     }
 }
 
@@ -149,7 +149,7 @@ fn closed(len: usize, at: usize, gap: bool, table: Table, request: Request, turn
         table: table,
         request: request,
         turned: turned,
-        answer: CardAnswer::Read,
+        answer: Ok(()),
     }
 }
 

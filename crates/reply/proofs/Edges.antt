@@ -1,17 +1,14 @@
 -- Lines and buffers on both sides of each edge of R61 and R62, by computation. The bytes are numbers here, so that no letter, space or digit of the definitions
 -- can change unseen.
+use Rattle.std.specs.Prelude.{Ok, Err, Option, None, Some}
+use Rattle.table.specs.Words.{Said}
 use Prim.Native.Nat.{ℕ}
 use mathlib.Core.Path.{◌≡◌, refl}
 use mathlib.Core.List.{List, [], ◌∷◌, ◌++◌, map}
-use mathlib.Core.Option.{Option, none, some}
 use native.Mathlib.Omega.{arith}
 use lib.ListN.{replicate}
-use Rattle.table.specs.declared.Answer.{Answer}
-use Rattle.table.specs.declared.Answer.TheVariants.{Start, Refused}
-use Rattle.table.specs.Words.{refusal, gives, refuses}
-use Rattle.table.specs.Ask.{says}
-use Rattle.reply.specs.declared.Written.TheVariants.{Length, Short}
-use Rattle.reply.specs.Line.{digits_in, digits, value_from, value_of, AllDigits, answer_line, AnswerWidths, Replied, said_length, length_for, held_after}
+use Rattle.table.specs.Words.{refusal}
+use Rattle.reply.specs.Line.{digits_in, digits, value_from, value_of, AllDigits, answer_line, AnswerWidths, Replied, length_for, held_after}
 
 -- a number and its digits
 pub record DigitEdge : Type 0 where
@@ -56,14 +53,14 @@ no_digit_above h = omega (arith, h.1)
 
 -- an answer and its line
 pub record LineEdge : Type 0 where
-  pub answer : Answer
+  pub answer : Said ℕ
   pub bytes : List ℕ
 
 abbrev released : ℕ → List ℕ → LineEdge
-released n l = record { answer = Start n; bytes = l }
+released n l = record { answer = Ok n; bytes = l }
 
 abbrev refused_by : (number place : ℕ) → List ℕ → LineEdge
-refused_by n k l = record { answer = Refused (refusal n k); bytes = l }
+refused_by n k l = record { answer = Err (refusal n k); bytes = l }
 
 -- `release 0`
 abbrev zero_line : List ℕ
@@ -87,7 +84,7 @@ late_line = 0x72 ∷ 0x65 ∷ 0x66 ∷ 0x75 ∷ 0x73 ∷ 0x65 ∷ 0x64 ∷ 0x20 
 
 -- R103: a refusal with these four numbers
 abbrev saying : (number place tick excess : ℕ) → List ℕ → LineEdge
-saying n k d x l = record { answer = Refused (record { number = n; place = k; tick = d; excess = x }); bytes = l }
+saying n k d x l = record { answer = Err (record { number = n; place = k; tick = d; excess = x }); bytes = l }
 
 -- `refused 9 0 0 1` and `refused 9 0 1 0`
 abbrev sum_line_with : (tick excess : ℕ) → List ℕ
@@ -112,13 +109,13 @@ line_edges =
     ∷ []
 
 -- R61: the line of each answer
-pub line_edges_lem : map (λ (e : LineEdge). answer_line (says e.answer)) line_edges ≡ map (λ (e : LineEdge). e.bytes) line_edges
+pub line_edges_lem : map (λ (e : LineEdge). answer_line (e.answer)) line_edges ≡ map (λ (e : LineEdge). e.bytes) line_edges
 unfolding digits_in digits answer_line line_edges
 line_edges_lem = refl
 
 -- R61: the greatest numbers that an answer has are among those whose line is at most 72 bytes long
-pub widest : AnswerWidths (gives 18446744073709551615)
-    × AnswerWidths (refuses (record { number = 65535; place = 18446744073709551615; tick = 18446744073709551615; excess = 4294967295 }))
+pub widest : AnswerWidths (Ok 18446744073709551615)
+    × AnswerWidths (Err (record { number = 65535; place = 18446744073709551615; tick = 18446744073709551615; excess = 4294967295 }))
 widest = (omega arith, (omega arith, omega arith, omega arith, omega arith))
 
 -- R61: a line in an array of 72 bytes, and zeros after it
@@ -127,17 +124,17 @@ replied_edge = record { within = omega arith; long = refl; first = refl; rest = 
 
 -- an answer, a lent buffer, what putting the answer's line into it says, and what it then holds
 pub record PutEdge : Type 0 where
-  pub answer : Answer
+  pub answer : Said ℕ
   pub buffer : List ℕ
   pub length : Option ℕ
   pub holds : List ℕ
 
 abbrev puts : LineEdge → List ℕ → (length : ℕ) → List ℕ → PutEdge
-puts e l n m = record { answer = e.answer; buffer = l; length = some n; holds = m }
+puts e l n m = record { answer = e.answer; buffer = l; length = Some n; holds = m }
 
 -- a buffer that is too short keeps every byte
 abbrev too_short : LineEdge → List ℕ → PutEdge
-too_short e l = record { answer = e.answer; buffer = l; length = none; holds = l }
+too_short e l = record { answer = e.answer; buffer = l; length = None; holds = l }
 
 -- a buffer of n bytes that are no line's
 abbrev lent : ℕ → List ℕ
@@ -157,7 +154,7 @@ put_edges =
 
 -- what the definitions say of the input
 abbrev pub putting : PutEdge → Option ℕ × List ℕ
-putting e = (length_for (answer_line (says e.answer)) e.buffer, held_after (answer_line (says e.answer)) e.buffer)
+putting e = (length_for (answer_line (e.answer)) e.buffer, held_after (answer_line (e.answer)) e.buffer)
 
 -- what the row says
 abbrev pub expected : PutEdge → Option ℕ × List ℕ
@@ -169,5 +166,5 @@ unfolding digits_in digits answer_line put_edges
 put_edges_lem = refl
 
 -- R62: the code's answers say their own numbers
-pub length_edges_lem : map said_length (Length 15 ∷ Short ∷ []) ≡ some 15 ∷ none ∷ []
+pub length_edges_lem : map (Some 15 ∷ None ∷ []) ≡ Some 15 ∷ None ∷ []
 length_edges_lem = refl

@@ -3,7 +3,7 @@
 use Prim.Native.Nat.{ℕ, zero, suc, ◌+◌, ◌-◌, ◌/◌, ◌%◌, ◌^◌, ◌≤◌, ◌<◌}
 use mathlib.Core.Path.{◌≡◌, refl, ap, sym, ◌∙◌}
 use mathlib.Core.List.{List, [], ◌∷◌, ◌++◌, append_assoc, append-nil}
-use mathlib.Core.Option.{none, some}
+use Rattle.std.specs.Prelude.{None, Some}
 use native.Mathlib.Numerals.{add-one}
 use native.Mathlib.Omega.{arith}
 use borrow.Author.Tests.{lt-leb, le-leb}
@@ -21,11 +21,11 @@ lay_part {ys} l bs a e =
     rw (end, append-nil, e, all)
 
 -- what is answered and what the buffer holds, where the line does not fit it and where it does
-pub too_short_lem : (line buffer : List ℕ) → length buffer < length line → (none ≡ length_for line buffer) × (buffer ≡ held_after line buffer)
+pub too_short_lem : (line buffer : List ℕ) → length buffer < length line → (None ≡ length_for line buffer) × (buffer ≡ held_after line buffer)
 too_short_lem line buffer h = (simp (lt-leb _ _ h), simp (lt-leb _ _ h))
 
 -- R62: the line fits: its length is answered, and it is laid at the start
-pub fitting : (line buffer : List ℕ) → length line ≤ length buffer → (some (length line) ≡ length_for line buffer) × (laid line buffer ≡ held_after line buffer)
+pub fitting : (line buffer : List ℕ) → length line ≤ length buffer → (Some (length line) ≡ length_for line buffer) × (laid line buffer ≡ held_after line buffer)
 fitting line buffer h = (simp (le-leb _ _ h), simp (le-leb _ _ h))
 
 -- a line that is laid on zeros, and what is left of them

@@ -1,4 +1,5 @@
 -- The line as a whole. A byte below `0` ends a number, so the digits can be taken off the front of a line in one way only: a line says which answer it is.
+use Rattle.std.specs.Prelude.{None, Some, Option, Ok, Err}
 use Prim.Native.Nat.{ℕ, ◌+◌, ◌≤◌, ◌<◌}
 use mathlib.Core.Path.{◌≡◌, refl, ap, sym, ◌∙◌}
 use mathlib.Core.Bool.{Bool, true, false, not}
@@ -10,34 +11,29 @@ use borrow.Author.Tests.{ltb-false, not-true, not-false}
 use Rattle.line.specs.Slots.{pick}
 use Rattle.line.proofs.Search.{true_false}
 use Rattle.table.specs.declared.Refusal.{Refusal}
-use Rattle.table.specs.declared.Answer.{Answer}
-use Rattle.table.specs.declared.Answer.TheVariants.{Start, Refused}
-use Rattle.table.specs.Words.{refusal, short_refusal, Said, gives, refuses}
-use Rattle.table.specs.Ask.{says}
+use Rattle.table.specs.Words.{refusal, short_refusal, Said}
 use Rattle.reply.specs.declared.Reply.{Reply}
-use Rattle.reply.specs.declared.Written.{Written}
-use Rattle.reply.specs.declared.Written.TheVariants.{Length, Short}
-use Rattle.reply.specs.Line.{said_length, length_for, held_after, digits_in, digits, AllDigits, carries, lateness, lateness_of, answer_line, AnswerWidths, Replied, line_feed, space}
+use Rattle.reply.specs.Line.{length_for, held_after, digits_in, digits, AllDigits, carries, lateness, lateness_of, answer_line, AnswerWidths, Replied, line_feed, space}
 use Rattle.reply.proofs.Digits.{digits_one, digits_are_digits, digits_short}
 
 -- R61: case A's line
-pub line_of_case_a : answer_line (says (Start 13)) ≡ 114 ∷ 101 ∷ 108 ∷ 101 ∷ 97 ∷ 115 ∷ 101 ∷ 32 ∷ 49 ∷ 51 ∷ 10 ∷ []
+pub line_of_case_a : answer_line ((Ok 13)) ≡ 114 ∷ 101 ∷ 108 ∷ 101 ∷ 97 ∷ 115 ∷ 101 ∷ 32 ∷ 49 ∷ 51 ∷ 10 ∷ []
 unfolding digits_in digits answer_line
 line_of_case_a = refl
 
 -- R61: refusal 9 at place 0 is `refused 9 0` and a newline
-pub line_of_refusal_9 : answer_line (says (Refused (refusal 9 0))) ≡ 114 ∷ 101 ∷ 102 ∷ 117 ∷ 115 ∷ 101 ∷ 100 ∷ 32 ∷ 57 ∷ 32 ∷ 48 ∷ 10 ∷ []
+pub line_of_refusal_9 : answer_line ((Err (refusal 9 0))) ≡ 114 ∷ 101 ∷ 102 ∷ 117 ∷ 115 ∷ 101 ∷ 100 ∷ 32 ∷ 57 ∷ 32 ∷ 48 ∷ 10 ∷ []
 unfolding digits_in digits answer_line
 line_of_refusal_9 = refl
 
 -- R61, R103: case J's line is `refused 10 0 3 2`
-pub line_of_case_j : answer_line (says (Refused (short_refusal 3 2))) ≡ 114 ∷ 101 ∷ 102 ∷ 117 ∷ 115 ∷ 101 ∷ 100 ∷ 32 ∷ 49 ∷ 48 ∷ 32 ∷ 48 ∷ 32 ∷ 51 ∷ 32 ∷ 50 ∷ 10 ∷ []
+pub line_of_case_j : answer_line ((Err (short_refusal 3 2))) ≡ 114 ∷ 101 ∷ 102 ∷ 117 ∷ 115 ∷ 101 ∷ 100 ∷ 32 ∷ 49 ∷ 48 ∷ 32 ∷ 48 ∷ 32 ∷ 51 ∷ 32 ∷ 50 ∷ 10 ∷ []
 unfolding digits_in digits answer_line
 line_of_case_j = refl
 
 -- R61: the line of the greatest numbers has 67 bytes
 pub line_of_the_longest :
-    length (answer_line (says (Refused (record { number = 65535; place = 18446744073709551615; tick = 18446744073709551615; excess = 4294967295 })))) ≡ 67
+    length (answer_line ((Err (record { number = 65535; place = 18446744073709551615; tick = 18446744073709551615; excess = 4294967295 })))) ≡ 67
 unfolding digits_in digits answer_line
 line_of_the_longest = refl
 
@@ -59,11 +55,11 @@ numbers m n t u a b ha hb e =
     let r = runs (digits m) (digits n) t u a b (digits_are_digits m) (digits_are_digits n) ha hb e in
     (digits_one m n r.0, r.1, r.2)
 
-gives_one : (r s : ℕ) → answer_line (gives r) ≡ answer_line (gives s) → r ≡ s
+gives_one : (r s : ℕ) → answer_line (Ok r) ≡ answer_line (Ok s) → r ≡ s
 unfolding answer_line
 gives_one r s e = (numbers r s [] [] 10 10 (omega arith) (omega arith) (ap (drop 8) e)).0
 
-differ : (r : ℕ) (x : Refusal) → answer_line (gives r) ≡ answer_line (refuses x) → ⊥
+differ : (r : ℕ) (x : Refusal) → answer_line (Ok r) ≡ answer_line (Err x) → ⊥
 unfolding answer_line
 differ r x e = let z : ◌≡◌ {A = ℕ} 108 102 = ap (λ (l : List ℕ). get_or l 2 0) e in omega arith
 
@@ -108,7 +104,7 @@ behind_one x y false false p q e f =
     let t = carries_none y q in
     (s.0 ∙ sym t.0, s.1 ∙ sym t.1)
 
-refuses_one : (x y : Refusal) → answer_line (refuses x) ≡ answer_line (refuses y) → x ≡ y
+refuses_one : (x y : Refusal) → answer_line (Err x) ≡ answer_line (Err y) → x ≡ y
 unfolding answer_line
 refuses_one x y e =
     let w = sym (from_number x.number x.place (carries x) x.tick x.excess) ∙ ap (drop 8) e ∙ from_number y.number y.place (carries y) y.tick y.excess in
@@ -119,22 +115,22 @@ refuses_one x y e =
 
 -- R61: two different answers have different lines
 pub line_unique : (s t : Said ℕ) → answer_line s ≡ answer_line t → s ≡ t
-line_unique (gives r) (gives s) e = ap gives (gives_one r s e)
-line_unique (gives r) (refuses x) e = absurd (differ r x e)
-line_unique (refuses x) (gives r) e = absurd (differ r x (sym e))
-line_unique (refuses x) (refuses y) e = ap refuses (refuses_one x y e)
+line_unique (Ok r) (Ok s) e = ap Ok (gives_one r s e)
+line_unique (Ok r) (Err x) e = absurd (differ r x e)
+line_unique (Err x) (Ok r) e = absurd (differ r x (sym e))
+line_unique (Err x) (Err y) e = ap Err (refuses_one x y e)
 
 -- R61: the same of the code's answers
-pub answer_unique : (a b : Answer) → answer_line (says a) ≡ answer_line (says b) → a ≡ b
-answer_unique (Start r) (Start s) e = let h : gives r ≡ gives s = line_unique _ _ e in cc
-answer_unique (Start r) (Refused x) e = let h : gives r ≡ refuses x = line_unique _ _ e in cc
-answer_unique (Refused x) (Start r) e = let h : refuses x ≡ gives r = line_unique _ _ e in cc
-answer_unique (Refused x) (Refused y) e = let h : ◌≡◌ {A = Said ℕ} (refuses x) (refuses y) = line_unique _ _ e in cc
+pub answer_unique : (a b : Said ℕ) → answer_line (a) ≡ answer_line (b) → a ≡ b
+answer_unique (Ok r) (Ok s) e = let h : Ok r ≡ Ok s = line_unique _ _ e in cc
+answer_unique (Ok r) (Err x) e = let h : Ok r ≡ Err x = line_unique _ _ e in cc
+answer_unique (Err x) (Ok r) e = let h : Err x ≡ Ok r = line_unique _ _ e in cc
+answer_unique (Err x) (Err y) e = let h : ◌≡◌ {A = Said ℕ} (Err x) (Err y) = line_unique _ _ e in cc
 
 -- ---- how long a line is
 
 -- R61: how long a start's line is
-pub gives_length : (r : ℕ) → length (answer_line (gives r)) ≡ 9 + length (digits r)
+pub gives_length : (r : ℕ) → length (answer_line (Ok r)) ≡ 9 + length (digits r)
 unfolding answer_line
 gives_length r = simp length-append (omega arith)
 
@@ -151,23 +147,23 @@ pub some_said : {b : Bool} (x : Refusal) → b ≡ carries x → not b ≡ false
 some_said {b} x e h = ap (λ (c : Bool). lateness c x.tick x.excess) (sym e ∙ not-false b h)
 
 -- R61: how long a refusal's line is
-pub refuses_length : (x : Refusal) → length (answer_line (refuses x)) ≡ 10 + length (digits x.number) + length (digits x.place) + length (lateness_of x)
+pub refuses_length : (x : Refusal) → length (answer_line (Err x)) ≡ 10 + length (digits x.number) + length (digits x.place) + length (lateness_of x)
 unfolding answer_line
 refuses_length x = simp length-append (omega arith)
 
 -- the length of a line by the numbers of digits in it
-pub start_length : {a : Answer} (r k : ℕ) → a ≡ Start r → k ≡ length (digits r) → 9 + k ≡ length (answer_line (says a))
+pub start_length : {a : Said ℕ} (r k : ℕ) → a ≡ Ok r → k ≡ length (digits r) → 9 + k ≡ length (answer_line (a))
 start_length r k e h = rw e (omega (arith, gives_length r))
 
 -- the same of the code's refusal, its digits counted
-pub refused_length : {a : Answer} (x : Refusal) (n m k j : ℕ) → a ≡ Refused x → n ≡ x.number → m ≡ length (digits n) → k ≡ length (digits x.place) → j ≡ length (lateness_of x)
-    → 10 + m + k + j ≡ length (answer_line (says a))
+pub refused_length : {a : Said ℕ} (x : Refusal) (n m k j : ℕ) → a ≡ Err x → n ≡ x.number → m ≡ length (digits n) → k ≡ length (digits x.place) → j ≡ length (lateness_of x)
+    → 10 + m + k + j ≡ length (answer_line (a))
 refused_length x n m k j e f g h i = rw e (omega (arith, refuses_length x, ap (λ (y : ℕ). length (digits y)) f))
 
 -- R61: 72 bytes are enough: a number of 64 bits has at most 20 digits, one of 32 at most 10, and one of 16 at most 5
 pub line_length_lem : (s : Said ℕ) → AnswerWidths s → length (answer_line s) ≤ 72
-line_length_lem (gives r) h = omega (arith, gives_length r, digits_short 19 r (omega arith))
-line_length_lem (refuses x) h =
+line_length_lem (Ok r) h = omega (arith, gives_length r, digits_short 19 r (omega arith))
+line_length_lem (Err x) h =
     omega (
       arith,
       refuses_length x,
@@ -192,15 +188,15 @@ reply_settled line r s v w =
     sym (take-append-drop r.len r.bytes) ∙ rw (f, g) (take-append-drop s.len s.bytes) in
     rw (n, b)
 
-length_one : (r s : Written) → said_length r ≡ said_length s → r ≡ s
-length_one (Length m) (Length n) e = cc
-length_one (Length m) Short e = cc
-length_one Short (Length n) e = cc
-length_one Short Short e = refl
+length_one : (r s : Option ℕ) → r ≡ s → r ≡ s
+length_one (Some m) (Some n) e = cc
+length_one (Some m) None e = cc
+length_one None (Some n) e = cc
+length_one None None e = refl
 
 -- R71: and so are what putting a line into a buffer may answer and what the buffer may then hold
-pub put_reply_settled : (line buffer : List ℕ) (r s : Written) (m n : List ℕ)
-    → (said_length r ≡ length_for line buffer) × (m ≡ held_after line buffer)
-    → (said_length s ≡ length_for line buffer) × (n ≡ held_after line buffer)
+pub put_reply_settled : (line buffer : List ℕ) (r s : Option ℕ) (m n : List ℕ)
+    → (r ≡ length_for line buffer) × (m ≡ held_after line buffer)
+    → (s ≡ length_for line buffer) × (n ≡ held_after line buffer)
     → (r ≡ s) × (m ≡ n)
 put_reply_settled line buffer r s m n v w = (length_one r s (v.0 ∙ sym w.0), v.1 ∙ sym w.1)

@@ -1,12 +1,9 @@
 -- The line of an answer (R61): its bytes, and what holds them.
-use Rattle.std.specs.Prelude.{ℕ, zero, suc, ◌+◌, ◌-◌, ◌*◌, ◌/◌, ◌%◌, ◌^◌, ◌≤◌, ◌<◌, ◌≡◌, Bool, true, false, List, [], ◌∷◌, ◌++◌, ltb, leb, length, take, drop, replicate}
-use Rattle.std.proofs.Math.Option.{Option, none, some}
+use Rattle.std.specs.Prelude.{Ok, Err, ℕ, zero, suc, ◌+◌, ◌-◌, ◌*◌, ◌/◌, ◌%◌, ◌^◌, ◌≤◌, ◌<◌, ◌≡◌, Bool, true, false, List, [], ◌∷◌, ◌++◌, ltb, leb, length, take, drop, replicate, Option, None, Some}
 use Rattle.line.specs.Slots.{pick}
 use Rattle.table.specs.declared.Refusal.{Refusal}
-use Rattle.table.specs.Words.{Said, gives, refuses}
+use Rattle.table.specs.Words.{Said}
 use Rattle.reply.specs.declared.Reply.{Reply}
-use Rattle.reply.specs.declared.Written.{Written}
-use Rattle.reply.specs.declared.Written.TheVariants.{Length, Short}
 
 -- R61: the digit d in ASCII
 abbrev pub glyph : ℕ → ℕ
@@ -71,13 +68,13 @@ lateness_of x = lateness (carries x) x.tick x.excess
 
 -- R61: the whole line, newline included
 unfoldable pub answer_line : Said ℕ → List ℕ
-answer_line (gives r) = release ++ digits r ++ line_feed
-answer_line (refuses x) = refused ++ digits x.number ++ space ++ digits x.place ++ lateness_of x ++ line_feed
+answer_line (Ok r) = release ++ digits r ++ line_feed
+answer_line (Err x) = refused ++ digits x.number ++ space ++ digits x.place ++ lateness_of x ++ line_feed
 
 -- R17, R61: the numbers are of the widths that an answer has: a start, a place and a tick of 64 bits, an excess of 32, a refusal's number of 16
 abbrev pub AnswerWidths : Said ℕ → Type 0
-AnswerWidths (gives r) = r < 2 ^ 64
-AnswerWidths (refuses x) = (x.number < 2 ^ 16) × (x.place < 2 ^ 64) × (x.tick < 2 ^ 64) × (x.excess < 2 ^ 32)
+AnswerWidths (Ok r) = r < 2 ^ 64
+AnswerWidths (Err x) = (x.number < 2 ^ 16) × (x.place < 2 ^ 64) × (x.tick < 2 ^ 64) × (x.excess < 2 ^ 32)
 
 -- bytes that are 0
 abbrev pub zeros : ℕ → List ℕ
@@ -99,9 +96,9 @@ abbrev pub laid_from : (at : ℕ) (bytes buffer : List ℕ) → List ℕ
 laid_from at bytes buffer = take at buffer ++ laid bytes (drop at buffer)
 
 -- the length that is answered, or none for a buffer that is too short
-abbrev pub said_length : Written → Option ℕ
-said_length (Length n) = some n
-said_length Short = none
+abbrev pub said_length : Option ℕ → Option ℕ
+(Some n) = Some n
+None = None
 
 -- R33: the line fits the buffer
 abbrev pub fits : (line buffer : List ℕ) → Bool
@@ -109,7 +106,7 @@ fits line buffer = leb (length line) (length buffer)
 
 -- R33, R62: what putting the line into the buffer answers
 abbrev pub length_for : (line buffer : List ℕ) → Option ℕ
-length_for line buffer = pick (fits line buffer) (some (length line)) none
+length_for line buffer = pick (fits line buffer) (Some (length line)) None
 
 -- R17, R62: what the buffer then holds: the line and after it the bytes that were there, or every byte as it was
 abbrev pub held_after : (line buffer : List ℕ) → List ℕ

@@ -1,12 +1,10 @@
 // The line that the answering program prints.
 #![tactic(auto)]
 
-ghost use Rattle.std.specs.Prelude.{◌≡◌, ◌+◌, ◌≤◌, ◌<◌, length};
-ghost use Rattle.table.specs.Words.{gives, refuses};
-ghost use Rattle.table.specs.Ask.{says};
-ghost use Rattle.reply.specs.Line.{digits, carries, lateness_of, answer_line, laid, laid_from, Replied, said_length, length_for, held_after};
+ghost use Rattle.std.specs.Prelude.{Option, Ok, Err, ◌≡◌, ◌+◌, ◌≤◌, ◌<◌, length};
+ghost use Rattle.reply.specs.Line.{digits, carries, lateness_of, answer_line, laid, laid_from, Replied, length_for, held_after};
 
-use table::{Answer, Refusal};
+use table::Refusal;
 
 // R61: a line in an array that is long enough for every answer: its first `len` bytes are the line, and the rest are 0.
 #[derive(Clone, Copy)]
@@ -17,14 +15,14 @@ pub struct Reply {
 
 // R33, R62: what putting a line into a lent buffer answers: the line's length, or that the buffer is too short for it.
 #[derive(Clone, Copy)]
-pub enum Written {
+pub enum Option<usize> {
     Length(usize),
     Short,
 }
 
 // R61: the line for an answer.
-pub fn reply_to(a: Answer) -> Reply
-    ensures { Replied (answer_line (says a)) result }
+pub fn reply_to(a: Result<u64, Refusal>) -> Reply
+    ensures { Replied (answer_line (a)) result }
 {
     let len = line_len(a);
     let mut bytes = [0u8; 72];
@@ -33,25 +31,25 @@ pub fn reply_to(a: Answer) -> Reply
 }
 
 // R33, R62: puts the line for an answer at the start of a lent buffer. One that is too short keeps every byte.
-pub fn put_reply(a: Answer, out: &mut [u8]) -> Written
-    ensures length_said { said_length result ≡ length_for (answer_line (says a)) out.old }
-    ensures buffer_after { out.new ≡ held_after (answer_line (says a)) out.old }
+pub fn put_reply(a: Result<u64, Refusal>, out: &mut [u8]) -> Option<usize>
+    ensures length_said { result ≡ length_for (answer_line (a)) out.old }
+    ensures buffer_after { out.new ≡ held_after (answer_line (a)) out.old }
 {
     let len = line_len(a);
     if out.len() < len {
-        return Written::Short;
+        return None;
     }
     put_line(out, a);
-    Written::Length(len)
+    Some(len)
 }
 
 // R61: the length of an answer's line.
-fn line_len(a: Answer) -> usize
-    ensures { (result ≡ length (answer_line (says a))) × (result ≤ 72) }
+fn line_len(a: Result<u64, Refusal>) -> usize
+    ensures { (result ≡ length (answer_line (a))) × (result ≤ 72) }
 {
     match a {
-        Answer::Start(start) => 9 + places(start),
-        Answer::Refused(x) => 10 + places(wide(x.number)) + places(x.place) + lateness_len(x),
+        Ok(start) => 9 + places(start),
+        Err(x) => 10 + places(wide(x.number)) + places(x.place) + lateness_len(x),
     }
 }
 
@@ -76,20 +74,20 @@ fn lateness_len(x: Refusal) -> usize
 }
 
 // R61: puts the line for an answer at the start of out.
-fn put_line(out: &mut [u8], a: Answer)
-    requires { length (answer_line (says a)) ≤ length out.old }
-    ensures { out.new ≡ laid (answer_line (says a)) out.old }
+fn put_line(out: &mut [u8], a: Result<u64, Refusal>)
+    requires { length (answer_line (a)) ≤ length out.old }
+    ensures { out.new ≡ laid (answer_line (a)) out.old }
 {
     match a {
-        Answer::Start(start) => put_release(out, start),
-        Answer::Refused(x) => put_refused(out, x),
+        Ok(start) => put_release(out, start),
+        Err(x) => put_refused(out, x),
     }
 }
 
 // R61: `release` and the start.
 fn put_release(out: &mut [u8], start: u64)
-    requires { length (answer_line (gives start)) ≤ length out.old }
-    ensures { out.new ≡ laid (answer_line (gives start)) out.old }
+    requires { length (answer_line (Ok start)) ≤ length out.old }
+    ensures { out.new ≡ laid (answer_line (Ok start)) out.old }
 {
     let at = add_bytes(out, 0, b"release ");
     let end = add_number(out, at, start);
@@ -98,8 +96,8 @@ fn put_release(out: &mut [u8], start: u64)
 
 // R61, R103: `refused`, the refusal's number and its place, and the tick and the excess where it says them.
 fn put_refused(out: &mut [u8], x: Refusal)
-    requires { length (answer_line (refuses x)) ≤ length out.old }
-    ensures { out.new ≡ laid (answer_line (refuses x)) out.old }
+    requires { length (answer_line (Err x)) ≤ length out.old }
+    ensures { out.new ≡ laid (answer_line (Err x)) out.old }
 {
     let number = wide(x.number);
     let place = x.place;

@@ -2,13 +2,13 @@
 use Prim.Native.Nat.{ℕ}
 use mathlib.Core.Path.{◌≡◌, refl}
 use mathlib.Core.List.{List, [], ◌∷◌, ◌++◌, map}
-use mathlib.Core.Option.{Option}
+use Rattle.std.specs.Prelude.{Option}
 use lib.ListN.{replicate}
 use Rattle.line.specs.declared.Slot.{Slot}
 use Rattle.line.specs.Slots.{empty, lowest}
 use Rattle.table.specs.Words.{no_slot, Said}
 use Rattle.table.specs.Counts.{settling}
-use Rattle.table.specs.Step.{says_ran, chosen, advance, step_of}
+use Rattle.table.specs.Step.{chosen, advance, step_of}
 use Rattle.table.specs.Cases.{running, parting, waiting, table_of, ran_last}
 use Rattle.table.proofs.StepCases.{ran, nobody, refused}
 
@@ -99,7 +99,7 @@ last_cases = among_equals ++ (sooner_ends ++ (not_owed ++ (idle_ticks ++ (period
 
 -- R44, R105: each of them
 pub all_last_cases :
-    map {B = Said (Option ℕ) × ℕ} (λ (c : LastCase). (says_ran (step_of (ran_last c.last (table_of 20 c.slots))).outcome, (step_of (ran_last c.last (table_of 20 c.slots))).table.last)) last_cases
-    ≡ map (λ (c : LastCase). (c.says, c.next)) last_cases
+    map {B = Said (Option ℕ) × ℕ} (λ (c : LastCase). ((step_of (ran_last c.last (table_of 20 c.slots))).outcome, (step_of (ran_last c.last (table_of 20 c.slots))).table.last)) last_cases
+    ≡ map (λ (c : LastCase). c.says, c.next) last_cases
 unfolding lowest chosen settling advance step_of last_cases
 all_last_cases = refl

@@ -1,12 +1,13 @@
 -- Leaving, R100, by computation: what asking a slot's line to leave says, and the table that it leaves.
+use Rattle.std.specs.Prelude.{Ok, Err}
 use Prim.Native.Nat.{ℕ, ◌-◌, ◌^◌}
 use mathlib.Core.Path.{◌≡◌, refl}
 use mathlib.Core.List.{List, [], ◌∷◌, ◌++◌, map}
 use lib.ListN.{replicate}
 use Rattle.line.specs.Slots.{empty, lowest}
 use Rattle.table.specs.declared.Table.{Table}
-use Rattle.table.specs.Words.{no_slot, refusal, Said, gives, refuses}
-use Rattle.table.specs.Leave.{says_leaving, leave_of}
+use Rattle.table.specs.Words.{no_slot, refusal, Said}
+use Rattle.table.specs.Leave.{leave_of}
 use Rattle.table.specs.Cases.{running, parting, waiting, table_of, tallied, tallied_with, ran_last}
 
 -- a table, the number named, what is said, and the table then
@@ -17,10 +18,10 @@ pub record LeaveCase : Type 0 where
   pub next : Table
 
 abbrev goes : Table → (number ticks : ℕ) → Table → LeaveCase
-goes t n k u = record { before = t; number = n; says = gives k; next = u }
+goes t n k u = record { before = t; number = n; says = Ok k; next = u }
 
 abbrev keeps : Table → (number refused place : ℕ) → LeaveCase
-keeps t n r k = record { before = t; number = n; says = refuses (refusal r k); next = t }
+keeps t n r k = record { before = t; number = n; says = Err (refusal r k); next = t }
 
 -- one of each: slot 0 runs, slot 1 waits, slot 2 leaves, slot 3 holds nothing, slot 15 is at the beginning of a period
 abbrev mixed : Table
@@ -85,7 +86,7 @@ leave_cases = lets ++ (lasts ++ (nobody ++ orders))
 
 -- R100: each table with the number named
 pub all_leave_cases :
-    map {B = Said ℕ × Table} (λ (c : LeaveCase). (says_leaving (leave_of c.before c.number).leaving, (leave_of c.before c.number).table)) leave_cases
-    ≡ map (λ (c : LeaveCase). (c.says, c.next)) leave_cases
+    map {B = Said ℕ × Table} (λ (c : LeaveCase). ((leave_of c.before c.number).leaving, (leave_of c.before c.number).table)) leave_cases
+    ≡ map (λ (c : LeaveCase). c.says, c.next) leave_cases
 unfolding lowest leave_of leave_cases
 all_leave_cases = refl

@@ -1,8 +1,8 @@
 -- The step's branches, over plain values: what each return shows, from what the calls ensure; and that a refused step keeps the table.
+use Rattle.std.specs.Prelude.{Ok, Err, Option, None, Some}
 use Prim.Native.Nat.{ℕ, ◌+◌, ◌^◌, ◌≤◌, ◌<◌}
 use mathlib.Core.Path.{◌≡◌, refl, ap, ap₂, sym, ◌∙◌, subst}
 use mathlib.Core.Bool.{Bool, true, false}
-use mathlib.Core.Option.{Option, none, some}
 use mathlib.Core.List.{List, [], ◌∷◌, map}
 use native.Mathlib.Omega.{arith}
 use native.Mathlib.Nat.{suc_inj}
@@ -13,12 +13,9 @@ use lib.Seq.{get_or-set_same, get_or-set_other}
 use Rattle.line.specs.declared.Slot.{Slot}
 use Rattle.table.specs.declared.Table.{Table}
 use Rattle.table.specs.declared.Refusal.{Refusal}
-use Rattle.table.specs.declared.Which.{Which}
-use Rattle.table.specs.declared.Which.TheVariants.{None, At}
-use Rattle.table.specs.declared.Outcome.TheVariants.{Ran, Refused}
 use Rattle.table.specs.declared.Stepped.{Stepped}
 use Rattle.line.specs.Slots.{pick, empty, slot_at, at, map_at, lowest_of}
-use Rattle.table.specs.Words.{with_slots, booked_as, later_with, slot_of, which_of}
+use Rattle.table.specs.Words.{with_slots, booked_as, later_with}
 use Rattle.table.specs.Counts.{accounted, fault, counting, settle, settling}
 use Rattle.table.specs.Step.{choose, serve, served_at, pass, refused_step, step_unless, departs_in, ticked, advance, step_of}
 use Rattle.line.specs.Tick.{served_slot, passed_slot, short, departs}
@@ -58,25 +55,25 @@ clocked k t = record { clock = k; slots = t.slots; had = t.had; idle = t.idle; d
 
 -- serving leaves the number of slots as it was
 pub length_serve : (o : Option ℕ) (l : List Slot) → length (serve o l) ≡ length l
-length_serve none l = refl
-length_serve (some k) l = length-set l k (served_slot (slot_at l k))
+length_serve None l = refl
+length_serve (Some k) l = length-set l k (served_slot (slot_at l k))
 
 -- slot i, which holds s, and the slot that the code names
-module _ {w : Which} {k i : ℕ} (s : Slot) (e : w ≡ At k) where
+module _ {w : Option ℕ} {k i : ℕ} (s : Slot) (e : w ≡ Some k) where
   -- R45: it is named
-  pub served_here : k ≡ i → served_slot s ≡ served_at (slot_of w) i s
+  pub served_here : k ≡ i → served_slot s ≡ served_at (w) i s
   served_here z = rw (e, eq-eqb k i z)
 
   -- R45: another is named
-  pub served_other : (k ≡ i → ⊥) → s ≡ served_at (slot_of w) i s
+  pub served_other : (k ≡ i → ⊥) → s ≡ served_at (w) i s
   served_other n = rw (e, ne_eqb k i n)
 
 -- R45: slot i of those among which one is served
 at_serve : (o : Option ℕ) (l : List Slot) (i : ℕ) → i < length l → slot_at (serve o l) i ≡ served_at o i (slot_at l i)
-at_serve none l i h = refl
-at_serve (some k) l i h = go (eqb k i) refl
+at_serve None l i h = refl
+at_serve (Some k) l i h = go (eqb k i) refl
   where
-    go : (b : Bool) → eqb k i ≡ b → slot_at (serve (some k) l) i ≡ pick b (served_slot (slot_at l i)) (slot_at l i)
+    go : (b : Bool) → eqb k i ≡ b → slot_at (serve (Some k) l) i ≡ pick b (served_slot (slot_at l i)) (slot_at l i)
     go true e = let z : k ≡ i = eqb-true k i e in rw z (get_or-set_same l i (served_slot (slot_at l i)) empty h)
     go false e = get_or-set_other l k i (served_slot (slot_at l k)) empty (λ z. eqb-false k i e (sym z))
 
@@ -89,14 +86,14 @@ map_from f (x ∷ l) [] e = absurd (omega arith)
 map_from f (x ∷ l) (y ∷ m) e = ap (λ (r : List Slot). f y ∷ r) (map_from f l m (suc_inj e))
 
 -- a slot named by the code's answer, and back
-which_of_lem : (w : Which) → w ≡ which_of (slot_of w)
+which_of_lem : (w : Option ℕ) → w ≡ (w)
 which_of_lem None = refl
-which_of_lem (At k) = refl
+which_of_lem (Some k) = refl
 
 -- a slot given to the code's answer is the slot that it names
-pub slot_of_which : (o : Option ℕ) → slot_of (which_of o) ≡ o
-slot_of_which none = refl
-slot_of_which (some k) = refl
+pub slot_of_which : (o : Option ℕ) → o ≡ o
+slot_of_which None = refl
+slot_of_which (Some k) = refl
 
 -- R97, R101: a tick counted, and who departs with it from the first i slots
 abbrev booked_to : ℕ → Option ℕ → Table → Table
@@ -129,7 +126,7 @@ module _ {o : Option ℕ} {t v : Table} {i : ℕ} (x : Ticking o t v i) where
     tick_sees = sym (e ∙ ap (λ (y : Slot). short y.held) tick_here)
 
     -- R34: its period ends short
-    pub tick_short : b ≡ true → lowest_of short (serve o t.slots) ≡ some i
+    pub tick_short : b ≡ true → lowest_of short (serve o t.slots) ≡ Some i
     tick_short z = look_stop x.fine (inside h) (tick_sees ∙ z)
 
     -- R45 to R47: it does not, and the slot is a tick later, its line departed or not
@@ -170,7 +167,7 @@ module _ {o : Option ℕ} {t v : Table} {i : ℕ} (x : Ticking o t v i) where
       omega (arith, only_accounted x.counted, settling_accounted (departs_in o t.slots) i (counting o t), tick_within o t.had t.idle)
 
   -- all slots are passed: what is left is the clock
-  pub tick_end : 16 ≤ i → (lowest_of short (serve o t.slots) ≡ none) × (clocked (t.clock + 1) v ≡ (ticked o t).table)
+  pub tick_end : 16 ≤ i → (lowest_of short (serve o t.slots) ≡ None) × (clocked (t.clock + 1) v ≡ (ticked o t).table)
   tick_end h =
       let n = length_serve o t.slots in
       let e = map_end x.later h ∙ map_from passed_slot t.slots (serve o t.slots) (sym n) in
@@ -179,21 +176,21 @@ module _ {o : Option ℕ} {t v : Table} {i : ℕ} (x : Ticking o t v i) where
         ap (clocked (t.clock + 1)) (only_end_lem x.counted e) ∙ ap (λ (k : ℕ). booked_as (booked_to k o t) (later_with t (pass (serve o t.slots)))) m,
       )
 
-module _ (t : Table) (w : Which) where
-  advance_by : (o : Option ℕ) → lowest_of short (serve (slot_of w) t.slots) ≡ o → step_unless o 14 t (ticked (slot_of w) t) ≡ advance (slot_of w) t
+module _ (t : Table) (w : Option ℕ) where
+  advance_by : (o : Option ℕ) → lowest_of short (serve (w) t.slots) ≡ o → step_unless o 14 t (ticked (w) t) ≡ advance (w) t
   unfolding advance
-  advance_by o e = ap (λ (p : Option ℕ). step_unless p 14 t (ticked (slot_of w) t)) (sym e)
+  advance_by o e = ap (λ (p : Option ℕ). step_unless p 14 t (ticked (w) t)) (sym e)
 
   -- R34: a period ends short
-  pub advance_short : {k : ℕ} → lowest_of short (serve (slot_of w) t.slots) ≡ some k → refused_step t 14 k ≡ advance (slot_of w) t
-  advance_short {k} e = advance_by (some k) e
+  pub advance_short : {k : ℕ} → lowest_of short (serve (w) t.slots) ≡ Some k → refused_step t 14 k ≡ advance (w) t
+  advance_short {k} e = advance_by (Some k) e
 
   -- R45 to R47: none does, and every slot is a tick later
-  pub advance_fine : {next : Table} → (lowest_of short (serve (slot_of w) t.slots) ≡ none) × (next ≡ (ticked (slot_of w) t).table)
-      → ◌≡◌ {A = Stepped} (record { table = next; outcome = Ran w }) (advance (slot_of w) t)
+  pub advance_fine : {next : Table} → (lowest_of short (serve (w) t.slots) ≡ None) × (next ≡ (ticked (w) t).table)
+      → ◌≡◌ {A = Stepped} (record { table = next; outcome = Ok w }) (advance (w) t)
   advance_fine e =
-      ap₂ (λ (x : Table) (y : Which). let s : Stepped = record { table = x; outcome = Ran y } in s) e.1 (which_of_lem w)
-      ∙ advance_by none e.0
+      ap₂ (λ (x : Table) (y : Option ℕ). let s : Stepped = record { table = x; outcome = Ok y } in s) e.1 (which_of_lem w)
+      ∙ advance_by None e.0
 
 module _ (t : Table) where
   -- R35: at the last tick the step is refused with 15
@@ -207,35 +204,35 @@ module _ (t : Table) where
     step_by o e = rw (lt-leb (2 ^ 48) t.clock early) (ap (λ (p : Option ℕ). step_unless p 4 t (advance (choose t) t)) (sym e))
 
     -- R24: with an unsound line, or too many counts, it is refused with 4 there
-    pub step_faulty : {k : ℕ} → fault t ≡ some k → refused_step t 4 k ≡ step_of t
-    step_faulty {k} e = step_by (some k) e
+    pub step_faulty : {k : ℕ} → fault t ≡ Some k → refused_step t 4 k ≡ step_of t
+    step_faulty {k} e = step_by (Some k) e
 
     -- R44: else the tick goes to the choice
-    pub step_fine : (w : Which) → fault t ≡ none → slot_of w ≡ choose t → advance (slot_of w) t ≡ step_of t
-    step_fine w e g = ap (λ (o : Option ℕ). advance o t) g ∙ step_by none e
+    pub step_fine : (w : Option ℕ) → fault t ≡ None → w ≡ choose t → advance (w) t ≡ step_of t
+    step_fine w e g = ap (λ (o : Option ℕ). advance o t) g ∙ step_by None e
 
 module _ (t : Table) (x : Refusal) where
   abbrev Keeps : Stepped → Type 0
-  Keeps s = s.outcome ≡ Refused x → s.table ≡ t
+  Keeps s = s.outcome ≡ Err x → s.table ≡ t
 
   keeps_unless : (o : Option ℕ) (n : ℕ) (s : Stepped) → Keeps s → Keeps (step_unless o n t s)
-  keeps_unless none n s v = v
-  keeps_unless (some k) n s v = λ e. refl
+  keeps_unless None n s v = v
+  keeps_unless (Some k) n s v = λ e. refl
 
   keeps_pick : (b : Bool) (s : Stepped) → Keeps s → Keeps (pick b (refused_step t 15 0) s)
   keeps_pick true s v = λ e. refl
   keeps_pick false s v = v
 
-  keeps_ran : (w : Which) (s : Stepped) → s.outcome ≡ Ran w → Keeps s
+  keeps_ran : (w : Option ℕ) (s : Stepped) → s.outcome ≡ Ok w → Keeps s
   keeps_ran w s e f = let z : ◌≡◌ {A = ℕ} 0 1 = cc in absurd (omega arith)
 
   advance_keeps : (o : Option ℕ) → Keeps (advance o t)
   unfolding advance
   advance_keeps o =
-      keeps_unless (lowest_of short (serve o t.slots)) 14 (ticked o t) (keeps_ran (which_of o) (ticked o t) refl)
+      keeps_unless (lowest_of short (serve o t.slots)) 14 (ticked o t) (keeps_ran (o) (ticked o t) refl)
 
   -- R48, R17: a refused step keeps the table
-  pub refused_keeps : (step_of t).outcome ≡ Refused x → (step_of t).table ≡ t
+  pub refused_keeps : (step_of t).outcome ≡ Err x → (step_of t).table ≡ t
   unfolding step_of
   refused_keeps =
       let s : Stepped = advance (choose t) t in

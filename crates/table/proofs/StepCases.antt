@@ -1,15 +1,15 @@
 -- The step, R44 to R48, by computation: what so many steps of a table say, and the table that they leave.
+use Rattle.std.specs.Prelude.{Ok, Err, Option, None, Some}
 use Prim.Native.Nat.{ℕ, zero, suc, ◌+◌, ◌-◌, ◌^◌}
 use mathlib.Core.Path.{◌≡◌, refl}
 use mathlib.Core.List.{List, [], ◌∷◌, ◌++◌, map}
-use mathlib.Core.Option.{Option, none, some}
 use lib.ListN.{length, replicate}
 use Rattle.line.specs.declared.Slot.{Slot}
 use Rattle.table.specs.declared.Table.{Table}
 use Rattle.line.specs.Slots.{empty, lowest}
-use Rattle.table.specs.Words.{no_slot, refusal, Said, gives, refuses}
+use Rattle.table.specs.Words.{no_slot, refusal, Said}
 use Rattle.table.specs.Counts.{settling}
-use Rattle.table.specs.Step.{says_ran, chosen, advance, step_of}
+use Rattle.table.specs.Step.{chosen, advance, step_of}
 use Rattle.table.specs.Cases.{running, parting, waiting, table_of, tallied, tallied_with, ran_last}
 
 -- a table, what each step from it says, and the table that they leave
@@ -20,13 +20,13 @@ pub record StepCase : Type 0 where
 
 -- what a step says
 abbrev pub ran : ℕ → Said (Option ℕ)
-ran k = gives (some k)
+ran k = Ok (Some k)
 
 abbrev pub nobody : Said (Option ℕ)
-nobody = gives none
+nobody = Ok None
 
 abbrev pub refused : (number place : ℕ) → Said (Option ℕ)
-refused n k = refuses (refusal n k)
+refused n k = Err (refusal n k)
 
 abbrev steps : Table → List (Said (Option ℕ)) → Table → StepCase
 steps t s u = record { before = t; says = s; next = u }
@@ -186,9 +186,9 @@ step_cases = case_a ∷ equal_ends ∷ least_end ∷ renewal ∷ starts ∷ ends
 -- what n steps of t say, and the table that they leave
 abbrev pub stepped : ℕ → Table → List (Said (Option ℕ)) × Table
 stepped zero t = ([], t)
-stepped (suc n) t = let r = stepped n (step_of t).table in (says_ran (step_of t).outcome ∷ r.0, r.1)
+stepped (suc n) t = let r = stepped n (step_of t).table in ((step_of t).outcome ∷ r.0, r.1)
 
 -- R44 to R48: each table with its steps
-pub all_step_cases : map (λ (c : StepCase). stepped (length c.says) c.before) step_cases ≡ map (λ (c : StepCase). (c.says, c.next)) step_cases
+pub all_step_cases : map (λ (c : StepCase). stepped (length c.says) c.before) step_cases ≡ map (λ (c : StepCase). c.says, c.next) step_cases
 unfolding lowest chosen settling advance step_of step_cases
 all_step_cases = refl

@@ -1,27 +1,26 @@
 // The step of the pump, R44 to R48: who gets the tick, the table a tick later, and the refusals 15, 4, 14.
-ghost use Rattle.std.specs.Prelude.{◌≡◌, ◌^◌, ◌≤◌, ◌<◌};
-ghost use Rattle.table.specs.Words.{slot_of};
+ghost use Rattle.std.specs.Prelude.{Some, Option, ◌≡◌, ◌^◌, ◌≤◌, ◌<◌};
 ghost use Rattle.table.specs.Counts.{Inside, accounted};
 ghost use Rattle.table.specs.Turn.{Turns};
 ghost use Rattle.table.specs.Step.{served_at, refused_step, advance, step_of};
 
-use crate::{Outcome, Refusal, Stepped, Table, Which};
+use crate::{Refusal, Stepped, Table};
 
 // R24, R44: to whom the tick goes, or the lowest slot whose line is unsound.
 #[derive(Clone, Copy)]
 enum Turn {
-    Of(Which),
+    Of(Option<usize>),
     Unsound(usize),
 }
 
-impl Which {
+impl Option<usize> {
     // R45: slot `i`, which held `s`, after the slot named has got the tick.
     fn served(self, i: usize, s: line::Slot) -> line::Slot
-        ensures { result ≡ served_at (slot_of self) i s }
+        ensures { result ≡ served_at (self) i s }
     {
         match self {
-            Which::None => s,
-            Which::At(k) => {
+            None => s,
+            Some(k) => {
                 if k == i {
                     return s.served();
                 }
@@ -60,11 +59,11 @@ impl Table {
         }
         if best < 16 {
             if going <= least {
-                return Turn::Of(Which::At(last));
+                return Turn::Of(Some(last));
             }
-            return Turn::Of(Which::At(best));
+            return Turn::Of(Some(best));
         }
-        Turn::Of(Which::None)
+        Turn::Of(None)
     }
 
     // R48, R17: the table as it was, and no slot ran.
@@ -74,15 +73,15 @@ impl Table {
         let refusal = Refusal::new(number, place as u64);
         Stepped {
             table: self,
-            outcome: Outcome::Refused(refusal),
+            outcome: Err(refusal),
         }
     }
 
     // R45 to R48: a tick in which the slot named, or none, is served: what each slot holds then, or 14 at the lowest whose period ends short (R34).
     // What a line had that departs with it is counted so (R101).
-    fn advance(self, w: Which) -> Stepped
-        requires { (self.clock < 2 ^ 48) × (accounted self ≤ self.clock) × Inside 16 (slot_of w) }
-        ensures { result ≡ advance (slot_of w) self }
+    fn advance(self, w: Option<usize>) -> Stepped
+        requires { (self.clock < 2 ^ 48) × (accounted self ≤ self.clock) × Inside 16 (w) }
+        ensures { result ≡ advance (w) self }
     {
         let mut next = self.counting(w);
         let mut i: usize = 0;
@@ -102,7 +101,7 @@ impl Table {
         next.clock = self.clock + 1;
         Stepped {
             table: next,
-            outcome: Outcome::Ran(w),
+            outcome: Ok(w),
         }
     }
 

@@ -1,6 +1,6 @@
 -- The table admitted, R42 and R43: its demand is that of R10 to R12, and a smooth start makes it fine.
 use mathlib.Core.Path.{◌≡◌, refl, ap}
-use mathlib.Core.Option.{some}
+use Rattle.std.specs.Prelude.{Some}
 use mathlib.Core.List.{List}
 use Prim.Native.Nat.{ℕ, ◌+◌, ◌*◌, ◌-◌, ◌/◌, ◌∣◌, ◌≤◌, ◌<◌}
 use native.Mathlib.Nat.{sub-zero, mul-le-mul_left}
@@ -52,7 +52,7 @@ module _ (C P w : ℕ) where
 
 -- R11: with the new line put in, what the pump must give is the running lines' demand and the new line's
 pub admitted_demands : (k : ℕ) (l : List Slot) (j C P r t : ℕ) → j < length l → at l j ≡ Nothing → 1 ≤ P → k ≤ r
-    → demands k (put_at (some j) (holding (new_line C P (r - k))) l) t ≡ demands k l t + new_demand C P r t
+    → demands k (put_at (Some j) (holding (new_line C P (r - k))) l) t ≡ demands k l t + new_demand C P r t
 admitted_demands k l j C P r t h e p b =
     omega (
       arith,
@@ -62,14 +62,14 @@ admitted_demands k l j C P r t h e p b =
     )
 
 -- R5: sound lines stay so when a new line that fits its period is put in
-pub admitted_sound : (l : List Slot) (j C P w : ℕ) → Each Sound l → 1 ≤ C → C ≤ P → Each Sound (put_at (some j) (holding (new_line C P w)) l)
+pub admitted_sound : (l : List Slot) (j C P w : ℕ) → Each Sound l → 1 ≤ C → C ≤ P → Each Sound (put_at (Some j) (holding (new_line C P w)) l)
 admitted_sound l j C P w a b c = each_set Sound l j (holding (new_line C P w)) a (new_sound C P w b c)
 
 -- R42, R74: a smooth start makes a fine table
 pub admitted_fine : (M k : ℕ) (l : List Slot) (j C P r : ℕ)
     → Each Sound l → 0 < M → Each (Divides M) l → P ∣ M → total (share M) l + C * (M / P) ≤ M → 1 ≤ C → C ≤ P
     → j < length l → at l j ≡ Nothing → Smooth k l (new_demand C P) r
-    → Fine M k (put_at (some j) (holding (new_line C P (r - k))) l)
+    → Fine M k (put_at (Some j) (holding (new_line C P (r - k))) l)
 admitted_fine M k l j C P r a m d p x c q h e s =
     record {
       sound = admitted_sound l j C P (r - k) a c q;
@@ -89,7 +89,7 @@ admitted_fine M k l j C P r a m d p x c q h e s =
     }
 
 -- R29: a new line does not lag
-pub lag_admitted : (M : ℕ) (l : List Slot) (j C P w : ℕ) → P ∣ M → Lag M l → j < length l → at l j ≡ Nothing → Lag M (put_at (some j) (holding (new_line C P w)) l)
+pub lag_admitted : (M : ℕ) (l : List Slot) (j C P w : ℕ) → P ∣ M → Lag M l → j < length l → at l j ≡ Nothing → Lag M (put_at (Some j) (holding (new_line C P w)) l)
 lag_admitted M l j C P w d g h e =
     omega (
       arith,

@@ -4,17 +4,17 @@ use mathlib.Core.List.{List, [], ◌∷◌, map}
 use Rattle.periods.specs.Multiples.{All}
 use Rattle.line.specs.Demand.{new_demand, Smooth}
 use Rattle.table.specs.Grounds.{asked, Answers}
-use Rattle.table.specs.Ask.{says, ask_of}
+use Rattle.table.specs.Ask.{ask_of}
 use Rattle.table.specs.Cases.{Case, cases, case_b}
 use Rattle.table.proofs.Cases.{all_cases}
 use Rattle.theory.proofs.Answers.{ask_answers}
 
-answered : (cs : List Case) → map (λ (c : Case). says (ask_of c.table c.request)) cs ≡ map (λ (c : Case). c.answer) cs
+answered : (cs : List Case) → map (λ (c : Case). ask_of c.table c.request) cs ≡ map (λ (c : Case). c.answer) cs
     → All (λ (c : Case). Answers c.table c.request c.answer) cs
 answered [] e = tt
 answered (c ∷ cs) e =
-    let h : says (ask_of c.table c.request) ≡ c.answer = cc in
-    let rest : map (λ (c : Case). says (ask_of c.table c.request)) cs ≡ map (λ (c : Case). c.answer) cs = cc in
+    let h : ask_of c.table c.request ≡ c.answer = cc in
+    let rest : map (λ (c : Case). ask_of c.table c.request) cs ≡ map (λ (c : Case). c.answer) cs = cc in
     (rw h at (ask_answers c.table c.request), answered cs rest)
 
 -- R67: every row of the table of cases is a right answer

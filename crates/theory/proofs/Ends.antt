@@ -2,7 +2,7 @@
 use mathlib.Core.Path.{◌≡◌, refl, sym, ◌∙◌}
 use mathlib.Core.Logic.{◌⊎◌, inl, inr, ⊎_elim}
 use mathlib.Core.List.{List, [], ◌∷◌}
-use mathlib.Core.Option.{Option, none, some}
+use Rattle.std.specs.Prelude.{Option, None, Some}
 use Prim.Native.Nat.{ℕ, zero, suc, ◌+◌, ◌*◌, ◌≤◌, ◌<◌}
 use native.Mathlib.Nat.{not-suc-le-zero, le_refl}
 use native.Mathlib.Decide.{le_ind}
@@ -33,8 +33,8 @@ demand_step t0 h t s = go (asks h) (sound_asks h s)
   where
     go : (o : Option Stream) → of_stream (Unit {0}) Proper o
         → (of_stream 0 (λ x. flow t0 x (suc t)) o ≡ of_stream 0 (λ x. flow t0 x t) o) ⊎ of_stream ⊥ (λ x. EndAt t0 x (suc t)) o
-    go none p = inl refl
-    go (some x) p = flow_step t0 x t p
+    go None p = inl refl
+    go (Some x) p = flow_step t0 x t p
 
 demands_step : (t0 : ℕ) (l : List Slot) (t : ℕ) → Each Sound l → (demands t0 l (suc t) ≡ demands t0 l t) ⊎ AnyEnd t0 l (suc t)
 unfolding total
@@ -63,8 +63,8 @@ demand_mono : (t0 : ℕ) (h : Held) (t u : ℕ) → Sound h → t ≤ u → dema
 demand_mono t0 h t u s b = go (asks h) (sound_asks h s)
   where
     go : (o : Option Stream) → of_stream (Unit {0}) Proper o → of_stream 0 (λ x. flow t0 x t) o ≤ of_stream 0 (λ x. flow t0 x u) o
-    go none p = omega arith
-    go (some x) p = flow_mono t0 x t u p b
+    go None p = omega arith
+    go (Some x) p = flow_mono t0 x t u p b
 
 -- R10: demand never falls
 pub demands_mono : (t0 : ℕ) (l : List Slot) (t u : ℕ) → Each Sound l → t ≤ u → demands t0 l t ≤ demands t0 l u
@@ -82,8 +82,8 @@ end_late : (t0 : ℕ) (h : Held) (d : ℕ) → Sound h → IsEnd t0 h d → t0 <
 end_late t0 h d s e = go (asks h) (sound_asks h s) e
   where
     go : (o : Option Stream) → of_stream (Unit {0}) Proper o → of_stream ⊥ (λ x. EndAt t0 x d) o → t0 < d
-    go none p e = absurd e
-    go (some x) p e = end_after t0 x d p e
+    go None p e = absurd e
+    go (Some x) p e = end_after t0 x d p e
 
 -- R9: every end comes after the clock
 pub any_late : (t0 : ℕ) (l : List Slot) (d : ℕ) → Each Sound l → AnyEnd t0 l d → t0 < d
@@ -113,15 +113,15 @@ ends_in : (Q : ℕ → Type 0) (t0 last : ℕ) (h : Held) → Sound h → ((d : 
 ends_in Q t0 last h s f = go (asks h) (sound_asks h s) f
   where
     go : (o : Option Stream) → of_stream (Unit {0}) Proper o → ((d : ℕ) → of_stream ⊥ (λ x. EndAt t0 x d) o → d < last → Q d) → All Q (of_stream [] (ends_at t0 last) o)
-    go none p f = tt
-    go (some x) p f = ends_listed Q t0 last x p f
+    go None p f = tt
+    go (Some x) p f = ends_listed Q t0 last x p f
 
 in_ends : (Q : ℕ → Type 0) (t0 last : ℕ) (h : Held) → Sound h → All Q (by_stream [] (ends_at t0 last) h) → (d : ℕ) → IsEnd t0 h d → d < last → Q d
 in_ends Q t0 last h s a d e b = go (asks h) (sound_asks h s) a e
   where
     go : (o : Option Stream) → of_stream (Unit {0}) Proper o → All Q (of_stream [] (ends_at t0 last) o) → of_stream ⊥ (λ x. EndAt t0 x d) o → Q d
-    go none p a e = absurd e
-    go (some x) p a e = listed_ends Q t0 last x d p a e b
+    go None p a e = absurd e
+    go (Some x) p a e = listed_ends Q t0 last x d p a e b
 
 -- what holds of every end before last holds of the list's members
 pub ends_all : (Q : ℕ → Type 0) (t0 last : ℕ) (l : List Slot) → Each Sound l → ((d : ℕ) → AnyEnd t0 l d → d < last → Q d) → All Q (ends_of t0 last l)

@@ -1,8 +1,9 @@
 -- What is known of a request that is granted, and of one that is refused with 10: every test before passed over.
+use Rattle.std.specs.Prelude.{Ok, Err, Option, None, Some}
+use Rattle.table.specs.Words.{Said}
 use mathlib.Core.Path.{◌≡◌, refl, sym}
 use mathlib.Core.Bool.{Bool, true, false, not}
 use mathlib.Core.List.{◌∷◌}
-use mathlib.Core.Option.{Option, none, some}
 use Prim.Native.Nat.{ℕ, ◌+◌, ◌*◌, ◌-◌, ◌/◌, ◌^◌, ◌≤◌}
 use native.Mathlib.Omega.{arith}
 use borrow.Author.Tests.{not-false, ltb-false}
@@ -12,17 +13,15 @@ use Rattle.periods.proofs.Frames.{frame_is, frame_pos}
 use Rattle.table.specs.declared.Table.{Table}
 use Rattle.table.specs.declared.Request.{Request}
 use Rattle.table.specs.declared.Refusal.{Refusal}
-use Rattle.table.specs.declared.Answer.{Answer}
-use Rattle.table.specs.declared.Answer.TheVariants.{Start, Refused}
 use Rattle.line.specs.Slots.{both, at, Each, total, is_nothing, is_waiting, Waits, lowest, lowest_of}
-use Rattle.table.specs.Words.{refusal, short_refusal, gives}
+use Rattle.table.specs.Words.{refusal, short_refusal}
 use Rattle.line.specs.Sound.{Sound}
 use Rattle.line.specs.Demand.{ticks_short}
 use Rattle.table.specs.Counts.{fault}
 use Rattle.table.specs.Grounds.{entry, asked}
 use Rattle.line.specs.Stretch.{Barred, barred}
 use Rattle.line.specs.Shares.{periods_in, frame, share, claim, full}
-use Rattle.table.specs.Ask.{says, is_none, refused_at, refused_if, refused_short, ask_in, ask_of}
+use Rattle.table.specs.Ask.{is_none, refused_at, refused_if, refused_short, ask_in, ask_of}
 use Rattle.line.specs.Ends.{start, excess_at, first_short}
 use Rattle.line.proofs.Search.{true_false}
 use Rattle.line.proofs.Sound.{barred_not}
@@ -55,23 +54,23 @@ given t q s c fits eight nine =
 -- ---- the tests, one after the other
 
 -- R17: w is no refusal with the number n that says no more than its place
-abbrev Not : ℕ → Answer → Type 0
-Not n w = (k : ℕ) → w ≡ Refused (refusal n k) → ⊥
+abbrev Not : ℕ → Said ℕ → Type 0
+Not n w = (k : ℕ) → w ≡ Err (refusal n k) → ⊥
 
-past_if : (b : Bool) (n : ℕ) (a w : Answer) → Not n w → refused_if b n a ≡ w → (b ≡ false) × (a ≡ w)
+past_if : (b : Bool) (n : ℕ) (a w : Said ℕ) → Not n w → refused_if b n a ≡ w → (b ≡ false) × (a ≡ w)
 past_if true n a w no' e = absurd (no' 0 (sym e))
 past_if false n a w no' e = (refl, e)
 
-past_at : (o : Option ℕ) (n : ℕ) (a w : Answer) → Not n w → refused_at o n a ≡ w → (o ≡ none) × (a ≡ w)
-past_at (some k) n a w no' e = absurd (no' k (sym e))
-past_at none n a w no' e = (refl, e)
+past_at : (o : Option ℕ) (n : ℕ) (a w : Said ℕ) → Not n w → refused_at o n a ≡ w → (o ≡ None) × (a ≡ w)
+past_at (Some k) n a w no' e = absurd (no' k (sym e))
+past_at None n a w no' e = (refl, e)
 
 -- what test 10 and the start answer
-abbrev last : Table → Request → Answer
+abbrev last : Table → Request → Said ℕ
 last t q =
-    refused_short (first_short t.clock (asked t q)) (λ d. ticks_short (excess_at t.clock (asked t q) d)) (Start (start t.clock (asked t q) q.need q.period))
+    refused_short (first_short t.clock (asked t q)) (λ d. ticks_short (excess_at t.clock (asked t q) d)) (Ok (start t.clock (asked t q) q.need q.period))
 
-module _ (t : Table) (q : Request) (w : Answer) (other : (n : ℕ) → n ≤ 9 → Not n w) where
+module _ (t : Table) (q : Request) (w : Said ℕ) (other : (n : ℕ) → n ≤ 9 → Not n w) where
   -- past test 9 the request is as the theory of the start wants it
   cleared_load : Each Sound (asked t q) → 1 ≤ q.need → q.need ≤ q.period
       → let F = frame (asked t q) q.period in
@@ -120,33 +119,33 @@ module _ (t : Table) (q : Request) (w : Answer) (other : (n : ℕ) → n ≤ 9 �
 -- ---- what an answer tells
 
 -- an answer that says a start is that start
-pub says_start : (a : Answer) (r : ℕ) → says a ≡ gives r → a ≡ Start r
-says_start (Start u) r e = cc
-says_start (Refused x) r e = let z : ◌≡◌ {A = ℕ} 0 1 = cc in absurd (omega arith)
+pub says_start : (a : Said ℕ) (r : ℕ) → a ≡ Ok r → a ≡ Ok r
+says_start (Ok u) r e = cc
+says_start (Err x) r e = let z : ◌≡◌ {A = ℕ} 0 1 = cc in absurd (omega arith)
 
-start_short : (o : Option ℕ) (over : ℕ → ℕ) (u r : ℕ) → refused_short o over (Start u) ≡ Start r → (o ≡ none) × (u ≡ r)
-start_short (some d) over u r e = let z : ◌≡◌ {A = ℕ} 0 1 = cc in absurd (omega arith)
-start_short none over u r e = (refl, cc)
+start_short : (o : Option ℕ) (over : ℕ → ℕ) (u r : ℕ) → refused_short o over (Ok u) ≡ Ok r → (o ≡ None) × (u ≡ r)
+start_short (Some d) over u r e = let z : ◌≡◌ {A = ℕ} 0 1 = cc in absurd (omega arith)
+start_short None over u r e = (refl, cc)
 
 -- R18, R41: what a start tells: no ground holds, and it is the least smooth one
-pub granted : (t : Table) (q : Request) (r : ℕ) → ask_of t q ≡ Start r → Granted t q r
+pub granted : (t : Table) (q : Request) (r : ℕ) → ask_of t q ≡ Ok r → Granted t q r
 granted t q r e =
-    let c = cleared t q (Start r) (λ n h k z. let y : ◌≡◌ {A = ℕ} 0 1 = cc in omega arith) e in
+    let c = cleared t q (Ok r) (λ n h k z. let y : ◌≡◌ {A = ℕ} 0 1 = cc in omega arith) e in
     let l = asked t q in
     let s = start_short (first_short t.clock l) _ _ r c.1 in
     let g = c.0.given in
     let a = alone_without_short_end (frame l q.period) t.clock l q.need q.period g s.0 in
     record { cleared = c.0; alone = a; least = rw (← s.1) (start_least (frame l q.period) t.clock l q.need q.period g a) }
 
-refused_short_lem : (o : Option ℕ) (over : ℕ → ℕ) (u : ℕ) (x : Refusal) → refused_short o over (Start u) ≡ Refused x → (d : ℕ) × (o ≡ some d) × (x ≡ short_refusal d (over d))
-refused_short_lem (some d) over u x e = (d, refl, cc)
-refused_short_lem none over u x e = let z : ◌≡◌ {A = ℕ} 0 1 = cc in absurd (omega arith)
+refused_short_lem : (o : Option ℕ) (over : ℕ → ℕ) (u : ℕ) (x : Refusal) → refused_short o over (Ok u) ≡ Err x → (d : ℕ) × (o ≡ Some d) × (x ≡ short_refusal d (over d))
+refused_short_lem (Some d) over u x e = (d, refl, cc)
+refused_short_lem None over u x e = let z : ◌≡◌ {A = ℕ} 0 1 = cc in absurd (omega arith)
 
 -- R103, R41: what refusal 10 tells: none of the grounds before it holds, and it says the first short tick and its excess
-pub told_ten : (t : Table) (q : Request) (x : Refusal) → ask_of t q ≡ Refused x → x.number ≡ 10
+pub told_ten : (t : Table) (q : Request) (x : Refusal) → ask_of t q ≡ Err x → x.number ≡ 10
     → Cleared t q × ((d : ℕ) × FirstShort t.clock (asked t q) d × (x ≡ short_refusal d (ticks_short (excess_at t.clock (asked t q) d))))
 told_ten t q x e ten =
-    let c = cleared t q (Refused x) (λ n h k z. let y : x.number ≡ n = cc in omega arith) e in
+    let c = cleared t q (Err x) (λ n h k z. let y : x.number ≡ n = cc in omega arith) e in
     let l = asked t q in
     let s = refused_short_lem (first_short t.clock l) _ _ x c.1 in
     (c.0, (s.0, found_short (frame l q.period) t.clock l q.need q.period s.0 c.0.given s.1, s.2))

@@ -1,6 +1,6 @@
 -- The lag: on a table whose lag is at most 0 a tick that is not wasted keeps it so.
 use mathlib.Core.Path.{◌≡◌, refl, ap}
-use mathlib.Core.Option.{Option, none, some}
+use Rattle.std.specs.Prelude.{Option, None, Some}
 use mathlib.Core.List.{List}
 use Prim.Native.Nat.{ℕ, ◌+◌, ◌*◌, ◌-◌, ◌≤◌, ◌<◌}
 use native.Mathlib.Omega.{arith}
@@ -24,28 +24,28 @@ lag_passed : (M : ℕ) (h : Held) → Sound h → Divides M h → Kept h → cla
 lag_passed M h s d v = rw (asks_passed h) (go (asks h) (sound_asks h s) d v)
   where
     go : (o : Option Stream) → of_stream (Unit {0}) Proper o → of_stream (Unit {0}) (Measures M) o → of_stream (Unit {0}) Closes o
-        → of_stream 0 (claim_of M) (of_stream none onward o) + of_stream 0 (full_of M) o ≤ of_stream 0 (claim_of M) o + of_stream 0 (share_of M) o + of_stream 0 (full_of M) (of_stream none onward o)
-    go none p d v = omega arith
-    go (some x) p d v = lag_onward x M p d v
+        → of_stream 0 (claim_of M) (of_stream None onward o) + of_stream 0 (full_of M) o ≤ of_stream 0 (claim_of M) o + of_stream 0 (share_of M) o + of_stream 0 (full_of M) (of_stream None onward o)
+    go None p d v = omega arith
+    go (Some x) p d v = lag_onward x M p d v
 
 -- a slot that is owed nothing does not lag
 lag_idle : (M : ℕ) (h : Held) → Divides M h → (Owed h → ⊥) → claim M (passed h) ≤ full M (passed h)
 lag_idle M h d n = rw (asks_passed h) (go (asks h) d n)
   where
     go : (o : Option Stream) → of_stream (Unit {0}) (Measures M) o → (of_stream ⊥ (λ x. 0 < x.remaining) o → ⊥)
-        → of_stream 0 (claim_of M) (of_stream none onward o) ≤ of_stream 0 (full_of M) (of_stream none onward o)
-    go none d n = omega arith
-    go (some x) d n = idle_onward x M d n
+        → of_stream 0 (claim_of M) (of_stream None onward o) ≤ of_stream 0 (full_of M) (of_stream None onward o)
+    go None d n = omega arith
+    go (Some x) d n = idle_onward x M d n
 
 -- a tick served takes M from the claim, and the need stays
 lag_served : (M : ℕ) (h : Held) → Owed h → (claim M (served h) + M ≡ claim M h) × (full M (served h) ≡ full M h)
 lag_served M h v = rw (asks_served h) (go (asks h) v)
   where
     go : (o : Option Stream) → of_stream ⊥ (λ x. 0 < x.remaining) o
-        → (of_stream 0 (claim_of M) (of_stream none (λ x. some (paid x)) o) + M ≡ of_stream 0 (claim_of M) o)
-        × (of_stream 0 (full_of M) (of_stream none (λ x. some (paid x)) o) ≡ of_stream 0 (full_of M) o)
-    go none v = absurd v
-    go (some x) v =
+        → (of_stream 0 (claim_of M) (of_stream None (λ x. Some (paid x)) o) + M ≡ of_stream 0 (claim_of M) o)
+        × (of_stream 0 (full_of M) (of_stream None (λ x. Some (paid x)) o) ≡ of_stream 0 (full_of M) o)
+    go None v = absurd v
+    go (Some x) v =
         let e : x.remaining ≡ x.remaining - 1 + 1 = omega arith in
         (omega (arith, ap (λ (n : ℕ). M * n) e), refl)
 
@@ -65,22 +65,22 @@ lag_pass {M} {l} a v k =
 
 -- R44: who serves an earliest end wastes no tick that somebody is owed
 pub earliest_busy : (o : Option ℕ) (l : List Slot) → Earliest o l → Busy o l
-earliest_busy none l e = e
-earliest_busy (some j) l e = (e.0, e.1)
+earliest_busy None l e = e
+earliest_busy (Some j) l e = (e.0, e.1)
 
 -- R29: a tick that is not wasted keeps the lag at most 0
 pub lag_kept : {M : ℕ} {l : List Slot} (o : Option ℕ) → Each Sound l → Shares M l → Busy o l → Each Kept (serve o l) → Lag M l → Lag M (pass (serve o l))
-lag_kept {M} {l} none a v b k g =
+lag_kept {M} {l} None a v b k g =
     omega (
       arith,
       total_pass (claim M) l,
       total_pass (full M) l,
       total_le (λ h. claim M (passed h)) (λ h. full M (passed h)) l (λ i c. lag_idle M (at l i) (v.common i c) (b i c)),
     )
-lag_kept {M} {l} (some j) a v b k g =
+lag_kept {M} {l} (Some j) a v b k g =
     omega (
       arith,
-      lag_pass (sound_serve (some j) l b a) (shares_serve (some j) b v) k,
+      lag_pass (sound_serve (Some j) l b a) (shares_serve (Some j) b v) k,
       total_set (claim M) l j (served_slot (slot_at l j)) b.0,
       total_set (full M) l j (served_slot (slot_at l j)) b.0,
       (lag_served M (at l j) b.1).0,

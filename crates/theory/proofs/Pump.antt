@@ -1,6 +1,6 @@
 -- A step keeps a fine table fine and ends no period short; a positive excess cannot be run away from.
 use mathlib.Core.Path.{◌≡◌, ◌∙◌}
-use mathlib.Core.Option.{Option, none, some}
+use Rattle.std.specs.Prelude.{Option, None, Some}
 use mathlib.Core.List.{List}
 use Prim.Native.Nat.{ℕ, zero, suc, ◌+◌, ◌*◌, ◌-◌, ◌≤◌, ◌<◌}
 use native.Mathlib.Nat.{le_of_mul-le-mul_left, mul-le-mul_right}
@@ -32,8 +32,8 @@ demands_within_shares {M} {l} k t a v q =
 
 -- the tick that the earliest end gets is enough
 pub earliest_enough : {M k : ℕ} {l : List Slot} (o : Option ℕ) → Fine M k l → Earliest o l → (t : ℕ) → k < t → demands k (serve o l) t ≤ t - suc k
-earliest_enough {M} {k} {l} none f e t b = demands_within_shares k t f.sound f.shares (λ i h v. absurd (e i h v))
-earliest_enough {M} {k} {l} (some j) f e t b =
+earliest_enough {M} {k} {l} None f e t b = demands_within_shares k t f.sound f.shares (λ i h v. absurd (e i h v))
+earliest_enough {M} {k} {l} (Some j) f e t b =
     let s = total_set (λ h. demand k h t) l j (served_slot (slot_at l j)) e.0 in
     let z = end_of_owed k (at l j) e.1 in
     split (end_of k (at l j)) t
@@ -47,8 +47,8 @@ earliest_enough {M} {k} {l} (some j) f e t b =
 
 -- R45: sound lines stay so when one of them is served
 pub sound_serve : (o : Option ℕ) (l : List Slot) → May o l → Each Sound l → Each Sound (serve o l)
-sound_serve none l m a = a
-sound_serve (some j) l m a = each_set Sound l j (served_slot (slot_at l j)) a (sound_served (at l j) (a j m.0))
+sound_serve None l m a = a
+sound_serve (Some j) l m a = each_set Sound l j (served_slot (slot_at l j)) a (sound_served (at l j) (a j m.0))
 
 -- R45 to R47: and when the tick has passed
 pub sound_pass : (l : List Slot) → Each Sound l → Each Sound (pass l)
@@ -56,8 +56,8 @@ sound_pass l a = each_pass Sound l (λ i h. sound_passed (at l i) (a i h))
 
 -- R28: a served line has the same share
 pub shares_serve : {M : ℕ} {l : List Slot} (o : Option ℕ) → May o l → Shares M l → Shares M (serve o l)
-shares_serve {M} {l} none m v = v
-shares_serve {M} {l} (some j) m v =
+shares_serve {M} {l} None m v = v
+shares_serve {M} {l} (Some j) m v =
     record {
       some_frame = v.some_frame;
       common = each_set (Divides M) l j (served_slot (slot_at l j)) v.common (divides_served M (at l j) (v.common j m.0));
@@ -81,8 +81,8 @@ demands_pass k l t a v =
 
 -- R44: who has an earliest end may be served
 pub earliest_may : (o : Option ℕ) (l : List Slot) → Earliest o l → May o l
-earliest_may none l e = tt
-earliest_may (some j) l e = (e.0, e.1)
+earliest_may None l e = tt
+earliest_may (Some j) l e = (e.0, e.1)
 
 -- R74, R46: no period ends short
 pub never_short : {M k : ℕ} {l : List Slot} (o : Option ℕ) → Fine M k l → Earliest o l → Each Kept (serve o l)
@@ -108,8 +108,8 @@ fine_safe {M} {k} {l} (suc n) f = λ o e. (never_short o f e, fine_safe {M = M} 
 
 -- a tick pays for one at most
 pub serve_pays : (k : ℕ) (o : Option ℕ) (l : List Slot) (t : ℕ) → May o l → demands k l t ≤ suc (demands k (serve o l) t)
-serve_pays k none l t m = omega arith
-serve_pays k (some j) l t m = omega (arith, total_set (λ h. demand k h t) l j (served_slot (slot_at l j)) m.0, served_any k (at l j) t m.1)
+serve_pays k None l t m = omega arith
+serve_pays k (Some j) l t m = omega (arith, total_set (λ h. demand k h t) l j (served_slot (slot_at l j)) m.0, served_any k (at l j) t m.1)
 
 -- R10: at the clock nothing is wanted yet
 pub demands_now : (k : ℕ) (l : List Slot) → Each Sound l → demands k l k ≡ 0

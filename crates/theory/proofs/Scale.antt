@@ -1,7 +1,7 @@
 -- The sums of R28 and R29 do not depend on which common multiple is taken, R16.
 use mathlib.Core.Path.{◌≡◌, ap}
 use mathlib.Core.List.{List}
-use mathlib.Core.Option.{Option, none, some}
+use Rattle.std.specs.Prelude.{Option, None, Some}
 use Prim.Native.Nat.{ℕ, ◌+◌, ◌*◌, ◌-◌, ◌/◌, ◌∣◌, ◌≤◌}
 use native.Mathlib.Nat.{le_of_mul-le-mul_left, mul-le-mul_left}
 use native.Mathlib.Omega.{arith}
@@ -21,22 +21,22 @@ share_both : (F G : ℕ) (h : Held) → Divides F h → Divides G h → G * shar
 share_both F G h f g = go (asks h) f g
   where
     go : (o : Option Stream) → of_stream (Unit {0}) (Measures F) o → of_stream (Unit {0}) (Measures G) o → G * of_stream 0 (share_of F) o ≡ F * of_stream 0 (share_of G) o
-    go none f g = omega arith
-    go (some s) f g = omega (arith, share_scale s.period F G s.need f g)
+    go None f g = omega arith
+    go (Some s) f g = omega (arith, share_scale s.period F G s.need f g)
 
 claim_both : (F G : ℕ) (h : Held) → Divides F h → Divides G h → G * claim F h ≡ F * claim G h
 claim_both F G h f g = go (asks h) f g
   where
     go : (o : Option Stream) → of_stream (Unit {0}) (Measures F) o → of_stream (Unit {0}) (Measures G) o → G * of_stream 0 (claim_of F) o ≡ F * of_stream 0 (claim_of G) o
-    go none f g = omega arith
-    go (some s) f g = claim_scale F G s.remaining _ _ (s.period - s.end) (share_scale s.period F G s.need f g)
+    go None f g = omega arith
+    go (Some s) f g = claim_scale F G s.remaining _ _ (s.period - s.end) (share_scale s.period F G s.need f g)
 
 full_both : (F G : ℕ) (h : Held) → G * full F h ≡ F * full G h
 full_both F G h = go (asks h)
   where
     go : (o : Option Stream) → G * of_stream 0 (full_of F) o ≡ F * of_stream 0 (full_of G) o
-    go none = omega arith
-    go (some s) = omega arith
+    go None = omega arith
+    go (Some s) = omega arith
 
 module _ (F G : ℕ) (l : List Slot) (f : Each (Divides F) l) (g : Each (Divides G) l) (pos : 1 ≤ F) where
   -- R16, R28: the shares, taken times F, are at most 1: so they are times G

@@ -1,7 +1,7 @@
 -- The computed step on a fine table: it is never refused before clock 2^48, and the table after it is fine again.
 use mathlib.Core.Path.{◌≡◌, refl, ap}
 use mathlib.Core.Bool.{true, false, not}
-use mathlib.Core.Option.{Option, none, some}
+use Rattle.std.specs.Prelude.{Option, None, Some}
 use mathlib.Core.List.{List}
 use Prim.Native.Nat.{ℕ, ◌^◌, ◌≤◌, ◌<◌}
 use native.Mathlib.Numerals.{add-one}
@@ -33,8 +33,8 @@ pub kept_short : (h : Held) → Kept h → short h ≡ false
 kept_short h v = go (asks h) v
   where
     go : (o : Option Stream) → of_stream (Unit {0}) Closes o → of_stream false (λ s. pick (ltb 1 s.end) false (ltb 0 s.remaining)) o ≡ false
-    go none v = refl
-    go (some s) v =
+    go None v = refl
+    go (Some s) v =
         split s.end 1
         (λ g. rw (le-ltb 1 s.end g) (le-ltb 0 s.remaining (omega (arith, v g))))
         (λ g. rw (lt-ltb 1 s.end g))
@@ -44,22 +44,22 @@ pub short_kept : (h : Held) → short h ≡ false → Kept h
 short_kept h e = go (asks h) e
   where
     go : (o : Option Stream) → of_stream false (λ s. pick (ltb 1 s.end) false (ltb 0 s.remaining)) o ≡ false → of_stream (Unit {0}) Closes o
-    go none e = tt
-    go (some s) e = λ g.
+    go None e = tt
+    go (Some s) e = λ g.
         split 1 s.remaining
         (λ b. let z : true ≡ false = rw (le-ltb 1 s.end g, lt-ltb 0 s.remaining b) at e in absurd (true_false refl z))
         (λ b. omega arith)
 
 -- R34: where every period is kept the step finds none that ends short
-pub none_short : (l : List Slot) → Each Kept l → lowest_of short l ≡ none
+pub none_short : (l : List Slot) → Each Kept l → lowest_of short l ≡ None
 none_short l v = none_found (λ i. short (at l i)) (length l) (λ i b. kept_short (at l i) (v i b))
 
 -- R34: where the step finds none, every period is kept
-pub short_none : (l : List Slot) → lowest_of short l ≡ none → Each Kept l
+pub short_none : (l : List Slot) → lowest_of short l ≡ None → Each Kept l
 short_none l e i b = short_kept (at l i) (lowest_none (λ n. short (at l n)) (length l) e i b)
 
 -- R24: where every line is sound none is found that is not
-pub none_unsound : (l : List Slot) → Each Sound l → lowest_of (λ h. not (sound h)) l ≡ none
+pub none_unsound : (l : List Slot) → Each Sound l → lowest_of (λ h. not (sound h)) l ≡ None
 none_unsound l a = none_found (λ i. not (sound (at l i))) (length l) (λ i b. ap not (says_sound (at l i) (a i b)))
 
 -- R44: the step's own choice is an earliest end
@@ -72,7 +72,7 @@ unfolding advance
 advanced o t v = rw (none_short (serve o t.slots) v)
 
 -- R24: nor a fault, where no more ticks are accounted for than have gone by
-pub sound_faultless : (t : Table) → Each Sound t.slots → accounted t ≤ t.clock → fault t ≡ none
+pub sound_faultless : (t : Table) → Each Sound t.slots → accounted t ≤ t.clock → fault t ≡ None
 sound_faultless t s w = no_fault t (none_unsound t.slots s) w
 
 -- R48, R74: the step of a fine table is not refused

@@ -1,7 +1,7 @@
 -- The lines at their T': a longer period keeps a line sound, asks for no more and does not lag more.
 use mathlib.Core.Path.{◌≡◌, refl, sym, ap, ◌∙◌}
 use mathlib.Core.List.{List}
-use mathlib.Core.Option.{Option, none, some}
+use Rattle.std.specs.Prelude.{Option, None, Some}
 use Prim.Native.Nat.{ℕ, ◌+◌, ◌*◌, ◌-◌, ◌/◌, ◌≤◌, ◌<◌}
 use native.Mathlib.Nat.{le_of_mul-le-mul_left, mul-le-mul_left, mul-le-mul_right}
 use native.Mathlib.Omega.{arith}
@@ -34,10 +34,10 @@ pub stretch_sound : (p : ℕ) (h : Held) → (Barred p h → ⊥) → Sound h �
 stretch_sound p h n s = asks_sound (stretch p h) (go (asks h) (asks (stretch p h)) (sound_asks h s) (asks_stretch p h s n))
   where
     go : (o v : Option Stream) → of_stream (Unit {0}) Proper o → Slowed o v → of_stream (Unit {0}) Proper v
-    go none none p w = tt
-    go none (some y) p w = absurd w
-    go (some x) none p w = absurd w
-    go (some x) (some y) p w = omega (arith, w.same_need, w.same_rest, w.longer, w.same_age)
+    go None None p w = tt
+    go None (Some y) p w = absurd w
+    go (Some x) None p w = absurd w
+    go (Some x) (Some y) p w = omega (arith, w.same_need, w.same_rest, w.longer, w.same_age)
 
 -- R5, R25: and so are all of them
 pub sound_stretched : (l : List Slot) (p : ℕ → ℕ) → Unbarred l p → Each Sound l → Each Sound (stretched l p)
@@ -57,10 +57,10 @@ pub demand_longer : (k p : ℕ) (h : Held) (t : ℕ) → Sound h → (Barred p h
 demand_longer k p h t s n = go (asks h) (asks (stretch p h)) (sound_asks h s) (asks_stretch p h s n)
   where
     go : (o v : Option Stream) → of_stream (Unit {0}) Proper o → Slowed o v → of_stream 0 (λ x. flow k x t) v ≤ of_stream 0 (λ x. flow k x t) o
-    go none none p w = omega arith
-    go none (some y) p w = absurd w
-    go (some x) none p w = absurd w
-    go (some x) (some y) p w = flow_slower k x t y p w
+    go None None p w = omega arith
+    go None (Some y) p w = absurd w
+    go (Some x) None p w = absurd w
+    go (Some x) (Some y) p w = flow_slower k x t y p w
 
 -- R42: at longer periods no more is wanted by t
 pub demands_longer : (k : ℕ) (l : List Slot) (p : ℕ → ℕ) (t : ℕ) → Each Sound l → Unbarred l p → demands k (stretched l p) t ≤ demands k l t
@@ -91,19 +91,19 @@ claim_longer M N p h s d e n = go (asks h) (asks (stretch p h)) (sound_asks h s)
   where
     go : (o v : Option Stream) → of_stream (Unit {0}) Proper o → of_stream (Unit {0}) (Measures M) o → of_stream (Unit {0}) (Measures N) v → Slowed o v
         → M * of_stream 0 (claim_of N) v ≤ N * of_stream 0 (claim_of M) o
-    go none none p d e w = omega arith
-    go none (some y) p d e w = absurd w
-    go (some x) none p d e w = absurd w
-    go (some x) (some y) p d e w = claim_slower M N x y p d e w
+    go None None p d e w = omega arith
+    go None (Some y) p d e w = absurd w
+    go (Some x) None p d e w = absurd w
+    go (Some x) (Some y) p d e w = claim_slower M N x y p d e w
 
 full_longer : (M N p : ℕ) (h : Held) → Sound h → (Barred p h → ⊥) → N * full M h ≤ M * full N (stretch p h)
 full_longer M N p h s n = go (asks h) (asks (stretch p h)) (asks_stretch p h s n)
   where
     go : (o v : Option Stream) → Slowed o v → N * of_stream 0 (full_of M) o ≤ M * of_stream 0 (full_of N) v
-    go none none w = omega arith
-    go none (some y) w = absurd w
-    go (some x) none w = absurd w
-    go (some x) (some y) w = omega (arith, ap (λ (k : ℕ). M * (N * k)) w.same_need)
+    go None None w = omega arith
+    go None (Some y) w = absurd w
+    go (Some x) None w = absurd w
+    go (Some x) (Some y) w = omega (arith, ap (λ (k : ℕ). M * (N * k)) w.same_need)
 
 -- R29: it does not hold where the lag is at most 0
 pub lag_stretched : {M : ℕ} {l : List Slot} (N : ℕ) (p : ℕ → ℕ) → Each Sound l → Shares M l → Lag M l → Each (Divides N) (stretched l p) → Unbarred l p → Lag N (stretched l p)

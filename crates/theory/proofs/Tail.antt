@@ -1,7 +1,7 @@
 -- The tail: with sums 8 and 9 in order there is no excess from the last end on, wherever the new line starts.
 use mathlib.Core.Path.{refl}
 use mathlib.Core.List.{List, [], ◌∷◌}
-use mathlib.Core.Option.{Option, none, some}
+use Rattle.std.specs.Prelude.{Option, None, Some}
 use Prim.Native.Nat.{ℕ, zero, suc, ◌+◌, ◌*◌, ◌-◌, ◌≤◌, ◌<◌}
 use native.Mathlib.Nat.{le_of_mul-le-mul_left, mul-le-mul_right, not-suc-le-zero}
 use native.Mathlib.Omega.{arith}
@@ -43,8 +43,8 @@ one_late F t0 h t d b = go (asks h) d b
   where
     go : (o : Option Stream) → of_stream (Unit {0}) (Measures F) o → of_stream t0 (end_at t0) o ≤ t
         → F * of_stream 0 (λ x. flow t0 x t) o + of_stream 0 (full_of F) o ≤ of_stream 0 (claim_of F) o + of_stream 0 (share_of F) o * (t - t0)
-    go none d b = omega arith
-    go (some x) d b = flow_late t0 x t F d b
+    go None d b = omega arith
+    go (Some x) d b = flow_late t0 x t F d b
 
 -- R28, R29: from the last end on, F times the demand is at most what the sum of R29 leaves and the shares of the time
 pub all_late : (F t0 : ℕ) (l : List Slot) (t : ℕ) → Each (Divides F) l → last_end t0 l ≤ t

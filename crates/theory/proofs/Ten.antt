@@ -3,7 +3,7 @@ use mathlib.Core.Path.{◌≡◌}
 use mathlib.Core.Logic.{⊎_elim}
 use mathlib.Core.Bool.{true, false}
 use mathlib.Core.List.{List}
-use mathlib.Core.Option.{none, some}
+use Rattle.std.specs.Prelude.{None, Some}
 use Prim.Native.Nat.{ℕ, ◌+◌, ◌-◌, ◌≤◌, ◌<◌}
 use native.Mathlib.Omega.{arith}
 use Rattle.line.specs.declared.Slot.{Slot}
@@ -44,7 +44,7 @@ quiet_by_ends F t0 l Cn Tn n g f t h b =
 -- ---- the computed test
 
 -- it finds no end: nowhere any excess
-pub alone_without_short_end : (F t0 : ℕ) (l : List Slot) (Cn Tn : ℕ) → Given F l Cn Tn → first_short t0 l ≡ none → Alone t0 l
+pub alone_without_short_end : (F t0 : ℕ) (l : List Slot) (Cn Tn : ℕ) → Given F l Cn Tn → first_short t0 l ≡ None → Alone t0 l
 unfolding first_short
 alone_without_short_end F t0 l Cn Tn g e t h =
     quiet_by_ends F t0 l Cn Tn (1 + t) g
@@ -59,7 +59,7 @@ pub record FirstShort (t0 : ℕ) (l : List Slot) (d : ℕ) : Type 0 where
   pub none_before : (t : ℕ) → t0 ≤ t → t < d → demands t0 l t ≤ t - t0
 
 -- it finds one: it is an end before the last end and short, and before it no tick has excess
-pub found_short : (F t0 : ℕ) (l : List Slot) (Cn Tn d : ℕ) → Given F l Cn Tn → first_short t0 l ≡ some d → FirstShort t0 l d
+pub found_short : (F t0 : ℕ) (l : List Slot) (Cn Tn d : ℕ) → Given F l Cn Tn → first_short t0 l ≡ Some d → FirstShort t0 l d
 unfolding first_short
 found_short F t0 l Cn Tn d g e =
     let ends = ends_of t0 (last_end t0 l) l in

@@ -2,7 +2,7 @@
 use mathlib.Core.Path.{◌≡◌, refl}
 use mathlib.Core.Bool.{Bool, true, false, not}
 use mathlib.Core.List.{List, [], ◌∷◌}
-use mathlib.Core.Option.{Option, none, some}
+use Rattle.std.specs.Prelude.{Option, None, Some}
 use Prim.Native.Nat.{ℕ, zero, suc, ◌∣◌, ◌≤◌, ◌<◌}
 use native.Mathlib.Nat.{not-suc-le-zero}
 use native.Mathlib.Omega.{arith}
@@ -26,7 +26,7 @@ use Rattle.line.proofs.Streams.{sound_asks}
 
 -- R19: a search finds the lowest of which P holds, where its test says P
 pub lowest_of_lem : (P : ℕ → Type 0) (test : ℕ → Bool) (n k : ℕ) → ((i : ℕ) → test i ≡ true → P i) → ((i : ℕ) → P i → test i ≡ false → ⊥)
-    → lowest test n ≡ some k → Lowest P n k
+    → lowest test n ≡ Some k → Lowest P n k
 lowest_of_lem P test n k yes-is no-not e =
     let w = lowest_is test n e in
     record { inside = w.inside; here = yes-is k w.here; below = λ i b p. by_bool (test i) (λ x. w.below i b x) (λ x. no-not i p x) }
@@ -37,11 +37,11 @@ lowest_of_lem P test n k yes-is no-not e =
 
 -- R19: a search that finds nothing leaves none of which P holds
 pub none_of : (P : ℕ → Type 0) (test : ℕ → Bool) (n : ℕ) → ((i : ℕ) → P i → test i ≡ false → ⊥)
-    → lowest test n ≡ none → (i : ℕ) → i < n → P i → ⊥
+    → lowest test n ≡ None → (i : ℕ) → i < n → P i → ⊥
 none_of P test n no-not e i b p = no-not i p (lowest_none test n e i b)
 
 -- R24: where no unsound line is found every line is sound
-pub all_sound : (l : List Slot) → lowest_of (λ h. not (sound h)) l ≡ none → Each Sound l
+pub all_sound : (l : List Slot) → lowest_of (λ h. not (sound h)) l ≡ None → Each Sound l
 all_sound l e i b = sound_says (at l i) (not-false (sound (at l i)) (lowest_none (λ i. not (sound (at l i))) (length l) e i b))
 
 -- R22: the test says that a slot is empty
@@ -51,14 +51,14 @@ nothing_says (Running r) e = absurd (true_false e refl)
 nothing_says (Waiting w) e = absurd (true_false e refl)
 
 -- what is not none is some slot
-pub some_of : (o : Option ℕ) → is_none o ≡ false → (k : ℕ) × (o ≡ some k)
-some_of none e = absurd (true_false refl e)
-some_of (some k) e = (k, refl)
+pub some_of : (o : Option ℕ) → is_none o ≡ false → (k : ℕ) × (o ≡ Some k)
+some_of None e = absurd (true_false refl e)
+some_of (Some k) e = (k, refl)
 
 -- the test says that there is none
-pub none_is : (o : Option ℕ) → is_none o ≡ true → o ≡ none
-none_is none e = refl
-none_is (some k) e = absurd (true_false e refl)
+pub none_is : (o : Option ℕ) → is_none o ≡ true → o ≡ None
+none_is None e = refl
+none_is (Some k) e = absurd (true_false e refl)
 
 -- R26: the test says that the new line fits its period
 pub fits_says : (C P : ℕ) → both (leb 1 C) (leb C P) ≡ true → (1 ≤ C) × (C ≤ P)
@@ -85,8 +85,8 @@ periods_divide F [] a i b = absurd (not-suc-le-zero b)
 periods_divide F (s ∷ l) a zero b = one (asks s.held) (all_of_each (λ p. p ∣ F) (by_stream [] (λ x. x.period ∷ []) s.held) (periods_in l) a).0
   where
     one : (o : Option Stream) → All (λ p. p ∣ F) (of_stream [] (λ x. x.period ∷ []) o) → of_stream (Unit {0}) (Measures F) o
-    one none a = tt
-    one (some x) a = a.0
+    one None a = tt
+    one (Some x) a = a.0
 periods_divide F (s ∷ l) a (suc i) b =
     periods_divide F l (all_of_each (λ p. p ∣ F) (by_stream [] (λ x. x.period ∷ []) s.held) (periods_in l) a).1 i (omega arith)
 
@@ -99,5 +99,5 @@ periods_pos (x ∷ l) s =
     (periods_pos l (λ i b. s (suc i) (omega arith)))
   where
     one : (o : Option Stream) → of_stream (Unit {0}) Proper o → All (λ p. 1 ≤ p) (of_stream [] (λ y. y.period ∷ []) o)
-    one none p = tt
-    one (some y) p = (omega arith, tt)
+    one None p = tt
+    one (Some y) p = (omega arith, tt)

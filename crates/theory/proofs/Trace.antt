@@ -1,6 +1,6 @@
 -- What one line gets over a run.
 use mathlib.Core.Path.{◌≡◌, refl, sym, ap, ◌∙◌, subst}
-use mathlib.Core.Option.{Option, none, some}
+use Rattle.std.specs.Prelude.{Option, None, Some}
 use mathlib.Core.List.{List}
 use Prim.Native.Nat.{ℕ, suc, ◌+◌, ◌-◌, ◌<◌}
 use native.Mathlib.Decide.{ℕ_discrete}
@@ -30,11 +30,11 @@ pub length_tick : (o : Option ℕ) (l : List Slot) → length (pass (serve o l))
 length_tick o l = length-map (serve o l) passed_slot ∙ length_serve o l
 
 -- R45: the slot named is served
-pub at_served : (l : List Slot) (j : ℕ) → j < length l → at (serve (some j) l) j ≡ served (at l j)
+pub at_served : (l : List Slot) (j : ℕ) → j < length l → at (serve (Some j) l) j ≡ served (at l j)
 at_served l j h = ap (λ (s : Slot). s.held) (get_or-set_same l j (served_slot (slot_at l j)) empty h)
 
 -- R45: and no other is touched
-pub at_others : (l : List Slot) (k j : ℕ) → (k ≡ j → ⊥) → at (serve (some k) l) j ≡ at l j
+pub at_others : (l : List Slot) (k j : ℕ) → (k ≡ j → ⊥) → at (serve (Some k) l) j ≡ at l j
 at_others l k j n = ap (λ (s : Slot). s.held) (get_or-set_other l k j (served_slot (slot_at l k)) empty (λ z. n (sym z)))
 
 -- R45: a line of these numbers, served
@@ -58,22 +58,22 @@ is_stretched p h v = (with_period v.0 p, ap (stretch p) v.1, v.2, refl, v.4, v.5
 
 -- after a serving what the line is owed and the tick it got add up
 pub owed_or_got : (o : Option ℕ) (l : List Slot) (j C P a c : ℕ) → May o l → RunsAs C P a c (at l j) → (x : ℕ) × RunsAs C P a x (at (serve o l) j) × (x + is_slot j o ≡ c)
-owed_or_got none l j C P a c m e = (c, e, omega arith)
-owed_or_got (some k) l j C P a c m e = by (ℕ_discrete k j)
+owed_or_got None l j C P a c m e = (c, e, omega arith)
+owed_or_got (Some k) l j C P a c m e = by (ℕ_discrete k j)
   where
-    by : Dec (k ≡ j) → (x : ℕ) × RunsAs C P a x (at (serve (some k) l) j) × (x + is_slot j (some k) ≡ c)
+    by : Dec (k ≡ j) → (x : ℕ) × RunsAs C P a x (at (serve (Some k) l) j) × (x + is_slot j (Some k) ≡ c)
     by (yes q) =
         let v : Owed (at l j) = subst (λ (n : ℕ). Owed (at l n)) q m.1 in
-        let f : at (serve (some k) l) j ≡ served (at l j) = subst (λ (n : ℕ). at (serve (some k) l) n ≡ served (at l n)) q (at_served l k m.0) in
+        let f : at (serve (Some k) l) j ≡ served (at l j) = subst (λ (n : ℕ). at (serve (Some k) l) n ≡ served (at l n)) q (at_served l k m.0) in
         (c - 1, rw f (is_served (at l j) e), rw (eq-eqb k j q) (omega (arith, is_owed_lem (at l j) e v)))
     by (no n) = (c, rw (at_others l k j n) e, rw (ne_eqb k j n) (omega arith))
 
 -- a line that is owed nothing is not served
 pub not_served : (o : Option ℕ) (l : List Slot) (j : ℕ) → May o l → (Owed (at l j) → ⊥) → (at (serve o l) j ≡ at l j) × (is_slot j o ≡ 0)
-not_served none l j m v = (refl, refl)
-not_served (some k) l j m v = by (ℕ_discrete k j)
+not_served None l j m v = (refl, refl)
+not_served (Some k) l j m v = by (ℕ_discrete k j)
   where
-    by : Dec (k ≡ j) → (at (serve (some k) l) j ≡ at l j) × (is_slot j (some k) ≡ 0)
+    by : Dec (k ≡ j) → (at (serve (Some k) l) j ≡ at l j) × (is_slot j (Some k) ≡ 0)
     by (yes q) = absurd (v (subst (λ (n : ℕ). Owed (at l n)) q m.1))
     by (no n) = (at_others l k j n, rw (ne_eqb k j n))
 

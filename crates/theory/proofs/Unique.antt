@@ -1,4 +1,5 @@
 -- There is only one right answer.
+use Rattle.std.specs.Prelude.{Ok, Err}
 use mathlib.Core.Path.{◌≡◌, sym, ap, ◌∙◌}
 use mathlib.Core.Logic.{inl, inr}
 use mathlib.Core.List.{List, [], ◌∷◌}
@@ -8,15 +9,13 @@ use lib.IntN.{pos}
 use Rattle.table.specs.declared.Table.{Table}
 use Rattle.table.specs.declared.Request.{Request}
 use Rattle.table.specs.declared.Refusal.{Refusal}
-use Rattle.table.specs.declared.Answer.{Answer}
-use Rattle.table.specs.declared.Answer.TheVariants.{Start, Refused}
 use Rattle.line.specs.Slots.{Lowest}
-use Rattle.table.specs.Words.{refusal, short_refusal, Said, gives, refuses}
+use Rattle.table.specs.Words.{refusal, short_refusal, Said}
 use Rattle.line.specs.Demand.{demands, new_demand}
 use Rattle.line.specs.Ends.{excess_at}
 use Rattle.line.proofs.Excess.{excess_is, excess_within}
 use Rattle.table.specs.Grounds.{asked, Late, Full, Waiters, Unsound, Misstretched, Misfit, Wide, Overload, Behind, Short, Row, row, row_short, grounds, FirstOf, NoneOf, Answers}
-use Rattle.table.specs.Ask.{says, ask_of}
+use Rattle.table.specs.Ask.{ask_of}
 use Rattle.theory.proofs.Numbers.{split}
 use Rattle.theory.proofs.Start.{least_unique}
 use Rattle.theory.proofs.Answers.{ask_answers}
@@ -105,17 +104,17 @@ first_none (s ∷ rs) t q x (inr p) n = first_none rs t q x p.1 n.1
 
 -- R71, R41: two answers that the relation allows are equal
 pub answers_unique : (t : Table) (q : Request) (a b : Said ℕ) → Answers t q a → Answers t q b → a ≡ b
-answers_unique t q (gives r) (gives u) p s = ap gives (least_unique t.clock (asked t q) (new_demand q.need q.period) r u p.1 s.1)
-answers_unique t q (gives r) (refuses y) p s = absurd (first_none grounds t q y s p.0)
-answers_unique t q (refuses x) (gives u) p s = absurd (first_none grounds t q x p s.0)
-answers_unique t q (refuses x) (refuses y) p s = ap refuses (first_one grounds t q x y (all_one t q) p s)
+answers_unique t q (Ok r) (Ok u) p s = ap Ok (least_unique t.clock (asked t q) (new_demand q.need q.period) r u p.1 s.1)
+answers_unique t q (Ok r) (Err y) p s = absurd (first_none grounds t q y s p.0)
+answers_unique t q (Err x) (Ok u) p s = absurd (first_none grounds t q x p s.0)
+answers_unique t q (Err x) (Err y) p s = ap Err (first_one grounds t q x y (all_one t q) p s)
 
-says_one : (a b : Answer) → says a ≡ says b → a ≡ b
-says_one (Start r) (Start u) e = cc
-says_one (Start r) (Refused y) e = cc
-says_one (Refused x) (Start u) e = cc
-says_one (Refused x) (Refused y) e = cc
+says_one : (a b : Said ℕ) → a ≡ b → a ≡ b
+says_one (Ok r) (Ok u) e = cc
+says_one (Ok r) (Err y) e = cc
+says_one (Err x) (Ok u) e = cc
+says_one (Err x) (Err y) e = cc
 
 -- R41: so an answer is right exactly when it is the computed one
-pub answers_is : (t : Table) (q : Request) (a : Answer) → Answers t q (says a) → a ≡ ask_of t q
-answers_is t q a h = says_one a (ask_of t q) (answers_unique t q (says a) (says (ask_of t q)) h (ask_answers t q))
+pub answers_is : (t : Table) (q : Request) (a : Said ℕ) → Answers t q (a) → a ≡ ask_of t q
+answers_is t q a h = says_one a (ask_of t q) (answers_unique t q (a) ((ask_of t q)) h (ask_answers t q))

@@ -1,6 +1,5 @@
 -- What a run of the pump keeps: the shares, no excess, the lag, and the runs themselves. A line that waits has its stream too, and counts in all of it.
-use Rattle.std.specs.Prelude.{ℕ, zero, suc, ◌-◌, ◌≤◌, ◌<◌, ◌≡◌, List, length}
-use Rattle.std.proofs.Math.Option.{Option, none, some}
+use Rattle.std.specs.Prelude.{ℕ, zero, suc, ◌-◌, ◌≤◌, ◌<◌, ◌≡◌, List, length, Option, None, Some}
 use Rattle.line.specs.declared.Held.{Held}
 use Rattle.line.specs.declared.Stream.{Stream}
 use Rattle.line.specs.declared.Slot.{Slot}
@@ -27,13 +26,13 @@ pub record Fine (M k : ℕ) (l : List Slot) : Type 0 where
 
 -- any serving of a running line that is owed, or none
 abbrev pub May : Option ℕ → List Slot → Type 0
-May none l = Unit {0}
-May (some j) l = (j < length l) × Owed (at l j)
+May None l = Unit {0}
+May (Some j) l = (j < length l) × Owed (at l j)
 
 -- no tick is wasted: none is served only if nobody is owed
 abbrev pub Busy : Option ℕ → List Slot → Type 0
-Busy none l = Each (λ h. Owed h → ⊥) l
-Busy (some j) l = (j < length l) × Owed (at l j)
+Busy None l = Each (λ h. Owed h → ⊥) l
+Busy (Some j) l = (j < length l) × Owed (at l j)
 
 -- R46: where the period ends with the coming tick, nothing is owed
 abbrev pub Closes : Stream → Type 0

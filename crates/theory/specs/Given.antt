@@ -1,7 +1,6 @@
 -- What is known of a table and a request that no ground refuses, and the ends at which the excess can rise.
-use Rattle.std.specs.Prelude.{ℕ, ◌+◌, ◌-◌, ◌*◌, ◌/◌, ◌^◌, ◌≤◌, ◌<◌, ◌≡◌, List, length}
+use Rattle.std.specs.Prelude.{ℕ, ◌+◌, ◌-◌, ◌*◌, ◌/◌, ◌^◌, ◌≤◌, ◌<◌, ◌≡◌, List, length, Some}
 use Rattle.std.specs.Int.{◌∣◌}
-use Rattle.std.proofs.Math.Option.{some}
 use Rattle.line.specs.declared.Held.{Held}
 use Rattle.line.specs.declared.Slot.{Slot}
 use Rattle.table.specs.declared.Table.{Table}
@@ -42,7 +41,7 @@ AnyEnd t0 l d = (i : ℕ) × (i < length l) × IsEnd t0 (at l i) d
 pub record Cleared (t : Table) (q : Request) : Type 0 where
   pub early : t.clock ≤ 2 ^ 48 - 65536
   pub slot : ℕ
-  pub lowest_empty : lowest_of is_nothing t.slots ≡ some slot
+  pub lowest_empty : lowest_of is_nothing t.slots ≡ Some slot
   pub none_waits : Each (λ h. Waits h → ⊥) t.slots
   pub sound : Each Sound t.slots
   pub within : accounted t ≤ t.clock

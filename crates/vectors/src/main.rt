@@ -5,7 +5,6 @@
 ghost use Rattle.std.specs.Prelude.{◌≡◌, ◌+◌, ◌≤◌, length, take};
 
 use std::io::Read;
-use table::Answer;
 
 fn wide(b: u8) -> usize
     ensures { result ≤ 255 }
@@ -54,7 +53,7 @@ fn room(to: &impl Print, out: &[u8], at: usize) -> usize
     0
 }
 
-fn add(to: &impl Print, out: &mut [u8], at: usize, a: Answer) -> usize
+fn add(to: &impl Print, out: &mut [u8], at: usize, a: Result<u64, Refusal>) -> usize
     requires { (at ≤ length out.old) × (72 ≤ length out.old) }
     ensures { result ≤ length out.new }
 {

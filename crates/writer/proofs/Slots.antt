@@ -1,8 +1,8 @@
 -- The writer's loops over the slots: the used ones, what is measured of them, their records.
+use Rattle.std.specs.Prelude.{Option, None, Some}
 use mathlib.Core.Path.{◌≡◌, refl, sym, ap, ap₂, ◌∙◌}
 use mathlib.Core.List.{List, [], ◌∷◌, ◌++◌, append_assoc, append-nil}
 use mathlib.Core.Bool.{Bool, true, false}
-use mathlib.Core.Option.{none, some}
 use Prim.Native.Nat.{ℕ, zero, suc, ◌+◌, ◌-◌, ◌*◌, ◌≤◌, ◌<◌}
 use native.Mathlib.Omega.{arith}
 use native.Mathlib.Nat.{le_of_suc-le-suc, add_comm}
@@ -17,8 +17,6 @@ use Rattle.line.proofs.After.{by_follows_lem}
 use Rattle.line.proofs.Search.{Looking, look_start, look_on, look_stop, look_end}
 use Rattle.card.specs.declared.Mark.{Mark}
 use Rattle.card.specs.declared.SlotRecord.{SlotRecord}
-use Rattle.card.specs.declared.Recorded.{Recorded}
-use Rattle.card.specs.declared.Recorded.TheVariants.{As, No}
 use Rattle.card.specs.Layout.{mark_bytes, is_free, line_length, record_length}
 use Rattle.card.specs.Marked.{numbers_of, record_bytes, record_for, recorded_bytes}
 use Rattle.card.specs.Card.{slot_record, slot_records, used_from, used}
@@ -78,9 +76,9 @@ records_mono (s ∷ ss) ts (suc i) (suc n) h =
     omega arith
 
 -- there is no record
-abbrev lacks : Recorded → Bool
-lacks (As r) = false
-lacks No = true
+abbrev lacks : Option SlotRecord → Bool
+lacks (Some r) = false
+lacks None = true
 
 -- R23: a waiting line has none, and all else has one
 waiting_lacks : (h : Held) (t : ℕ) → is_waiting h ≡ lacks (record_for h t)
@@ -89,9 +87,9 @@ waiting_lacks (Running r) t = refl
 waiting_lacks (Waiting w) t = refl
 
 -- there is one, whose mark stands alone
-abbrev alone : Recorded → Bool
-alone (As r) = is_free r.mark
-alone No = false
+abbrev alone : Option SlotRecord → Bool
+alone (Some r) = is_free r.mark
+alone None = false
 
 -- R53: that is the record of a slot that holds nothing
 nothing_alone : (h : Held) (t : ℕ) → is_nothing h ≡ alone (record_for h t)
@@ -100,10 +98,10 @@ nothing_alone (Running r) t = by_follows_lem (λ (m : Mark). false ≡ is_free m
 nothing_alone (Waiting w) t = refl
 
 -- the slot h has the record r
-module _ (h : Held) (t : ℕ) (r : SlotRecord) (e : record_for h t ≡ As r) where
+module _ (h : Held) (t : ℕ) (r : SlotRecord) (e : record_for h t ≡ Some r) where
   -- how long it is
   pub recorded_length : record_length r.mark ≡ length (slot_record h t)
-  recorded_length = sym (ap (λ (x : Recorded). length (recorded_bytes x)) e ∙ bytes_length r)
+  recorded_length = sym (ap (λ (x : Option SlotRecord). length (recorded_bytes x)) e ∙ bytes_length r)
 
   -- R55: the slot holds nothing exactly where its mark stands alone
   recorded_free : is_nothing h ≡ is_free r.mark
@@ -119,18 +117,18 @@ module _ (h : Held) (t : ℕ) (r : SlotRecord) (e : record_for h t ≡ As r) whe
   put_recorded l m q = q ∙ ap₂ (λ (x : List ℕ) (j : ℕ). x ++ drop j l) (sym (ap recorded_bytes e)) recorded_length
 
 -- R23: a slot that has none
-module _ (h : Held) (t : ℕ) (e : record_for h t ≡ No) where
+module _ (h : Held) (t : ℕ) (e : record_for h t ≡ None) where
   -- its line waits
   unrecorded_waits : is_waiting h ≡ true
   unrecorded_waits = waiting_lacks h t ∙ ap lacks e
 
   -- it has no length
   pub unrecorded_length : 0 ≡ length (slot_record h t)
-  unrecorded_length = sym (ap (λ (x : Recorded). length (recorded_bytes x)) e)
+  unrecorded_length = sym (ap (λ (x : Option SlotRecord). length (recorded_bytes x)) e)
 
   -- and no byte is written
   pub put_unrecorded : (l : List ℕ) → l ≡ slot_record h t ++ drop (length (slot_record h t)) l
-  put_unrecorded l = ap (λ (x : Recorded). recorded_bytes x ++ drop (length (recorded_bytes x)) l) (sym e)
+  put_unrecorded l = ap (λ (x : Option SlotRecord). recorded_bytes x ++ drop (length (recorded_bytes x)) l) (sym e)
 
 -- no line of the first i slots waits, and their records have all bytes; n of them are used, whose records have len
 pub record Counted (ss : List Slot) (ts : List ℕ) (i all n len : ℕ) : Type 0 where
@@ -149,7 +147,7 @@ module _ {ss : List Slot} {ts : List ℕ} {i all n len : ℕ} (m : Counted ss ts
   counted_small = omega (arith, records_length i ss ts, m.total)
 
   -- the next slot has the record x, of w bytes
-  module _ (h : i < length ss) (x : SlotRecord) (e : record_for (at ss i) (get_or ts i 0) ≡ As x) (w : ℕ) (f : w ≡ record_length x.mark) where
+  module _ (h : i < length ss) (x : SlotRecord) (e : record_for (at ss i) (get_or ts i 0) ≡ Some x) (w : ℕ) (f : w ≡ record_length x.mark) where
     looked_on : Looking (λ k. is_waiting (at ss k)) (length ss) (i + 1)
     looked_on = look_on m.looked h (recorded_started (at ss i) (get_or ts i 0) x e)
 
@@ -181,11 +179,11 @@ module _ {ss : List Slot} {ts : List ℕ} {i all n len : ℕ} (m : Counted ss ts
     }
 
   -- R23: the first slot without a record is the lowest whose line waits
-  pub counted_stop : i < length ss → record_for (at ss i) (get_or ts i 0) ≡ No → lowest_of is_waiting ss ≡ some i
+  pub counted_stop : i < length ss → record_for (at ss i) (get_or ts i 0) ≡ None → lowest_of is_waiting ss ≡ Some i
   counted_stop h e = look_stop m.looked h (unrecorded_waits (at ss i) (get_or ts i 0) e)
 
   -- R23, R53, R55: every slot is looked at, and no line waits
-  pub counted_end : length ss ≤ i → (lowest_of is_waiting ss ≡ none) × (n ≡ used ss) × (len ≡ length (slot_records n ss ts))
+  pub counted_end : length ss ≤ i → (lowest_of is_waiting ss ≡ None) × (n ≡ used ss) × (len ≡ length (slot_records n ss ts))
   counted_end h = (look_end m.looked h, m.last ∙ ap used (take_all i ss h), m.count)
 
 -- i of n records stand in the buffer l, which was l₀

@@ -1,8 +1,8 @@
 -- The answer and the buffer of the whole writer.
+use Rattle.std.specs.Prelude.{Ok, Err, None, Some}
 use mathlib.Core.Path.{◌≡◌, refl, sym, ap, ap₂, ◌∙◌}
 use mathlib.Core.List.{List, ◌++◌, append_assoc}
 use mathlib.Core.Bool.{Bool}
-use mathlib.Core.Option.{none, some}
 use Prim.Native.Nat.{ℕ, ◌+◌, ◌*◌, ◌/◌, ◌%◌, ◌≤◌, ◌<◌}
 use native.Mathlib.Omega.{arith}
 use native.Mathlib.Nat.{mul-add-mod_self_left, mod-eq_of_lt}
@@ -12,7 +12,7 @@ use Rattle.table.specs.declared.Table.{Table}
 use Rattle.table.specs.declared.Request.{Request}
 use Rattle.table.specs.declared.Refusal.{Refusal}
 use Rattle.line.specs.Slots.{pick, is_waiting, lowest_of}
-use Rattle.table.specs.Words.{refusal, Said, gives, refuses}
+use Rattle.table.specs.Words.{refusal, Said}
 use Rattle.card.specs.Bytes.{le}
 use Rattle.card.specs.Layout.{clock_length, last_length}
 use Rattle.card.specs.Card.{clock_record, slot_records, request_record, used, card_of}
@@ -36,18 +36,18 @@ by_twos v h =
 
 module _ (t : Table) (q : Request) where
   -- R33: there is no room
-  too_short_lem : (room : ℕ) → room < length (card_of t q) → length_of t q room ≡ refuses (refusal 13 0)
+  too_short_lem : (room : ℕ) → room < length (card_of t q) → length_of t q room ≡ Err (refusal 13 0)
   unfolding length_of
-  too_short_lem room h = ap (λ (o : Bool). pick o (gives (length (card_of t q))) (refuses (refusal 13 0))) (lt-leb (length (card_of t q)) room h)
+  too_short_lem room h = ap (λ (o : Bool). pick o (Ok (length (card_of t q))) (Err (refusal 13 0))) (lt-leb (length (card_of t q)) room h)
 
   -- there is room
-  long_enough : (room : ℕ) → length (card_of t q) ≤ room → length_of t q room ≡ gives (length (card_of t q))
+  long_enough : (room : ℕ) → length (card_of t q) ≤ room → length_of t q room ≡ Ok (length (card_of t q))
   unfolding length_of
-  long_enough room h = ap (λ (o : Bool). pick o (gives (length (card_of t q))) (refuses (refusal 13 0))) (le-leb (length (card_of t q)) room h)
+  long_enough room h = ap (λ (o : Bool). pick o (Ok (length (card_of t q))) (Err (refusal 13 0))) (le-leb (length (card_of t q)) room h)
 
   -- R17, R33: a refusal leaves the buffer l
   pub short_writing : (l : List ℕ) (r : Refusal) → r ≡ refusal 13 0 → length l < length (card_of t q)
-      → (refuses r ≡ length_of t q (length l)) × (l ≡ filled (card_of t q) l (length_of t q (length l)))
+      → (Err r ≡ length_of t q (length l)) × (l ≡ filled (card_of t q) l (length_of t q (length l)))
   short_writing l r e h = rw (e, too_short_lem (length l) h) (refl, refl)
 
   -- n slots, where n are used
@@ -70,17 +70,17 @@ module _ (t : Table) (q : Request) where
     -- R59: the buffer m, which was l, holds the parts, and the card's length is answered
     pub whole_writing : (l m : List ℕ) (len : ℕ) → len ≡ length (card_of t q) → length (card_of t q) ≤ length l
         → m ≡ parts_of t q n ++ drop (clock_length + last_length + length (slot_records n t.slots q.stretched)) l
-        → (gives len ≡ length_of t q (length l)) × (m ≡ filled (card_of t q) l (length_of t q (length l)))
+        → (Ok len ≡ length_of t q (length l)) × (m ≡ filled (card_of t q) l (length_of t q (length l)))
     whole_writing l m len f h w =
         rw (long_enough (length l) h, f) (refl, w ∙ ap₂ (λ (x : List ℕ) (j : ℕ). x ++ drop j l) parts_card parts_length)
 
   -- R23: a waiting line is refused at its slot, whatever the buffer
-  pub waiting_writing : (k : ℕ) → lowest_of is_waiting t.slots ≡ some k → (r : Refusal) → r ≡ refusal 3 k → (l : List ℕ)
-      → (refuses r ≡ write_of t q (length l)) × (l ≡ buffer_of t q l)
+  pub waiting_writing : (k : ℕ) → lowest_of is_waiting t.slots ≡ Some k → (r : Refusal) → r ≡ refusal 3 k → (l : List ℕ)
+      → (Err r ≡ write_of t q (length l)) × (l ≡ buffer_of t q l)
   waiting_writing k w r f l = rw (w, f) (refl, refl)
 
   -- R59: where none waits the room decides
-  pub other_writing : lowest_of is_waiting t.slots ≡ none → (l m : List ℕ) (s : Said ℕ)
+  pub other_writing : lowest_of is_waiting t.slots ≡ None → (l m : List ℕ) (s : Said ℕ)
       → (s ≡ length_of t q (length l)) × (m ≡ filled (card_of t q) l (length_of t q (length l)))
       → (s ≡ write_of t q (length l)) × (m ≡ buffer_of t q l)
   other_writing w l m s p = rw w p

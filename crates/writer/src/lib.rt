@@ -1,16 +1,16 @@
 // The card writer: each record goes into the part of the buffer after the last one.
 #![tactic(auto)]
 
-ghost use Rattle.std.specs.Prelude.{◌≡◌, ◌++◌, ◌+◌, ◌≤◌, length, drop};
+ghost use Rattle.std.specs.Prelude.{None, Some, ◌≡◌, ◌++◌, ◌+◌, ◌≤◌, length, drop};
 ghost use Rattle.card.specs.Bytes.{le, mark_of};
 ghost use Rattle.card.specs.Layout.{clock_length, line_length, last_length, record_length};
 ghost use Rattle.card.specs.Marked.{numbers_of, record_bytes};
 ghost use Rattle.card.specs.Card.{clock_record, request_record, slot_record, slot_records, used, card_of};
-ghost use Rattle.card.specs.Answers.{said_written, length_of, filled, write_of, buffer_of};
+ghost use Rattle.card.specs.Answers.{length_of, filled, write_of, buffer_of};
 ghost use Rattle.writer.specs.Measured.{MeasuredRecords};
 ghost use Rattle.writer.specs.Parts.{parts_of};
 
-use card::{Mark, Recorded, SlotRecord, WriteAnswer, layout};
+use card::{Mark, SlotRecord, layout};
 use line::Slot;
 use table::{Refusal, Request, Table};
 
@@ -109,11 +109,11 @@ fn put_slot(out: &mut [u8], s: Slot, stretched: u16) -> usize
 {
     let x = SlotRecord::of(s, stretched);
     match x {
-        Recorded::As(r) => {
+        Some(r) => {
             put_record(out, r);
             r.length()
         }
-        Recorded::No => 0,
+        None => 0,
     }
 }
 
@@ -130,7 +130,7 @@ fn measure(slots: [Slot; 16], stretched: [u16; 16]) -> Measured
         let t = stretched[i];
         let x = SlotRecord::of(s, t);
         match x {
-            Recorded::As(r) => {
+            Some(r) => {
                 i = i + 1;
                 all = all + r.length();
                 if !r.is_free() {
@@ -138,7 +138,7 @@ fn measure(slots: [Slot; 16], stretched: [u16; 16]) -> Measured
                     len = all;
                 }
             }
-            Recorded::No => {
+            None => {
                 return Measured::Without(i);
             }
         }
@@ -176,27 +176,27 @@ fn put_parts(out: &mut [u8], t: Table, q: Request, n: usize)
 }
 
 // R33, R59: the length is known before a byte is written, so that a refusal leaves the buffer alone.
-fn write_card(t: Table, q: Request, n: usize, m: usize, out: &mut [u8]) -> WriteAnswer
+fn write_card(t: Table, q: Request, n: usize, m: usize, out: &mut [u8]) -> Result<usize, Refusal>
     requires { (n ≤ 16) × (n ≡ used t.slots) × (m ≡ length (slot_records n t.slots q.stretched)) }
-    ensures length_said { said_written result ≡ length_of t q (length out.old) }
+    ensures length_said { result ≡ length_of t q (length out.old) }
     ensures buffer_after { out.new ≡ filled (card_of t q) out.old (length_of t q (length out.old)) }
 {
     let len = layout::CLOCK_LENGTH + layout::LAST_LENGTH + m;
     if out.len() < len {
-        return WriteAnswer::Refused(Refusal::new(13, 0));
+        return Err(Refusal::new(13, 0));
     }
     put_parts(out, t, q, n);
-    WriteAnswer::Length(len)
+    Ok(len)
 }
 
 // R23, R59: a waiting line is looked for before the room is. The contract settles the answer and the whole buffer: both parts are equations.
-pub fn write(t: Table, q: Request, out: &mut [u8]) -> WriteAnswer
-    ensures { (said_written result ≡ write_of t q (length out.old)) × (out.new ≡ buffer_of t q out.old) }
+pub fn write(t: Table, q: Request, out: &mut [u8]) -> Result<usize, Refusal>
+    ensures { (result ≡ write_of t q (length out.old)) × (out.new ≡ buffer_of t q out.old) }
 {
     let slots = t.slots;
     let stretched = q.stretched;
     match measure(slots, stretched) {
-        Measured::Without(k) => WriteAnswer::Refused(Refusal::new(3, k as u64)),
+        Measured::Without(k) => Err(Refusal::new(3, k as u64)),
         Measured::Used(n, m) => write_card(t, q, n, m, out),
     }
 }

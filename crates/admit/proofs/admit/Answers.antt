@@ -5,14 +5,14 @@ use Rattle.admit.proofs.Right.{admits}
 use Rattle.admit.proofs.admit.Goals as goal
 
 pub admitted-next-requires : goal.admitted-next-requires
-admitted-next-requires c = rw c.in-Start.is at c.ask-a.ensures.1
+admitted-next-requires c = rw c.in-Ok.is at c.ask-a.ensures.1
 
-pub returns-in-Start : goal.returns-in-Start
-returns-in-Start c =
+pub returns-in-Ok : goal.returns-in-Ok
+returns-in-Ok c =
     let x = c.args in
-    admits x.t x.q c.ask-a.ensures.0 (admit_start x.t x.q c.in-Start.is c.admitted-next.ensures)
+    admits x.t x.q c.ask-a.ensures.0 (admit_start x.t x.q c.in-Ok.is c.admitted-next.ensures)
 
-pub returns-in-Refused : goal.returns-in-Refused
-returns-in-Refused c =
+pub returns-in-Err : goal.returns-in-Err
+returns-in-Err c =
     let x = c.args in
-    admits x.t x.q c.ask-a.ensures.0 (c.untouched.ensures ∙ admit_refused x.t x.q c.in-Refused.is)
+    admits x.t x.q c.ask-a.ensures.0 (c.untouched.ensures ∙ admit_refused x.t x.q c.in-Err.is)

@@ -1,12 +1,11 @@
 -- What the writer says is the result.
+use Rattle.table.specs.Words.{Said}
 use mathlib.Core.Path.{sym, ap, ◌∙◌}
-use Rattle.card.specs.declared.WriteAnswer.{WriteAnswer}
-use Rattle.card.specs.Answers.{said_written}
 use Rattle.calls.specs.Results.{result_at}
 use Rattle.calls.proofs.written.Goals as goal
 
-pub returns-in-Length : goal.returns-in-Length
-returns-in-Length c = c.granted.ensures ∙ ap (λ (w : WriteAnswer). result_at c.args.place (said_written w)) (sym c.in-Length.is)
+pub returns-in-Ok : goal.returns-in-Ok
+returns-in-Ok c = c.granted.ensures ∙ ap (λ (w : Said ℕ). result_at c.args.place (w)) (sym c.in-Ok.is)
 
-pub returns-in-Refused : goal.returns-in-Refused
-returns-in-Refused c = c.refused.ensures ∙ ap (λ (w : WriteAnswer). result_at c.args.place (said_written w)) (sym c.in-Refused.is)
+pub returns-in-Err : goal.returns-in-Err
+returns-in-Err c = c.refused.ensures ∙ ap (λ (w : Said ℕ). result_at c.args.place (w)) (sym c.in-Err.is)

@@ -6,8 +6,8 @@ use Rattle.image.proofs.load.Goals as goal
 pub table_in-requires : goal.table_in-requires
 table_in-requires c = omega (arith, has_length 16 c.args.image.now c.wrong_in.ensures c.in-None.is)
 
-pub returns-in-At : goal.returns-in-At
-returns-in-At c = search load_broken
+pub returns-in-Some : goal.returns-in-Some
+returns-in-Some c = search load_broken
 
 pub returns-in-None : goal.returns-in-None
 returns-in-None c = search load_right

@@ -1,4 +1,5 @@
 -- `pass_all` meets its contract: the pass in time order over the lines that were loaded, up to their last end.
+use Rattle.std.specs.Prelude.{Some}
 use native.Mathlib.Omega.{arith}
 use Rattle.pass.proofs.LastEnd.{last_near}
 use Rattle.pass.proofs.LinedUp.{lined_fit, lined_room, lined_first, lined_passed}
@@ -11,7 +12,7 @@ in_order-requires c =
       places = (
         lined_room pre.0 up.0 up.1 (omega arith) (omega arith),
         lined_fit pre.0 up.0 up.1,
-        record { some = pre.1; small = omega arith; wide = omega arith; near = last_near pre.0 c.last_end-last.ensures },
+        record { Some = pre.1; small = omega arith; wide = omega arith; near = last_near pre.0 c.last_end-last.ensures },
       );
       soonest = lined_first pre.0 up.0 up.1 c.line_up-first.ensures.soonest;
     }

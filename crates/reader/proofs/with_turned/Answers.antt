@@ -1,4 +1,5 @@
 -- `with_turned`: the bit is set above the word, or left out.
+use Rattle.std.specs.Prelude.{None}
 use borrow.Author.Rules.{rules}
 use mathlib.Core.Path.{◌≡◌, sym, ap, ◌∙◌}
 use mathlib.Core.Bool.{Bool}
@@ -17,5 +18,5 @@ returns-then-is_turned c =
 pub returns : goal.returns
 returns c =
     let a = c.args in
-    let none : a.turned ≡ 0 * 2 ^ a.i + a.turned = omega arith in
-    none ∙ sym (ap (λ (b : Bool). pick b 1 0 * 2 ^ a.i + a.turned) (sym c.is_turned.ensures ∙ c.if-is_turned.false))
+    let None : a.turned ≡ 0 * 2 ^ a.i + a.turned = omega arith in
+    None ∙ sym (ap (λ (b : Bool). pick b 1 0 * 2 ^ a.i + a.turned) (sym c.is_turned.ensures ∙ c.if-is_turned.false))

@@ -4,14 +4,14 @@ use Rattle.reply.proofs.Digits.{digits_short}
 use Rattle.reply.proofs.Line.{start_length, refused_length}
 use Rattle.reply.proofs.line_len.Goals as goal
 
-pub returns-in-Start : goal.returns-in-Start
-returns-in-Start c =
-    (start_length c.in-Start.start _ c.in-Start.is c.places.ensures.0, omega arith)
+pub returns-in-Ok : goal.returns-in-Ok
+returns-in-Ok c =
+    (start_length c.in-Ok.start _ c.in-Ok.is c.places.ensures.0, omega arith)
 
-pub returns-in-Refused : goal.returns-in-Refused
-returns-in-Refused c =
-    let m = c.places-in-Refused.ensures.0 in
-    let p = c.places-in-Refused-2.ensures in (
-      refused_length c.in-Refused.x _ _ _ _ c.in-Refused.is c.wide.ensures.0 m p.0 c.lateness_len.ensures.0,
+pub returns-in-Err : goal.returns-in-Err
+returns-in-Err c =
+    let m = c.places-in-Err.ensures.0 in
+    let p = c.places-in-Err-2.ensures in (
+      refused_length c.in-Err.x _ _ _ _ c.in-Err.is c.wide.ensures.0 m p.0 c.lateness_len.ensures.0,
       omega (arith, p.2, c.lateness_len.ensures.1, digits_short 4 c.wide.result (omega arith)),
     )

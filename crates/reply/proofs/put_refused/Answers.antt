@@ -1,17 +1,17 @@
 -- `reply::put_refused` meets its contract: the pieces of the line, one after the other.
+use Rattle.std.specs.Prelude.{Err}
 use Prim.Native.Nat.{ℕ, ◌+◌, ◌≤◌}
 use mathlib.Core.Path.{◌≡◌, ap}
 use native.Mathlib.Omega.{arith}
 use lib.ListN.{length}
 use Rattle.table.specs.declared.Refusal.{Refusal}
-use Rattle.table.specs.Words.{refuses}
 use Rattle.reply.specs.Line.{digits, refused, space, lateness_of, line_feed, answer_line}
 use Rattle.reply.proofs.Line.{refuses_length}
 use Rattle.reply.proofs.Laid.{lay_start, lay_on}
 use Rattle.reply.proofs.put_refused.Goals as goal
 
 -- the buffer has room for all the pieces
-room : {n w : ℕ} (x : Refusal) → w ≡ x.number → length (answer_line (refuses x)) ≤ n
+room : {n w : ℕ} (x : Refusal) → w ≡ x.number → length (answer_line (Err x)) ≤ n
     → 10 + length (digits w) + length (digits x.place) + length (lateness_of x) ≤ n
 room x e p = omega (arith, refuses_length x, ap (λ (n : ℕ). length (digits n)) e, p)
 

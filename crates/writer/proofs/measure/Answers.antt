@@ -16,17 +16,17 @@ overflow_add-all c = omega (arith, counted_small c.loop-i.invariant.1, c.length-
 pub loop-i-preserved-then-not-is_free : goal.loop-i-preserved-then-not-is_free
 loop-i-preserved-then-not-is_free c =
     let q = c.loop-i in
-    (q.invariant.0, counted_line q.invariant.1 (omega (arith, q.invariant.0)) c.in-As.r (sym c.of-x.ensures ∙ c.in-As.is) _ c.length-all.ensures.0 (sym c.is_free.ensures ∙ c.if-not-is_free.true))
+    (q.invariant.0, counted_line q.invariant.1 (omega (arith, q.invariant.0)) c.in-Some.r (sym c.of-x.ensures ∙ c.in-Some.is) _ c.length-all.ensures.0 (sym c.is_free.ensures ∙ c.if-not-is_free.true))
 
 pub loop-i-preserved : goal.loop-i-preserved
 loop-i-preserved c =
     let q = c.loop-i in
-    (q.invariant.0, counted_free q.invariant.1 (omega (arith, q.invariant.0)) c.in-As.r (sym c.of-x.ensures ∙ c.in-As.is) _ c.length-all.ensures.0 (sym c.is_free.ensures ∙ c.if-not-is_free.false))
+    (q.invariant.0, counted_free q.invariant.1 (omega (arith, q.invariant.0)) c.in-Some.r (sym c.of-x.ensures ∙ c.in-Some.is) _ c.length-all.ensures.0 (sym c.is_free.ensures ∙ c.if-not-is_free.false))
 
-pub returns-in-No : goal.returns-in-No
-returns-in-No c =
+pub returns-in-None : goal.returns-in-None
+returns-in-None c =
     let q = c.loop-i in
-    counted_stop q.invariant.1 (omega (arith, q.invariant.0)) (sym c.of-x.ensures ∙ c.in-No.is)
+    counted_stop q.invariant.1 (omega (arith, q.invariant.0)) (sym c.of-x.ensures ∙ c.in-None.is)
 
 pub returns : goal.returns
 returns c = counted_end c.loop-i.invariant.1 (omega (arith, c.loop-i.invariant.0))

@@ -2,7 +2,6 @@
 use mathlib.Core.Path.{◌≡◌}
 use native.Mathlib.Omega.{arith}
 use lib.ListN.{length}
-use Rattle.card.specs.Answers.{said_written}
 use Rattle.card.proofs.Length.{used_slots}
 use Rattle.writer.proofs.Whole.{waiting_writing, other_writing}
 use Rattle.writer.proofs.write.Goals as goal
@@ -23,4 +22,4 @@ pub returns-in-Used : goal.returns-in-Used
 returns-in-Used c =
     let a = c.args in
     other_writing a.t a.q (rw c.in-Used.is at c.measure.ensures).0 a.out.now _
-    (said_written c.write_card.result) (c.write_card.ensures.length_said, c.write_card.ensures.buffer_after)
+    (c.write_card.result) (c.write_card.ensures.length_said, c.write_card.ensures.buffer_after)

@@ -14,7 +14,7 @@ returns c =
     let g4 = c.in-None-fault.is in
     let e5 = c.lowest_barred.ensures in
     let g5 = c.in-None-lowest_barred.is in (
-      ask_past x.t x.q c.if-t-gt-LATEST.false e2 c.in-At.is e3 g3 e4 g4 e5 g5
+      ask_past x.t x.q c.if-t-gt-LATEST.false e2 c.in-Some.is e3 g3 e4 g4 e5 g5
           (gathered_decide x.t x.q c.gather-g.result c.gather-g.ensures (allowed_all x.t x.q e3 g3 e4 g4 e5 g5) c.by_lines.ensures.0),
       c.by_lines.ensures.1,
     )
@@ -25,14 +25,14 @@ returns-then-t-gt-LATEST c = (search ask_late, search refused_within)
 pub returns-in-None : goal.returns-in-None
 returns-in-None c = (search ask_full, search refused_within)
 
-pub returns-in-At-lowest : goal.returns-in-At-lowest
-returns-in-At-lowest c = (search ask_waits, search refused_within)
+pub returns-in-Some-lowest : goal.returns-in-Some-lowest
+returns-in-Some-lowest c = (search ask_waits, search refused_within)
 
-pub returns-in-At-fault : goal.returns-in-At-fault
-returns-in-At-fault c = (search ask_unsound, search refused_within)
+pub returns-in-Some-fault : goal.returns-in-Some-fault
+returns-in-Some-fault c = (search ask_unsound, search refused_within)
 
-pub returns-in-At-lowest_barred : goal.returns-in-At-lowest_barred
-returns-in-At-lowest_barred c = (search ask_barred, search refused_within)
+pub returns-in-Some-lowest_barred : goal.returns-in-Some-lowest_barred
+returns-in-Some-lowest_barred c = (search ask_barred, search refused_within)
 
 pub returns-then-not-fits_period : goal.returns-then-not-fits_period
 returns-then-not-fits_period c = (search ask_misfit, search refused_within)

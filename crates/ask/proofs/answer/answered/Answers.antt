@@ -1,7 +1,7 @@
 -- `answered` meets its contract: one arm for each thing that can be decided.
+use Rattle.std.specs.Prelude.{Err}
 use mathlib.Core.Path.{ap, sym, ◌∙◌}
 use native.Mathlib.Omega.{arith}
-use Rattle.table.specs.declared.Answer.TheVariants.{Refused}
 use Rattle.ask.specs.Gathered.{answer_from}
 use Rattle.ask.proofs.answer.answered.Goals as goal
 
@@ -12,7 +12,7 @@ pub returns-in-Refused : goal.returns-in-Refused
 returns-in-Refused c = c.refused.ensures ∙ sym (ap (answer_from _) c.in-Refused.is)
 
 pub returns-in-Short : goal.returns-in-Short
-returns-in-Short c = ap Refused c.short.ensures ∙ sym (ap (answer_from _) c.in-Short.is)
+returns-in-Short c = ap Err c.short.ensures ∙ sym (ap (answer_from _) c.in-Short.is)
 
 pub overflow_add-result : goal.overflow_add-result
 overflow_add-result c = omega (arith, c.requires)

@@ -1,9 +1,8 @@
 -- Ask's answer, with the slot of the new line beside a start.
+use Rattle.table.specs.Words.{Said}
 use mathlib.Core.Path.{ap, ◌∙◌}
-use Rattle.table.specs.declared.Answer.{Answer}
-use Rattle.table.specs.Ask.{says}
 use Rattle.calls.specs.Tables.{asked_as}
 use Rattle.calls.proofs.tables.ask.Goals as goal
 
 pub returns : goal.returns
-returns c = c.asked.ensures ∙ ap (λ (a : Answer). asked_as c.args.t (says a)) c.ask.ensures.0.computed
+returns c = c.asked.ensures ∙ ap (λ (a : Said ℕ). asked_as c.args.t (a)) c.ask.ensures.0.computed

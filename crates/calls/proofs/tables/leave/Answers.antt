@@ -2,12 +2,12 @@
 use Rattle.calls.proofs.Operations.{leave_granted, leave_refused}
 use Rattle.calls.proofs.tables.leave.Goals as goal
 
-pub returns-in-In : goal.returns-in-In
-returns-in-In c =
+pub returns-in-Ok : goal.returns-in-Ok
+returns-in-Ok c =
     let x = c.args in
-    leave_granted x.t x.number c.leave-left.ensures x.out.now _ c.in-In.is c.granted.ensures c.store.ensures.1
+    leave_granted x.t x.number c.leave-left.ensures x.out.now _ c.in-Ok.is c.granted.ensures c.store.ensures.1
 
-pub returns-in-Refused : goal.returns-in-Refused
-returns-in-Refused c =
+pub returns-in-Err : goal.returns-in-Err
+returns-in-Err c =
     let x = c.args in
-    leave_refused x.t x.number c.leave-left.ensures x.out.now c.in-Refused.is c.refused.ensures
+    leave_refused x.t x.number c.leave-left.ensures x.out.now c.in-Err.is c.refused.ensures

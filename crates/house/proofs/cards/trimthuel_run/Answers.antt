@@ -7,12 +7,12 @@ use Rattle.calls.specs.Cards.{run_for}
 use Rattle.calls.proofs.Said.{was_read, was_refused}
 use Rattle.house.proofs.cards.trimthuel_run.Goals as goal
 
-pub returns-in-Read : goal.returns-in-Read
-returns-in-Read c =
+pub returns-in-Ok : goal.returns-in-Ok
+returns-in-Ok c =
     let x = c.args in
-    c.run.ensures ∙ ap (λ (s : Said Card). result_of (run_for x.ticks s)) (sym (was_read x.card.now c.read-c.ensures c.in-Read.is))
+    c.run.ensures ∙ ap (λ (s : Said Card). result_of (run_for x.ticks s)) (sym (was_read x.card.now c.read-c.ensures c.in-Ok.is))
 
-pub returns-in-Refused : goal.returns-in-Refused
-returns-in-Refused c =
+pub returns-in-Err : goal.returns-in-Err
+returns-in-Err c =
     let x = c.args in
-    c.refused.ensures ∙ ap (λ (s : Said Card). result_of (run_for x.ticks s)) (sym (was_refused x.card.now c.read-c.ensures _ c.in-Refused.is))
+    c.refused.ensures ∙ ap (λ (s : Said Card). result_of (run_for x.ticks s)) (sym (was_refused x.card.now c.read-c.ensures _ c.in-Err.is))

@@ -11,8 +11,8 @@ use Rattle.calls.specs.Moves.{write_card_for, card_after}
 use Rattle.calls.proofs.Said.{was_loaded, not_loaded}
 use Rattle.house.proofs.moves.trimthuel_write_card.Goals as goal
 
-pub returns-in-Read : goal.returns-in-Read
-returns-in-Read c =
+pub returns-in-Ok : goal.returns-in-Ok
+returns-in-Ok c =
     let x = c.args in
     let l = x.card.now in
     let q = request_of x.need x.period x.stretched.now in
@@ -20,15 +20,15 @@ returns-in-Read c =
     let t = i.result.table in
     let p = c.write.ensures in
     let e = c.new-q.ensures in
-    let h = sym (was_loaded x.table.now i.ensures c.in-Read.is) in (
+    let h = sym (was_loaded x.table.now i.ensures c.in-Ok.is) in (
       c.written.ensures ∙ ap result_of (p.0 ∙ ap (λ (r : Request). write_of t r (length l)) e) ∙ ap (λ (s : Said Table). result_of (write_card_for s q (length l))) h,
       p.1 ∙ ap (λ (r : Request). buffer_of t r l) e ∙ ap (λ (s : Said Table). card_after s q l) h,
     )
 
-pub returns-in-Refused : goal.returns-in-Refused
-returns-in-Refused c =
+pub returns-in-Err : goal.returns-in-Err
+returns-in-Err c =
     let x = c.args in
     let l = x.card.now in
     let q = request_of x.need x.period x.stretched.now in
-    let h = sym (not_loaded x.table.now c.load-i.ensures _ c.in-Refused.is) in
+    let h = sym (not_loaded x.table.now c.load-i.ensures _ c.in-Err.is) in
     (c.refused.ensures ∙ ap (λ (s : Said Table). result_of (write_card_for s q (length l))) h, ap (λ (s : Said Table). card_after s q l) h)

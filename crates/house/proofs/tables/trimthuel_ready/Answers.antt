@@ -6,12 +6,12 @@ use Rattle.calls.specs.Tables.{ReadyFor}
 use Rattle.calls.proofs.Said.{was_loaded, not_loaded}
 use Rattle.house.proofs.tables.trimthuel_ready.Goals as goal
 
-pub returns-in-Read : goal.returns-in-Read
-returns-in-Read c =
+pub returns-in-Ok : goal.returns-in-Ok
+returns-in-Ok c =
     let x = c.args in
-    subst (λ (s : Said Table). ReadyFor s c.ready.result) (sym (was_loaded x.table.now c.load-i.ensures c.in-Read.is)) c.ready.ensures
+    subst (λ (s : Said Table). ReadyFor s c.ready.result) (sym (was_loaded x.table.now c.load-i.ensures c.in-Ok.is)) c.ready.ensures
 
-pub returns-in-Refused : goal.returns-in-Refused
-returns-in-Refused c =
+pub returns-in-Err : goal.returns-in-Err
+returns-in-Err c =
     let x = c.args in
-    subst (λ (s : Said Table). ReadyFor s c.refused.result) (sym (not_loaded x.table.now c.load-i.ensures _ c.in-Refused.is)) c.refused.ensures
+    subst (λ (s : Said Table). ReadyFor s c.refused.result) (sym (not_loaded x.table.now c.load-i.ensures _ c.in-Err.is)) c.refused.ensures

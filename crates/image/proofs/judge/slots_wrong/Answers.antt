@@ -5,8 +5,8 @@ use Rattle.image.proofs.judge.slots_wrong.Goals as goal
 pub returns-then-image-at : goal.returns-then-image-at
 returns-then-image-at c = judge_cut c.loop-k.invariant (omega arith) (omega arith)
 
-pub returns-in-At : goal.returns-in-At
-returns-in-At c = judge_stop c.loop-k.invariant (omega arith) _ _ c.wrong_at.ensures c.in-At.is
+pub returns-in-Some : goal.returns-in-Some
+returns-in-Some c = judge_stop c.loop-k.invariant (omega arith) _ _ c.wrong_at.ensures c.in-Some.is
 
 pub loop-k-preserved : goal.loop-k-preserved
 loop-k-preserved c = judge_on c.loop-k.invariant (omega arith) _ c.wrong_at.ensures c.in-None.is
@@ -15,7 +15,7 @@ pub loop-k-init : goal.loop-k-init
 loop-k-init c = judge_start 16 _
 
 pub overflow_add-result : goal.overflow_add-result
-overflow_add-result c = omega (arith, judge_below c.loop-k.invariant (omega arith) _ _ c.wrong_at.ensures c.in-At.is)
+overflow_add-result c = omega (arith, judge_below c.loop-k.invariant (omega arith) _ _ c.wrong_at.ensures c.in-Some.is)
 
 pub returns : goal.returns
 returns c = judge_end c.loop-k.invariant (omega arith)

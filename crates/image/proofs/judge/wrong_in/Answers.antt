@@ -5,8 +5,8 @@ use Rattle.image.proofs.judge.wrong_in.Goals as goal
 pub returns-then-version_wrong : goal.returns-then-version_wrong
 returns-then-version_wrong c = search version_first
 
-pub returns-in-At : goal.returns-in-At
-returns-in-At c = search slots_then
+pub returns-in-Some : goal.returns-in-Some
+returns-in-Some c = search slots_then
 
 pub returns-in-None : goal.returns-in-None
 returns-in-None c = search length_last
