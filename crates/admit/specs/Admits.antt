@@ -8,5 +8,5 @@ use Rattle.table.specs.Admit.{admit_of}
 
 -- R42: a right answer, and the table that belongs to it
 pub record Admits (t : Table) (q : Request) (r : Admitted) : Type 0 where
-  pub answers : Answers t q (r.answer)
+  pub answers : Answers t q r.answer
   pub computed : r ≡ admit_of t q

@@ -13,5 +13,5 @@ Within clock (Err x) = Unit {0}
 
 -- R41: a right answer: the first ground, or the least smooth start
 pub record Asked (t : Table) (q : Request) (a : Said ℕ) : Type 0 where
-  pub answers : Answers t q (a)
+  pub answers : Answers t q a
   pub computed : a ≡ ask_of t q

@@ -36,7 +36,7 @@ asks_a = refl
 
 -- R60, R61: the eleven bytes of case A's line
 pub line_a : line_for card_a ≡ 114 ∷ 101 ∷ 108 ∷ 101 ∷ 97 ∷ 115 ∷ 101 ∷ 32 ∷ 49 ∷ 51 ∷ 10 ∷ []
-line_a = ap (λ (a : Said ℕ). answer_line (a)) (ap answer_for reads_a ∙ asks_a) ∙ line_of_case_a
+line_a = ap (λ (a : Said ℕ). answer_line a) (ap answer_for reads_a ∙ asks_a) ∙ line_of_case_a
 
 runs_a : run_admitted 26 (admit_of case_a.table case_a.request) ≡ Ok 23
 unfolding euclid gcd_of lcm_of frame_from total lowest due last_end map_at periods_in every ends_before ends_of slack bound greatest soonest_of first_short start ask_in ask_of chosen settling advance step_of ticks_run

@@ -35,14 +35,14 @@ module _ (t : Table) (q : Request) {m : Admitted} (e : m ≡ admit_of t q) where
   pub admit_granted : {r : ℕ} {o : List ℕ} (l : List ℕ) → m.answer ≡ Ok r → o ≡ stored_in m.table l → o ≡ admitted_in t q l
   admit_granted l h s =
       s ∙ ap (λ (x : Admitted). stored_in x.table l) e
-      ∙ ap (λ (a : Said ℕ). changed (a) (stored_in (admit_of t q).table l) l) (sym h ∙ admit_answer)
+      ∙ ap (λ (a : Said ℕ). changed a (stored_in (admit_of t q).table l) l) (sym h ∙ admit_answer)
 
   -- R17, R87: a refusal stores nothing
   pub admit_refused : {x : Refusal} {r : Result} (l : List ℕ) → m.answer ≡ Err x → r ≡ refused_as x
       → (r ≡ asked_as t ((ask_of t q))) × (l ≡ admitted_in t q l)
   admit_refused l h s = (
-    s ∙ ap (λ (a : Said ℕ). asked_as t (a)) (sym h ∙ admit_answer),
-    ap (λ (a : Said ℕ). changed (a) (stored_in (admit_of t q).table l) l) (sym h ∙ admit_answer),
+    s ∙ ap (λ (a : Said ℕ). asked_as t a) (sym h ∙ admit_answer),
+    ap (λ (a : Said ℕ). changed a (stored_in (admit_of t q).table l) l) (sym h ∙ admit_answer),
   )
 
 module _ (t : Table) {s : Stepped} (e : s ≡ step_of t) where
@@ -50,20 +50,20 @@ module _ (t : Table) {s : Stepped} (e : s ≡ step_of t) where
   outcome_is = ap (λ (x : Stepped). x.outcome) e
 
   -- R88: the slot that ran is answered, and the new table was stored
-  pub step_ran : {w : Option ℕ} {k : ℕ} {r : Result} (l o : List ℕ) → s.outcome ≡ Ok w → k ≡ slot_number (w) → r ≡ granted_as 0 k
+  pub step_ran : {w : Option ℕ} {k : ℕ} {r : Result} (l o : List ℕ) → s.outcome ≡ Ok w → k ≡ slot_number w → r ≡ granted_as 0 k
       → o ≡ stored_in s.table l → (r ≡ stepped_as t) × (o ≡ stepped_in t l)
   step_ran l o h n g p = (
-    g ∙ ap (granted_as 0) n ∙ ap (λ (x : Said (Option ℕ)). ran_as (x)) (sym h ∙ outcome_is),
+    g ∙ ap (granted_as 0) n ∙ ap (λ (x : Said (Option ℕ)). ran_as x) (sym h ∙ outcome_is),
     p ∙ ap (λ (x : Stepped). stored_in x.table l) e
-        ∙ ap (λ (x : Said (Option ℕ)). changed (x) (stored_in (step_of t).table l) l) (sym h ∙ outcome_is),
+        ∙ ap (λ (x : Said (Option ℕ)). changed x (stored_in (step_of t).table l) l) (sym h ∙ outcome_is),
   )
 
   -- R17, R88: a refused step stores nothing
   pub step_refused : {x : Refusal} {r : Result} (l : List ℕ) → s.outcome ≡ Err x → r ≡ refused_as x
       → (r ≡ stepped_as t) × (l ≡ stepped_in t l)
   step_refused l h g = (
-    g ∙ ap (λ (x : Said (Option ℕ)). ran_as (x)) (sym h ∙ outcome_is),
-    ap (λ (x : Said (Option ℕ)). changed (x) (stored_in (step_of t).table l) l) (sym h ∙ outcome_is),
+    g ∙ ap (λ (x : Said (Option ℕ)). ran_as x) (sym h ∙ outcome_is),
+    ap (λ (x : Said (Option ℕ)). changed x (stored_in (step_of t).table l) l) (sym h ∙ outcome_is),
   )
 
 module _ (t : Table) (n : ℕ) {s : Left} (e : s ≡ leave_of t n) where
@@ -73,14 +73,14 @@ module _ (t : Table) (n : ℕ) {s : Left} (e : s ≡ leave_of t n) where
   -- R102: the ticks are answered, and the new table was stored
   pub leave_granted : {k : ℕ} {r : Result} (l o : List ℕ) → s.leaving ≡ Ok k → r ≡ granted_as 0 k → o ≡ stored_in s.table l → (r ≡ left_as t n) × (o ≡ left_in t n l)
   leave_granted l o h g p = (
-    g ∙ ap (λ (x : Said ℕ). result_of (x)) (sym h ∙ leaving_is),
+    g ∙ ap (λ (x : Said ℕ). result_of x) (sym h ∙ leaving_is),
     p ∙ ap (λ (x : Left). stored_in x.table l) e
-        ∙ ap (λ (x : Said ℕ). changed (x) (stored_in (leave_of t n).table l) l) (sym h ∙ leaving_is),
+        ∙ ap (λ (x : Said ℕ). changed x (stored_in (leave_of t n).table l) l) (sym h ∙ leaving_is),
   )
 
   -- R17, R102: a refused leave stores nothing
   pub leave_refused : {x : Refusal} {r : Result} (l : List ℕ) → s.leaving ≡ Err x → r ≡ refused_as x → (r ≡ left_as t n) × (l ≡ left_in t n l)
   leave_refused l h g = (
-    g ∙ ap (λ (x : Said ℕ). result_of (x)) (sym h ∙ leaving_is),
-    ap (λ (x : Said ℕ). changed (x) (stored_in (leave_of t n).table l) l) (sym h ∙ leaving_is),
+    g ∙ ap (λ (x : Said ℕ). result_of x) (sym h ∙ leaving_is),
+    ap (λ (x : Said ℕ). changed x (stored_in (leave_of t n).table l) l) (sym h ∙ leaving_is),
   )

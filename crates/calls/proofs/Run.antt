@@ -36,21 +36,21 @@ unfolding ticks_run
 one_tick n t = refl
 
 module _ (ticks i ran : ℕ) (t : Table) (h : i < ticks) {s : Stepped} (e : s ≡ step_of t) where
-  next : ticks_run (ticks - i) t ≡ and_then (s.outcome) (ticks_run (ticks - (i + 1)) s.table)
+  next : ticks_run (ticks - i) t ≡ and_then s.outcome (ticks_run (ticks - (i + 1)) s.table)
   next =
       ap (λ (n : ℕ). ticks_run n t) (omega arith) ∙ one_tick (ticks - (i + 1)) t
-      ∙ ap (λ (x : Stepped). and_then (x.outcome) (ticks_run (ticks - (i + 1)) x.table)) (sym e)
+      ∙ ap (λ (x : Stepped). and_then x.outcome (ticks_run (ticks - (i + 1)) x.table)) (sym e)
 
   -- R66: a step that ran moves its tick from what is left to what was counted
-  pub run_on : (w : Option ℕ) → s.outcome ≡ Ok w → (k : ℕ) → k ≡ counted (w)
+  pub run_on : (w : Option ℕ) → s.outcome ≡ Ok w → (k : ℕ) → k ≡ counted w
       → more (ran + k) (ticks_run (ticks - (i + 1)) s.table) ≡ more ran (ticks_run (ticks - i) t)
   run_on w o k n =
       let rest = ticks_run (ticks - (i + 1)) s.table in
       more_more ran k rest ∙ ap (λ (j : ℕ). more ran (more j rest)) n
-      ∙ ap (λ (x : Said (Option ℕ)). more ran (and_then (x) rest)) (sym o) ∙ ap (more ran) (sym next)
+      ∙ ap (λ (x : Said (Option ℕ)). more ran (and_then x rest)) (sym o) ∙ ap (more ran) (sym next)
 
   -- R66: a refused step settles what all ticks say
   pub run_stop : (x : Refusal) → s.outcome ≡ Err x → Err x ≡ more ran (ticks_run (ticks - i) t)
   run_stop x o =
-      ap (λ (y : Said (Option ℕ)). more ran (and_then (y) (ticks_run (ticks - (i + 1)) s.table))) (sym o)
+      ap (λ (y : Said (Option ℕ)). more ran (and_then y (ticks_run (ticks - (i + 1)) s.table))) (sym o)
       ∙ ap (more ran) (sym next)

@@ -85,7 +85,7 @@ unless_refused (Err x) s = Err x
 
 -- R66: what an admission and so many steps after it say
 abbrev pub run_admitted : (ticks : ℕ) → Admitted → Said ℕ
-run_admitted n a = unless_refused (a.answer) (ticks_run n a.table)
+run_admitted n a = unless_refused a.answer (ticks_run n a.table)
 
 -- R66: the reader's refusal, or the run of the card's table with its request admitted
 abbrev pub run_for : (ticks : ℕ) → Said Card → Said ℕ

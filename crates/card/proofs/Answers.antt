@@ -26,7 +26,7 @@ answer_with : Said ℕ → Said ℕ
 answer_with (Ok n) = Ok n
 answer_with (Err r) = Err r
 
-answer_said : (a : Said ℕ) → answer_with (a) ≡ a
+answer_said : (a : Said ℕ) → answer_with a ≡ a
 unfolding answer_with
 answer_said (Ok n) = refl
 answer_said (Err r) = refl

@@ -176,7 +176,7 @@ module _ {n : ℕ} {l : List ℕ} {k : ℕ} (v : Judged n l k) (h : k < n) where
   -- R83: the first that is wrong has the lowest wrong byte
   pub judge_stop : (w : Option ℕ) (i : ℕ) → w ≡ slot_wrong (drop (9 + 9 * k) l) → w ≡ Some i → Some (9 + 9 * k + i) ≡ slots_wrong n 9 (drop 9 l)
   judge_stop w i e q =
-      ap (λ (o : Option ℕ). or_else (on_by (9 + 9 * k) o) (slots_wrong (n - (k + 1)) (9 + 9 * k + 9) (drop 9 (drop (9 + 9 * k) l)))) (sym (q) ∙ e) ∙ next
+      ap (λ (o : Option ℕ). or_else (on_by (9 + 9 * k) o) (slots_wrong (n - (k + 1)) (9 + 9 * k + 9) (drop 9 (drop (9 + 9 * k) l)))) (sym q ∙ e) ∙ next
 
   -- R83: where the image has ended no further byte is
   pub judge_cut : length l ≤ 9 + 9 * k → None ≡ slots_wrong n 9 (drop 9 l)
@@ -238,9 +238,9 @@ module _ (n : ℕ) (l : List ℕ) where
     -- R31, R83: what is wrong is refused at its offset
     pub load_broken : (p : ℕ) (r : Loaded) → w ≡ Some p → r ≡ handed_out (Err (refusal 11 p)) → r ≡ handed_out (load_with n l)
     unfolding load_with
-    load_broken p r q b = b ∙ ap (λ (o : Option ℕ). handed_out (unless_wrong o (table_in n l))) (sym (q) ∙ e)
+    load_broken p r q b = b ∙ ap (λ (o : Option ℕ). handed_out (unless_wrong o (table_in n l))) (sym q ∙ e)
 
     -- R83: and what is not is a table
     pub load_right : (t : Table) → w ≡ None → t ≡ table_in n l → record { table = t; answer = Read } ≡ handed_out (load_with n l)
     unfolding load_with
-    load_right t q b = ap (λ (u : Table). handed_out (Ok u)) b ∙ ap (λ (o : Option ℕ). handed_out (unless_wrong o (table_in n l))) (sym (q) ∙ e)
+    load_right t q b = ap (λ (u : Table). handed_out (Ok u)) b ∙ ap (λ (o : Option ℕ). handed_out (unless_wrong o (table_in n l))) (sym q ∙ e)

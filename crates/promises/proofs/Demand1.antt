@@ -76,8 +76,8 @@ fixed_answer = record {
   lamp = λ n. by_equation _;
   read = one_reading;
   write = one_writing;
-  reply_to = λ a. reply_settled (answer_line (a));
-  put_reply = λ a. put_reply_settled (answer_line (a));
+  reply_to = λ a. reply_settled (answer_line a);
+  put_reply = λ a. put_reply_settled (answer_line a);
   answer_card = λ card l. by_equations _ _;
   rewrite_card = λ card l. by_equations _ _;
   run_card = λ card ticks. by_equation _;
@@ -97,7 +97,7 @@ fixed_answer = record {
 -- ---- what a refusal keeps
 
 -- a right answer that refuses is the first ground's refusal
-first_refused : (t : Table) (q : Request) (a : Said ℕ) (x : Refusal) → Answers t q (a) → a ≡ Err x → FirstOf grounds t q x
+first_refused : (t : Table) (q : Request) (a : Said ℕ) (x : Refusal) → Answers t q a → a ≡ Err x → FirstOf grounds t q x
 first_refused t q a x h e = subst (Answers t q) e h
 
 admit_keeps : (t : Table) (q : Request) (m : Admitted) (x : Refusal) → m ≡ admit_of t q → m.answer ≡ Err x → m.table ≡ t
@@ -189,7 +189,7 @@ pub refusal_keeps : RefusalKeeps
 refusal_keeps = record {
   ask = λ t q a x h e. (
     first_refused t q a x h.answers e,
-    λ m g. let f : m.answer ≡ Err x = answers_unique t q (m.answer) (a) g.answers h.answers ∙ e in
+    λ m g. let f : m.answer ≡ Err x = answers_unique t q m.answer a g.answers h.answers ∙ e in
         (f, admit_keeps t q m x g.computed f),
   );
   admit = λ t q m x h e. (first_refused t q m.answer x h.answers e, admit_keeps t q m x h.computed e);
@@ -201,7 +201,7 @@ refusal_keeps = record {
       let g : c ≡ handed 0 (Err x) = h ∙ ap (handed (turned_of card)) f in
       (f, ap (λ (y : ReadCard). y.table) g, ap (λ (y : ReadCard). y.request) g, ap (λ (y : ReadCard). y.turned) g);
   write = λ t q l a m x h e. h.1 ∙ ap (filled (card_of t q) l) (sym h.0 ∙ e);
-  put_reply = λ a l w m h e. h.1 ∙ put_kept (fits (answer_line (a)) l) (answer_line (a)) l (sym h.0 ∙ e);
+  put_reply = λ a l w m h e. h.1 ∙ put_kept (fits (answer_line a) l) (answer_line a) l (sym h.0 ∙ e);
   load = λ l y x h e.
       let f : load_of l ≡ Err x = sym (said_loaded_lem (load_of l)) ∙ ap said_loaded (sym h) ∙ e in
       (f, rw h (ap (λ (s : Said Table). (handed_out s).table) f));

@@ -48,7 +48,7 @@ pub exactly_refused : ExactlyRefused
 exactly_refused = record {
   first = λ t q a x h e. subst (Answers t q) e h.answers;
   only = λ t q a x h e. some_first grounds t q x (subst (Answers t q) e h.answers);
-  always = λ t q a h s. by t q (a) h.answers s;
+  always = λ t q a h s. by t q a h.answers s;
 }
   where
     by : (t : Table) (q : Request) (w : Said ℕ) → Answers t q w → SomeOf grounds t q → (x : Refusal) × (w ≡ Err x)

@@ -49,21 +49,21 @@ module _ (t : Table) (w : TableWidths 16 t) where
   admit_image : (q : Request) → admitted_in t q (image_of t) ≡ image_of (after (admitting q) t)
   admit_image q = go (ask_of t q)
     where
-      go : (a : Said ℕ) → changed (a) (stored_in (admit_with t q a).table (image_of t)) (image_of t) ≡ image_of (admit_with t q a).table
+      go : (a : Said ℕ) → changed a (stored_in (admit_with t q a).table (image_of t)) (image_of t) ≡ image_of (admit_with t q a).table
       go (Ok r) = over (admit_with t q (Ok r)).table
       go (Err x) = refl
 
   step_image : stepped_in t (image_of t) ≡ image_of (step_of t).table
   step_image = go (step_of t).outcome refl
     where
-      go : (o : Said (Option ℕ)) → (step_of t).outcome ≡ o → changed (o) (stored_in (step_of t).table (image_of t)) (image_of t) ≡ image_of (step_of t).table
+      go : (o : Said (Option ℕ)) → (step_of t).outcome ≡ o → changed o (stored_in (step_of t).table (image_of t)) (image_of t) ≡ image_of (step_of t).table
       go (Ok k) e = over (step_of t).table
       go (Err x) e = ap image_of (sym (refused_keeps t x e))
 
   leave_image : (n : ℕ) → left_in t n (image_of t) ≡ image_of (leave_of t n).table
   leave_image n = go (leave_of t n).leaving refl
     where
-      go : (a : Said ℕ) → (leave_of t n).leaving ≡ a → changed (a) (stored_in (leave_of t n).table (image_of t)) (image_of t) ≡ image_of (leave_of t n).table
+      go : (a : Said ℕ) → (leave_of t n).leaving ≡ a → changed a (stored_in (leave_of t n).table (image_of t)) (image_of t) ≡ image_of (leave_of t n).table
       go (Ok k) e = over (leave_of t n).table
       go (Err x) e = ap image_of (sym (leave_keeps t x n e))
 

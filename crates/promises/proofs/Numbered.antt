@@ -111,7 +111,7 @@ ask_numbered t q = go ((ask_of t q)) (ask_answers t q)
     go (Ok r) h = tt
     go (Err x) h = first_numbered grounds t q x all_numbered h
 
-step_unless_lem : (o : Option ℕ) (n : ℕ) (t : Table) (s : Stepped) → (n ≡ 0 → ⊥) → (n ≡ 10 → ⊥) → Numbered (s.outcome) → Numbered ((step_unless o n t s).outcome)
+step_unless_lem : (o : Option ℕ) (n : ℕ) (t : Table) (s : Stepped) → (n ≡ 0 → ⊥) → (n ≡ 10 → ⊥) → Numbered s.outcome → Numbered ((step_unless o n t s).outcome)
 step_unless_lem None n t s z ten k = k
 step_unless_lem (Some p) n t s z ten k = plain n p z ten
 
@@ -125,11 +125,11 @@ unfolding step_of
 step_numbered t =
     go (leb (2 ^ 48) t.clock) _ (step_unless_lem (fault t) 4 t (advance (choose t) t) (λ e. omega arith) (λ e. omega arith) (advance_numbered (choose t) t))
   where
-    go : (b : Bool) (s : Stepped) → Numbered (s.outcome) → Numbered ((pick b (refused_step t 15 0) s).outcome)
+    go : (b : Bool) (s : Stepped) → Numbered s.outcome → Numbered ((pick b (refused_step t 15 0) s).outcome)
     go true s k = plain 15 0 (λ e. omega arith) (λ e. omega arith)
     go false s k = k
 
-leave_unless_lem : (o : Option ℕ) (t : Table) (r : Left) → Numbered (r.leaving) → Numbered ((leave_unless o t r).leaving)
+leave_unless_lem : (o : Option ℕ) (t : Table) (r : Left) → Numbered r.leaving → Numbered ((leave_unless o t r).leaving)
 leave_unless_lem None t r k = k
 leave_unless_lem (Some p) t r k = plain 4 p (λ e. omega arith) (λ e. omega arith)
 
@@ -213,7 +213,7 @@ ticks_numbered (suc n) t = then_numbered ((step_of t).outcome) (ticks_run n (ste
 pub run_numbered : (card : List ℕ) (ticks : ℕ) → Numbered (run_of card ticks)
 run_numbered card ticks = go (read_of card) (read_numbered 16 card)
   where
-    admitted : (t : Table) (q : Request) (a : Said ℕ) → Numbered (a) → Numbered (run_admitted ticks (admit_with t q a))
+    admitted : (t : Table) (q : Request) (a : Said ℕ) → Numbered a → Numbered (run_admitted ticks (admit_with t q a))
     admitted t q (Ok r) h = ticks_numbered ticks (admit_with t q (Ok r)).table
     admitted t q (Err x) h = h
 

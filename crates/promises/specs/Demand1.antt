@@ -44,7 +44,7 @@ Three {A = A} {B = B} {C = C} P = (x y : A) (m n : B) (k l : C) → P x m k → 
 
 -- R71: for every input, operation by operation. Every function is proved to end, so an answer there is; ask's relation is also shown to be met.
 pub record FixedAnswer : Type 0 where
-  pub ask_met : (t : Table) (q : Request) → (a : Said ℕ) × Answers t q (a)
+  pub ask_met : (t : Table) (q : Request) → (a : Said ℕ) × Answers t q a
   pub ask_said : (t : Table) (q : Request) → One (Answers t q)
   pub ask : (t : Table) (q : Request) → One (Asked t q)
   pub admit : (t : Table) (q : Request) → One (Admits t q)
@@ -55,7 +55,7 @@ pub record FixedAnswer : Type 0 where
   pub lamp : (n : ℕ) → One (λ (b : ℕ). b ≡ blinks n)
   pub read : (card : List ℕ) → One (Reads card)
   pub write : (t : Table) (q : Request) (l : List ℕ) → Both (Writes t q l)
-  pub reply_to : (a : Said ℕ) → One (Replied (answer_line (a)))
+  pub reply_to : (a : Said ℕ) → One (Replied (answer_line a))
   pub put_reply : (a : Said ℕ) (l : List ℕ) → Both (Puts a l)
   pub answer_card : (card l : List ℕ) → Both (AnswersCard card l)
   pub rewrite_card : (card l : List ℕ) → Both (Rewrites card l)

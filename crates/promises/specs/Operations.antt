@@ -45,7 +45,7 @@ Writes t q l a m = (a ≡ write_of t q (length l)) × (m ≡ buffer_of t q l)
 
 -- R62: put_reply answers w and leaves the bytes m in the buffer
 abbrev pub Puts : Said ℕ → (buffer : List ℕ) → Option ℕ → List ℕ → Type 0
-Puts a l w m = (w ≡ length_for (answer_line (a)) l) × (m ≡ held_after (answer_line (a)) l)
+Puts a l w m = (w ≡ length_for (answer_line a) l) × (m ≡ held_after (answer_line a) l)
 
 -- R83: load
 abbrev pub Loads : List ℕ → Loaded → Type 0

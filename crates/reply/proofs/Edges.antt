@@ -109,7 +109,7 @@ line_edges =
     ∷ []
 
 -- R61: the line of each answer
-pub line_edges_lem : map (λ (e : LineEdge). answer_line (e.answer)) line_edges ≡ map (λ (e : LineEdge). e.bytes) line_edges
+pub line_edges_lem : map (λ (e : LineEdge). answer_line e.answer) line_edges ≡ map (λ (e : LineEdge). e.bytes) line_edges
 unfolding digits_in digits answer_line line_edges
 line_edges_lem = refl
 
@@ -154,7 +154,7 @@ put_edges =
 
 -- what the definitions say of the input
 abbrev pub putting : PutEdge → Option ℕ × List ℕ
-putting e = (length_for (answer_line (e.answer)) e.buffer, held_after (answer_line (e.answer)) e.buffer)
+putting e = (length_for (answer_line e.answer) e.buffer, held_after (answer_line e.answer) e.buffer)
 
 -- what the row says
 abbrev pub expected : PutEdge → Option ℕ × List ℕ

@@ -121,7 +121,7 @@ line_unique (Err x) (Ok r) e = absurd (differ r x (sym e))
 line_unique (Err x) (Err y) e = ap Err (refuses_one x y e)
 
 -- R61: the same of the code's answers
-pub answer_unique : (a b : Said ℕ) → answer_line (a) ≡ answer_line (b) → a ≡ b
+pub answer_unique : (a b : Said ℕ) → answer_line a ≡ answer_line b → a ≡ b
 answer_unique (Ok r) (Ok s) e = let h : Ok r ≡ Ok s = line_unique _ _ e in cc
 answer_unique (Ok r) (Err x) e = let h : Ok r ≡ Err x = line_unique _ _ e in cc
 answer_unique (Err x) (Ok r) e = let h : Err x ≡ Ok r = line_unique _ _ e in cc
@@ -152,12 +152,12 @@ unfolding answer_line
 refuses_length x = simp length-append (omega arith)
 
 -- the length of a line by the numbers of digits in it
-pub start_length : {a : Said ℕ} (r k : ℕ) → a ≡ Ok r → k ≡ length (digits r) → 9 + k ≡ length (answer_line (a))
+pub start_length : {a : Said ℕ} (r k : ℕ) → a ≡ Ok r → k ≡ length (digits r) → 9 + k ≡ length (answer_line a)
 start_length r k e h = rw e (omega (arith, gives_length r))
 
 -- the same of the code's refusal, its digits counted
 pub refused_length : {a : Said ℕ} (x : Refusal) (n m k j : ℕ) → a ≡ Err x → n ≡ x.number → m ≡ length (digits n) → k ≡ length (digits x.place) → j ≡ length (lateness_of x)
-    → 10 + m + k + j ≡ length (answer_line (a))
+    → 10 + m + k + j ≡ length (answer_line a)
 refused_length x n m k j e f g h i = rw e (omega (arith, refuses_length x, ap (λ (y : ℕ). length (digits y)) f))
 
 -- R61: 72 bytes are enough: a number of 64 bits has at most 20 digits, one of 32 at most 10, and one of 16 at most 5

@@ -272,6 +272,6 @@ admit_edges =
 
 -- R42, R43: the answer and the whole table
 pub admit_edges_lem : map {B = Said ℕ × Table} (λ (e : AdmitEdge). ((admit_of e.asks.table e.asks.request).answer, (admit_of e.asks.table e.asks.request).table)) admit_edges
-    ≡ map (λ (e : AdmitEdge). e.asks.answer, e.leaves) admit_edges
+    ≡ map (λ (e : AdmitEdge). (e.asks.answer, e.leaves)) admit_edges
 unfolding euclid gcd_of lcm_of frame_from total lowest due last_end map_at periods_in every ends_before only_end ends_of slack bound greatest soonest_of first_short start ask_in ask_of admit_edges
 admit_edges_lem = refl

@@ -61,11 +61,11 @@ length_serve (Some k) l = length-set l k (served_slot (slot_at l k))
 -- slot i, which holds s, and the slot that the code names
 module _ {w : Option ℕ} {k i : ℕ} (s : Slot) (e : w ≡ Some k) where
   -- R45: it is named
-  pub served_here : k ≡ i → served_slot s ≡ served_at (w) i s
+  pub served_here : k ≡ i → served_slot s ≡ served_at w i s
   served_here z = rw (e, eq-eqb k i z)
 
   -- R45: another is named
-  pub served_other : (k ≡ i → ⊥) → s ≡ served_at (w) i s
+  pub served_other : (k ≡ i → ⊥) → s ≡ served_at w i s
   served_other n = rw (e, ne_eqb k i n)
 
 -- R45: slot i of those among which one is served
@@ -84,16 +84,6 @@ map_from f [] [] e = refl
 map_from f [] (y ∷ m) e = absurd (omega arith)
 map_from f (x ∷ l) [] e = absurd (omega arith)
 map_from f (x ∷ l) (y ∷ m) e = ap (λ (r : List Slot). f y ∷ r) (map_from f l m (suc_inj e))
-
--- a slot named by the code's answer, and back
-which_of_lem : (w : Option ℕ) → w ≡ (w)
-which_of_lem None = refl
-which_of_lem (Some k) = refl
-
--- a slot given to the code's answer is the slot that it names
-pub slot_of_which : (o : Option ℕ) → o ≡ o
-slot_of_which None = refl
-slot_of_which (Some k) = refl
 
 -- R97, R101: a tick counted, and who departs with it from the first i slots
 abbrev booked_to : ℕ → Option ℕ → Table → Table
@@ -177,20 +167,18 @@ module _ {o : Option ℕ} {t v : Table} {i : ℕ} (x : Ticking o t v i) where
       )
 
 module _ (t : Table) (w : Option ℕ) where
-  advance_by : (o : Option ℕ) → lowest_of short (serve (w) t.slots) ≡ o → step_unless o 14 t (ticked (w) t) ≡ advance (w) t
+  advance_by : (o : Option ℕ) → lowest_of short (serve w t.slots) ≡ o → step_unless o 14 t (ticked w t) ≡ advance w t
   unfolding advance
-  advance_by o e = ap (λ (p : Option ℕ). step_unless p 14 t (ticked (w) t)) (sym e)
+  advance_by o e = ap (λ (p : Option ℕ). step_unless p 14 t (ticked w t)) (sym e)
 
   -- R34: a period ends short
-  pub advance_short : {k : ℕ} → lowest_of short (serve (w) t.slots) ≡ Some k → refused_step t 14 k ≡ advance (w) t
+  pub advance_short : {k : ℕ} → lowest_of short (serve w t.slots) ≡ Some k → refused_step t 14 k ≡ advance w t
   advance_short {k} e = advance_by (Some k) e
 
   -- R45 to R47: none does, and every slot is a tick later
-  pub advance_fine : {next : Table} → (lowest_of short (serve (w) t.slots) ≡ None) × (next ≡ (ticked (w) t).table)
-      → ◌≡◌ {A = Stepped} (record { table = next; outcome = Ok w }) (advance (w) t)
-  advance_fine e =
-      ap₂ (λ (x : Table) (y : Option ℕ). let s : Stepped = record { table = x; outcome = Ok y } in s) e.1 (which_of_lem w)
-      ∙ advance_by None e.0
+  pub advance_fine : {next : Table} → (lowest_of short (serve w t.slots) ≡ None) × (next ≡ (ticked w t).table)
+      → ◌≡◌ {A = Stepped} (record { table = next; outcome = Ok w }) (advance w t)
+  advance_fine e = ap (λ (x : Table). let s : Stepped = record { table = x; outcome = Ok w } in s) e.1 ∙ advance_by None e.0
 
 module _ (t : Table) where
   -- R35: at the last tick the step is refused with 15
@@ -208,7 +196,7 @@ module _ (t : Table) where
     step_faulty {k} e = step_by (Some k) e
 
     -- R44: else the tick goes to the choice
-    pub step_fine : (w : Option ℕ) → fault t ≡ None → w ≡ choose t → advance (w) t ≡ step_of t
+    pub step_fine : (w : Option ℕ) → fault t ≡ None → w ≡ choose t → advance w t ≡ step_of t
     step_fine w e g = ap (λ (o : Option ℕ). advance o t) g ∙ step_by None e
 
 module _ (t : Table) (x : Refusal) where
@@ -229,7 +217,7 @@ module _ (t : Table) (x : Refusal) where
   advance_keeps : (o : Option ℕ) → Keeps (advance o t)
   unfolding advance
   advance_keeps o =
-      keeps_unless (lowest_of short (serve o t.slots)) 14 (ticked o t) (keeps_ran (o) (ticked o t) refl)
+      keeps_unless (lowest_of short (serve o t.slots)) 14 (ticked o t) (keeps_ran o (ticked o t) refl)
 
   -- R48, R17: a refused step keeps the table
   pub refused_keeps : (step_of t).outcome ≡ Err x → (step_of t).table ≡ t

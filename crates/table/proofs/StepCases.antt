@@ -189,6 +189,6 @@ stepped zero t = ([], t)
 stepped (suc n) t = let r = stepped n (step_of t).table in ((step_of t).outcome ∷ r.0, r.1)
 
 -- R44 to R48: each table with its steps
-pub all_step_cases : map (λ (c : StepCase). stepped (length c.says) c.before) step_cases ≡ map (λ (c : StepCase). c.says, c.next) step_cases
+pub all_step_cases : map (λ (c : StepCase). stepped (length c.says) c.before) step_cases ≡ map (λ (c : StepCase). (c.says, c.next)) step_cases
 unfolding lowest chosen settling advance step_of step_cases
 all_step_cases = refl

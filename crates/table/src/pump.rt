@@ -6,34 +6,20 @@ ghost use Rattle.table.specs.Step.{served_at, refused_step, advance, step_of};
 
 use crate::{Refusal, Stepped, Table};
 
-// R24, R44: to whom the tick goes, or the lowest slot whose line is unsound.
-#[derive(Clone, Copy)]
-enum Turn {
-    Of(Option<usize>),
-    Unsound(usize),
-}
-
-impl Option<usize> {
-    // R45: slot `i`, which held `s`, after the slot named has got the tick.
-    fn served(self, i: usize, s: line::Slot) -> line::Slot
-        ensures { result ≡ served_at (self) i s }
-    {
-        match self {
-            None => s,
-            Some(k) => {
-                if k == i {
-                    return s.served();
-                }
-                s
-            }
-        }
+// R45: slot `i`, which held `s`, after the slot named, or none, has got the tick.
+fn served(turn: Option<usize>, i: usize, s: line::Slot) -> line::Slot
+    ensures { result ≡ served_at turn i s }
+{
+    match turn {
+        Some(k) if k == i => s.served(),
+        _ => s,
     }
 }
 
 impl Table {
-    // R24, R44: the least end of those owed, if every line is sound; among equals who ran last goes on, else the lowest slot has it. One loop for both:
-    // a table is copied for each. Who ran last is looked at before it, so that the comparison after it need not wait for that.
-    fn choose(self) -> Turn
+    // R24, R44: to whom the tick goes, or the lowest slot whose line is unsound. It goes to the least end of those owed; among equals who ran last goes on,
+    // else the lowest slot has it. One loop for both: a table is copied for each. Who ran last is looked at before it, so that the comparison after it need not wait for that.
+    fn choose(self) -> Result<Option<usize>, usize>
         ensures { Turns self result }
     {
         let last = self.last as usize;
@@ -48,7 +34,7 @@ impl Table {
         while i < 16 {
             let s = self.slots[i];
             if s.is(line::Kind::Unsound) {
-                return Turn::Unsound(i);
+                return Err(i);
             }
             let key = s.key();
             if key < least {
@@ -59,11 +45,11 @@ impl Table {
         }
         if best < 16 {
             if going <= least {
-                return Turn::Of(Some(last));
+                return Ok(Some(last));
             }
-            return Turn::Of(Some(best));
+            return Ok(Some(best));
         }
-        Turn::Of(None)
+        Ok(None)
     }
 
     // R48, R17: the table as it was, and no slot ran.
@@ -80,14 +66,14 @@ impl Table {
     // R45 to R48: a tick in which the slot named, or none, is served: what each slot holds then, or 14 at the lowest whose period ends short (R34).
     // What a line had that departs with it is counted so (R101).
     fn advance(self, w: Option<usize>) -> Stepped
-        requires { (self.clock < 2 ^ 48) × (accounted self ≤ self.clock) × Inside 16 (w) }
-        ensures { result ≡ advance (w) self }
+        requires { (self.clock < 2 ^ 48) × (accounted self ≤ self.clock) × Inside 16 w }
+        ensures { result ≡ advance w self }
     {
         let mut next = self.counting(w);
         let mut i: usize = 0;
         while i < 16 {
             let old = self.slots[i];
-            let s = w.served(i, old);
+            let s = served(w, i, old);
             if s.short() {
                 return self.refused(14, i);
             }
@@ -113,8 +99,8 @@ impl Table {
             return self.refused(15, 0);
         }
         match self.choose() {
-            Turn::Unsound(k) => self.refused(4, k),
-            Turn::Of(w) => {
+            Err(k) => self.refused(4, k),
+            Ok(w) => {
                 if self.overcounted() {
                     return self.refused(4, 0);
                 }

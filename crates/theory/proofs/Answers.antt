@@ -46,25 +46,25 @@ pass_row r rs t q (Err x) n h = inr (n, h)
 -- a test with place 0 that decides its ground
 row_if : (n : ℕ) (H : Table → Request → ℕ → Type 0) (rs : List Row) (t : Table) (q : Request) (b : Bool) (a : Said ℕ)
     → (b ≡ true → H t q 0) → (b ≡ false → (k : ℕ) → H t q k → ⊥)
-    → (b ≡ false → AnswersBy rs t q (a)) → AnswersBy (row n H ∷ rs) t q ((refused_if b n a))
+    → (b ≡ false → AnswersBy rs t q a) → AnswersBy (row n H ∷ rs) t q ((refused_if b n a))
 row_if n H rs t q true a holds fails rest = inl (0, holds refl, refl)
-row_if n H rs t q false a holds fails rest = pass_row (row n H) rs t q (a) (λ x h. fails refl h.0 h.1) (rest refl)
+row_if n H rs t q false a holds fails rest = pass_row (row n H) rs t q a (λ x h. fails refl h.0 h.1) (rest refl)
 
 -- a test that finds the place
 row_at : (n : ℕ) (H : Table → Request → ℕ → Type 0) (rs : List Row) (t : Table) (q : Request) (o : Option ℕ) (a : Said ℕ)
     → ((k : ℕ) → o ≡ Some k → H t q k) → (o ≡ None → (k : ℕ) → H t q k → ⊥)
-    → (o ≡ None → AnswersBy rs t q (a)) → AnswersBy (row n H ∷ rs) t q ((refused_at o n a))
+    → (o ≡ None → AnswersBy rs t q a) → AnswersBy (row n H ∷ rs) t q ((refused_at o n a))
 row_at n H rs t q (Some k) a holds fails rest = inl (k, holds k refl, refl)
-row_at n H rs t q None a holds fails rest = pass_row (row n H) rs t q (a) (λ x h. fails refl h.0 h.1) (rest refl)
+row_at n H rs t q None a holds fails rest = pass_row (row n H) rs t q a (λ x h. fails refl h.0 h.1) (rest refl)
 
 -- ---- ground 10, whose refusal says more
 
 -- R30, R103: the search that finds its tick
 row_short_lem : (t : Table) (q : Request) (over : ℕ → ℕ) (o : Option ℕ) (a : Said ℕ)
     → ((d : ℕ) → o ≡ Some d → Short t q d (over d)) → (o ≡ None → (d x : ℕ) → Short t q d x → ⊥)
-    → (o ≡ None → AnswersBy [] t q (a)) → AnswersBy (row_short ∷ []) t q ((refused_short o over a))
+    → (o ≡ None → AnswersBy [] t q a) → AnswersBy (row_short ∷ []) t q ((refused_short o over a))
 row_short_lem t q over (Some d) a holds fails rest = inl (d, over d, holds d refl, refl)
-row_short_lem t q over None a holds fails rest = pass_row row_short [] t q (a) (λ y h. fails refl h.0 h.1 h.2) (rest refl)
+row_short_lem t q over None a holds fails rest = pass_row row_short [] t q a (λ y h. fails refl h.0 h.1 h.2) (rest refl)
 
 -- R103: the first short end, in the rules' words
 pub first_is : (t : Table) (q : Request) (d : ℕ) → FirstShort t.clock (asked t q) d → Short t q d (ticks_short (excess_at t.clock (asked t q) d))

@@ -116,5 +116,5 @@ says_one (Err x) (Ok u) e = cc
 says_one (Err x) (Err y) e = cc
 
 -- R41: so an answer is right exactly when it is the computed one
-pub answers_is : (t : Table) (q : Request) (a : Said ℕ) → Answers t q (a) → a ≡ ask_of t q
-answers_is t q a h = says_one a (ask_of t q) (answers_unique t q (a) ((ask_of t q)) h (ask_answers t q))
+pub answers_is : (t : Table) (q : Request) (a : Said ℕ) → Answers t q a → a ≡ ask_of t q
+answers_is t q a h = says_one a (ask_of t q) (answers_unique t q a ((ask_of t q)) h (ask_answers t q))

@@ -6,4 +6,4 @@ use Rattle.reply.proofs.reply_to.Goals as goal
 pub returns : goal.returns
 returns c =
     let n = c.line_len-len.ensures in
-    replied (answer_line (c.args.a)) _ _ n.0 n.1 c.put_line.ensures
+    replied (answer_line c.args.a) _ _ n.0 n.1 c.put_line.ensures

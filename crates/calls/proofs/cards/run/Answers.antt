@@ -11,7 +11,7 @@ returns-in-Ok c =
     let n = c.args.ticks in
     let m = c.admit-m in
     c.run_table.ensures
-    ∙ ap (λ (a : Said ℕ). result_of (unless_refused (a) (ticks_run n m.result.table))) (sym c.in-Ok.is)
+    ∙ ap (λ (a : Said ℕ). result_of (unless_refused a (ticks_run n m.result.table))) (sym c.in-Ok.is)
     ∙ ap (λ (x : Admitted). result_of (run_admitted n x)) m.ensures.computed
 
 pub returns-in-Err : goal.returns-in-Err
@@ -19,5 +19,5 @@ returns-in-Err c =
     let n = c.args.ticks in
     let m = c.admit-m in
     c.refused.ensures
-    ∙ ap (λ (a : Said ℕ). result_of (unless_refused (a) (ticks_run n m.result.table))) (sym c.in-Err.is)
+    ∙ ap (λ (a : Said ℕ). result_of (unless_refused a (ticks_run n m.result.table))) (sym c.in-Err.is)
     ∙ ap (λ (x : Admitted). result_of (run_admitted n x)) m.ensures.computed

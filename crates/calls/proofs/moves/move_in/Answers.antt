@@ -12,7 +12,7 @@ returns-in-Ok c =
     let p = c.store-w.ensures in (
       c.written.ensures ∙ ap result_of p.0,
       p.1,
-      c.numbers_of.ensures ∙ ap (λ (w : Said ℕ). numbers_if x.q (w) x.numbers.now) (sym c.in-Ok.is)
+      c.numbers_of.ensures ∙ ap (λ (w : Said ℕ). numbers_if x.q w x.numbers.now) (sym c.in-Ok.is)
           ∙ ap (λ (s : Said ℕ). numbers_if x.q s x.numbers.now) p.0,
     )
 
@@ -22,6 +22,6 @@ returns-in-Err c =
     let p = c.store-w.ensures in (
       c.written-in-Err.ensures ∙ ap result_of p.0,
       p.1,
-      ap (λ (w : Said ℕ). numbers_if x.q (w) x.numbers.now) (sym c.in-Err.is)
+      ap (λ (w : Said ℕ). numbers_if x.q w x.numbers.now) (sym c.in-Err.is)
           ∙ ap (λ (s : Said ℕ). numbers_if x.q s x.numbers.now) p.0,
     )

@@ -9,7 +9,7 @@ pub returns-in-Ok : goal.returns-in-Ok
 returns-in-Ok c =
     let x = c.args in
     let e = c.admit-m.ensures.computed in (
-      c.asked.ensures ∙ ap (λ (a : Said ℕ). asked_as x.t (a)) (admit_answer x.t x.q e),
+      c.asked.ensures ∙ ap (λ (a : Said ℕ). asked_as x.t a) (admit_answer x.t x.q e),
       admit_granted x.t x.q e x.out.now c.in-Ok.is c.store.ensures.1,
     )
 

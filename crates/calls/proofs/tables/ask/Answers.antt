@@ -5,4 +5,4 @@ use Rattle.calls.specs.Tables.{asked_as}
 use Rattle.calls.proofs.tables.ask.Goals as goal
 
 pub returns : goal.returns
-returns c = c.asked.ensures ∙ ap (λ (a : Said ℕ). asked_as c.args.t (a)) c.ask.ensures.0.computed
+returns c = c.asked.ensures ∙ ap (λ (a : Said ℕ). asked_as c.args.t a) c.ask.ensures.0.computed

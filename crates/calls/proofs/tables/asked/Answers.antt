@@ -11,7 +11,7 @@ pub returns-in-Ok : goal.returns-in-Ok
 returns-in-Ok c =
     let t = c.args.t in
     c.granted.ensures ∙ ap (λ (k : ℕ). granted_as k c.in-Ok.start) (c.slot_number.ensures ∙ ap slot_number c.lowest.ensures)
-    ∙ ap (λ (a : Said ℕ). asked_as t (a)) (sym c.in-Ok.is)
+    ∙ ap (λ (a : Said ℕ). asked_as t a) (sym c.in-Ok.is)
 
 pub returns-in-Err : goal.returns-in-Err
-returns-in-Err c = c.refused.ensures ∙ ap (λ (a : Said ℕ). asked_as c.args.t (a)) (sym c.in-Err.is)
+returns-in-Err c = c.refused.ensures ∙ ap (λ (a : Said ℕ). asked_as c.args.t a) (sym c.in-Err.is)

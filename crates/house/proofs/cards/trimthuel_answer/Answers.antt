@@ -11,6 +11,6 @@ returns c =
     let out = c.args.out.now in
     let a = c.answer.ensures in
     let p = c.put_line.ensures in (
-      p.0 ∙ ap (λ (a : Said ℕ). result_of (put_of (answer_line (a)) out)) a,
-      p.1 ∙ ap (λ (a : Said ℕ). held_after (answer_line (a)) out) a,
+      p.0 ∙ ap (λ (a : Said ℕ). result_of (put_of (answer_line a) out)) a,
+      p.1 ∙ ap (λ (a : Said ℕ). held_after (answer_line a) out) a,
     )
