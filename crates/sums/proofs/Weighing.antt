@@ -1,5 +1,4 @@
 -- What it is for lines to be fit, computed, and which case of `weighed` holds, by the tests that the code makes.
-use Rattle.std.specs.Prelude.{Some}
 use Prim.Native.Nat.{ℕ, zero, suc, ◌+◌, ◌-◌, ◌*◌, ◌/◌, ◌≤◌, ◌<◌}
 use mathlib.Core.Path.{◌≡◌, refl, sym, ap, ◌∙◌}
 use mathlib.Core.Bool.{Bool, true, false, not}
@@ -28,7 +27,7 @@ fit_says x e =
     let b = both_says _ _ a.0 in
     let c = both_says _ _ b.1 in
     let d = both_says _ _ a.1 in
-    record { Some = leb-true _ _ d.0; ends = leb-true _ _ c.0; less = leb-true _ _ c.1; rest = leb-true _ _ b.0; wide = leb-true _ _ d.1 }
+    record { some = leb-true _ _ d.0; ends = leb-true _ _ c.0; less = leb-true _ _ c.1; rest = leb-true _ _ b.0; wide = leb-true _ _ d.1 }
 
 says_fit : (x : Stream) → Fit x → is_fit x ≡ true
 says_fit x f =

@@ -1,5 +1,5 @@
 -- Lines gathered as slices of numbers, counted from the clock: line k has the k-th number of each slice. As a list, and what is known of those that are fit.
-use Rattle.std.specs.Prelude.{Some, ℕ, zero, suc, ◌+◌, ◌≤◌, ◌<◌, ◌≡◌, Bool, true, List, [], ◌∷◌, eqb, length, get_or}
+use Rattle.std.specs.Prelude.{ℕ, zero, suc, ◌+◌, ◌≤◌, ◌<◌, ◌≡◌, Bool, true, List, [], ◌∷◌, eqb, length, get_or}
 use Rattle.line.specs.declared.Stream.{Stream}
 use Rattle.line.specs.Slots.{both}
 use Rattle.line.specs.Streams.{stream}
@@ -41,7 +41,7 @@ longest = 65536
 
 -- R24, R25, R3: what is known of a line that is fit
 pub record Fit (x : Stream) : Type 0 where
-  pub Some : 1 ≤ x.period
+  pub some : 1 ≤ x.period
   pub ends : x.end ≤ x.period
   pub less : x.need ≤ x.period
   pub rest : x.remaining ≤ x.need
