@@ -15,7 +15,7 @@ use crate::gather::Gathered;
 const LATEST: u64 = 281_474_976_645_120;
 
 // R17: a refusal is made of its number and its place
-fn refused(number: u16, place: u64) -> Result<u64, Refusal>
+fn refused(number: u16, place: u64) -> Result<u64, table::Refusal>
     ensures { result ≡ Err (refusal number place) }
 {
     Err(table::Refusal::new(number, place))
@@ -48,7 +48,7 @@ fn fits_period(need: u16, period: u16) -> bool
 }
 
 // R17, R41, R103: what was decided, as an answer: a start and a short tick are counted from the clock on, and these grounds have place 0
-fn answered(clock: u64, d: decide::Decision) -> Result<u64, Refusal>
+fn answered(clock: u64, d: decide::Decision) -> Result<u64, table::Refusal>
     requires { clock ≤ 2 ^ 48 - 65536 }
     ensures { result ≡ answer_from clock d }
 {
@@ -62,7 +62,7 @@ fn answered(clock: u64, d: decide::Decision) -> Result<u64, Refusal>
 }
 
 // R26 to R30, R14: what is decided of the lines gathered
-fn by_lines(clock: u64, g: Gathered, need: u16, period: u16) -> Result<u64, Refusal>
+fn by_lines(clock: u64, g: Gathered, need: u16, period: u16) -> Result<u64, table::Refusal>
     requires { Room g × (clock ≤ 2 ^ 48 - 65536) }
     ensures { (result ≡ answer_from clock (decided (gathered_lines g) need period)) × Within clock result }
 {
@@ -85,7 +85,7 @@ fn by_lines(clock: u64, g: Gathered, need: u16, period: u16) -> Result<u64, Refu
 }
 
 // R18, R41: the first ground that holds, or the start. R21 to R26 are tested here, before the lines are gathered.
-pub(crate) fn answer(t: table::Table, q: table::Request) -> Result<u64, Refusal>
+pub(crate) fn answer(t: table::Table, q: table::Request) -> Result<u64, table::Refusal>
     ensures { (result ≡ ask_of t q) × Within t.clock result }
 {
     if t.clock > LATEST {

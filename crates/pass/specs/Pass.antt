@@ -80,7 +80,7 @@ passed_in e c n p Cn Tn = pick (alike e c n p) (pass_of (lines_of e c n p) Cn Tn
 
 -- R26, R3: what is known of the new line, since its ground did not hold, and of the last end
 pub record FitNew (new : New) : Type 0 where
-  pub Some : 1 ≤ new.need
+  pub some : 1 ≤ new.need
   pub small : new.need ≤ 65535
   pub wide : new.period ≤ 65535
   pub near : new.last ≤ longest
