@@ -12,7 +12,7 @@ in_order-requires c =
       places = (
         lined_room pre.0 up.0 up.1 (omega arith) (omega arith),
         lined_fit pre.0 up.0 up.1,
-        record { Some = pre.1; small = omega arith; wide = omega arith; near = last_near pre.0 c.last_end-last.ensures },
+        record { some = pre.1; small = omega arith; wide = omega arith; near = last_near pre.0 c.last_end-last.ensures },
       );
       soonest = lined_first pre.0 up.0 up.1 c.line_up-first.ensures.soonest;
     }
