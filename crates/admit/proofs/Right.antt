@@ -1,4 +1,5 @@
 -- With ask's answer the table that belongs to it is right; and two answers that admit's contract allows are equal, and so are their tables.
+use Prim.Native.Nat.{ℕ}
 use Rattle.std.specs.Prelude.{Ok, Err}
 use Rattle.table.specs.Words.{Said}
 use mathlib.Core.Path.{◌≡◌, refl, sym, ap, ◌∙◌}

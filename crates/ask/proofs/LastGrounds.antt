@@ -58,7 +58,7 @@ slot_fits p (Running r) a w =
     let v = sound_says (Running r) a.1 in
     let k = not_barred p r (λ b. barred_not p (Running r) b a.2) in
     let f : (g : ℕ) → p ≤ g → g ≤ longest → Fit (stream (p - r.age) r.remaining r.need g) = λ g b c.
-    record { Some = omega (arith, v, k); ends = omega arith; less = omega (arith, v, k); rest = v.2; wide = c } in
+    record { some = omega (arith, v, k); ends = omega arith; less = omega (arith, v, k); rest = v.2; wide = c } in
     let own = f p (omega arith) (omega arith) in
     ((own, by_follows_lem (λ (g : ℕ). Fit (stream (p - r.age) r.remaining r.need g)) p longest r.follows own (f longest (omega arith) (omega arith))), tt)
 slot_fits p (Waiting x) a w = absurd (true_false refl a.0)

@@ -1,4 +1,5 @@
 -- The computed answer is the one that the rules fix, by the theory; and two answers that ask's contract allows are equal.
+use Prim.Native.Nat.{ℕ}
 use Rattle.table.specs.Words.{Said}
 use mathlib.Core.Path.{◌≡◌, sym, ◌∙◌}
 use Rattle.table.specs.declared.Table.{Table}

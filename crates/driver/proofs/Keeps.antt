@@ -1,4 +1,5 @@
 -- What the driver holds: what it held after a refused step, and in both cases the table that the step hands back.
+use Prim.Native.Nat.{ℕ}
 use Rattle.std.specs.Prelude.{Option, Ok, Err}
 use Rattle.table.specs.Words.{Said}
 use mathlib.Core.Path.{◌≡◌, refl, sym, ap, ap₂, ◌∙◌}

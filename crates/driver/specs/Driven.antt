@@ -1,4 +1,5 @@
 -- The pump driver (R51): what it holds after a step of the table that it held.
+use Prim.Native.Nat.{ℕ}
 use Rattle.std.specs.Prelude.{Option, Ok, Err, Bool, true, false}
 use Rattle.table.specs.Words.{Said}
 use Rattle.table.specs.declared.Table.{Table}

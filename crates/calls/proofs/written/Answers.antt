@@ -1,4 +1,5 @@
 -- What the writer says is the result.
+use Prim.Native.Nat.{ℕ}
 use Rattle.table.specs.Words.{Said}
 use mathlib.Core.Path.{sym, ap, ◌∙◌}
 use Rattle.calls.specs.Results.{result_at}

@@ -1,4 +1,5 @@
 -- A start is the admitted table's, which is stepped; ask's refusal stands.
+use Prim.Native.Nat.{ℕ}
 use Rattle.table.specs.Words.{Said}
 use mathlib.Core.Path.{sym, ap, ◌∙◌}
 use Rattle.table.specs.declared.Admitted.{Admitted}

@@ -1,4 +1,5 @@
 -- Ask's answer, with the slot of the new line beside a start.
+use Prim.Native.Nat.{ℕ}
 use Rattle.table.specs.Words.{Said}
 use mathlib.Core.Path.{ap, ◌∙◌}
 use Rattle.calls.specs.Tables.{asked_as}

@@ -1,4 +1,5 @@
 -- The line is that of the card's answer.
+use Prim.Native.Nat.{ℕ}
 use Rattle.table.specs.Words.{Said}
 use mathlib.Core.Path.{ap, ◌∙◌}
 use Rattle.reply.specs.Line.{answer_line, held_after}
