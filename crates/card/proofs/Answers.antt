@@ -1,6 +1,6 @@
 -- The answers say all: two that a contract allows are the same.
 use Rattle.std.specs.Prelude.{Ok, Err}
-use mathlib.Core.Path.{◌≡◌, refl, sym, ap, ◌∙◌}
+use mathlib.Core.Path.{◌≡◌, refl, sym, ◌∙◌}
 use mathlib.Core.List.{List}
 use Prim.Native.Nat.{ℕ}
 use lib.ListN.{length}
@@ -22,19 +22,6 @@ said_handed w (Err r) = refl
 pub one_reading : (l : List ℕ) (a b : ReadCard) → a ≡ handed (turned_of l) (read_of l) → b ≡ handed (turned_of l) (read_of l) → a ≡ b
 one_reading l a b p q = p ∙ sym q
 
-answer_with : Said ℕ → Said ℕ
-answer_with (Ok n) = Ok n
-answer_with (Err r) = Err r
-
-answer_said : (a : Said ℕ) → answer_with a ≡ a
-unfolding answer_with
-answer_said (Ok n) = refl
-answer_said (Err r) = refl
-
--- R71: answers that say the same are the same
-pub one_written : (a b : Said ℕ) → a ≡ b → a ≡ b
-one_written a b e = sym (answer_said a) ∙ ap answer_with e ∙ answer_said b
-
 -- R59: the answer a and the buffer m that the writer's contract allows for a buffer l
 abbrev pub Written : Table → Request → List ℕ → Said ℕ → List ℕ → Type 0
 Written t q l a m = (a ≡ write_of t q (length l)) × (m ≡ buffer_of t q l)
@@ -43,4 +30,4 @@ Written t q l a m = (a ≡ write_of t q (length l)) × (m ≡ buffer_of t q l)
 pub one_writing : (t : Table) (q : Request) (l : List ℕ) (a b : Said ℕ) (m n : List ℕ)
     → Written t q l a m → Written t q l b n → (a ≡ b) × (m ≡ n)
 one_writing t q l a b m n p r =
-    (one_written a b (p.0 ∙ sym r.0), p.1 ∙ sym r.1)
+    (p.0 ∙ sym r.0, p.1 ∙ sym r.1)

@@ -14,7 +14,6 @@ use Rattle.line.specs.Slots.{is_leaving, empty, if_runs, at, lowest}
 use Rattle.line.proofs.Search.{true_false}
 use Rattle.table.specs.Words.{request_with, refusal, Said}
 use Rattle.table.specs.Cases.{running, parting, waiting, table_of}
-use Rattle.card.specs.declared.CardAnswer.{CardAnswer}
 use Rattle.card.specs.Bytes.{marked}
 use Rattle.card.specs.Card.{card_of, Card, cleared}
 use Rattle.card.specs.Reading.{record_of, records_of, read_with, read_of}
@@ -364,16 +363,15 @@ pub handed_edges :
       table = table_of 0 (replicate 16 empty);
       request = request_with (replicate 16 0) 0 0;
       turned = 0;
-      answer = CardAnswer.Refused (refusal 11 10);
+      answer = Err (refusal 11 10);
     }
-    ∷ record { table = whole_table; request = whole_request; turned = 5; answer = CardAnswer.Read }
+    ∷ record { table = whole_table; request = whole_request; turned = 5; answer = Ok tt }
     ∷ []
 unfolding marked record_of records_of read_with
 handed_edges = refl
 
--- R17, R59: the code's answers say their own numbers, whatever table stands beside a refusal
+-- R17, R59: the reader's answers say their own numbers, whatever table stands beside a refusal
 pub said_edges : (t : Table) (q : Request) →
-    (map said_read (record { table = t; request = q; turned = 0; answer = CardAnswer.Refused (refusal 11 34) } ∷ record { table = t; request = q; turned = 5; answer = CardAnswer.Read } ∷ [])
-    ≡ Err (refusal 11 34) ∷ Ok (record { table = t; request = q }) ∷ [])
-    × (map (Ok 56 ∷ Err (refusal 13 78) ∷ []) ≡ Ok 56 ∷ Err (refusal 13 78) ∷ [])
-said_edges t q = (refl, refl)
+    map said_read (record { table = t; request = q; turned = 0; answer = Err (refusal 11 34) } ∷ record { table = t; request = q; turned = 5; answer = Ok tt } ∷ [])
+    ≡ Err (refusal 11 34) ∷ Ok (record { table = t; request = q }) ∷ []
+said_edges t q = refl

@@ -5,7 +5,7 @@ use mathlib.Core.List.{List}
 use Prim.Native.Nat.{ℕ}
 use Rattle.table.specs.declared.Table.{Table}
 use Rattle.table.specs.declared.Request.{Request}
-use Rattle.table.specs.Words.{unbooked}
+use Rattle.table.specs.Words.{unbooked, Said}
 use Rattle.card.specs.Bytes.{Bytes}
 use Rattle.card.specs.Card.{Card, carrying, card_of, cleared, Fits}
 use Rattle.card.specs.Reading.{read_with}
@@ -42,5 +42,5 @@ module _ (n : ℕ) where
     λ e. gives_is c d (sym p ∙ sym (twin_reads n l a) ∙ ap (read_with n) e ∙ twin_reads n m b ∙ q),
   )
     where
-      gives_is : (c d : Card) → Ok c ≡ Ok d → c ≡ d
+      gives_is : (c d : Card) → ◌≡◌ {A = Said Card} (Ok c) (Ok d) → c ≡ d
       gives_is c d e = cc

@@ -12,6 +12,7 @@ use Rattle.table.specs.declared.Table.{Table}
 use Rattle.table.specs.declared.Request.{Request}
 use Rattle.line.specs.Slots.{pick, is_nothing}
 use Rattle.card.specs.declared.Mark.{Mark}
+use Rattle.card.specs.declared.SlotRecord.{SlotRecord}
 use Rattle.card.specs.Layout.{is_free, clock_length, mark_length, line_length, last_length, record_length}
 use Rattle.card.specs.Marked.{record_for, recorded_bytes}
 use Rattle.card.specs.Card.{slot_record, slot_records, request_record, one_more, used_from, used, card_of}

@@ -1,5 +1,5 @@
 -- A written card reads back as the table and the request, up to the entries of empty slots (R72).
-use Rattle.std.specs.Prelude.{None, Ok}
+use Rattle.std.specs.Prelude.{Ok}
 use mathlib.Core.Path.{◌≡◌, refl, sym, ap, ap₂, ◌∙◌}
 use mathlib.Core.List.{List, [], ◌∷◌, ◌++◌, append_assoc}
 use mathlib.Core.Bool.{Bool, true, false}
@@ -49,7 +49,7 @@ module _ (k c n : ℕ) (hc : c < 65536) (hn : n < 65536) where
       → ((o : Bool) (a : ℕ) → (o ≡ true → used ss ≡ 0 → ⊥) → records_of k (length ss) o a (rest ss ts) ≡ Ok (saying k rs c n))
       → records_of k (suc (length ss)) gap at (slot_records (used_from h (used ss)) (holding h ∷ ss) (t ∷ ts) ++ request_record c n)
       ≡ Ok (saying k (r ∷ rs) c n)
-  one h t r w f ss ts rs gap at g None ih = go (used_from h (used ss)) refl
+  one h t r w f ss ts rs gap at g free_rest ih = go (used_from h (used ss)) refl
     where
       go : (u : ℕ) → used_from h (used ss) ≡ u
           → records_of k (suc (length ss)) gap at (slot_records (used_from h (used ss)) (holding h ∷ ss) (t ∷ ts) ++ request_record c n)
@@ -58,7 +58,7 @@ module _ (k c n : ℕ) (hc : c < 65536) (hn : n < 65536) where
           let v = used_none (is_nothing h) (used ss) e in
           ap (λ (u : ℕ). records_of k (suc (length ss)) gap at (slot_records u (holding h ∷ ss) (t ∷ ts) ++ request_record c n)) e
           ∙ reads_last k c n hc hn (suc (length ss)) gap at (λ o. g o e)
-          ∙ sym (ap₂ (λ (x : SlotRecord) (y : List SlotRecord). Ok (saying k (x ∷ y) c n)) (fitting_free r f (w.nothing ∙ v.0)) (None v.1))
+          ∙ sym (ap₂ (λ (x : SlotRecord) (y : List SlotRecord). Ok (saying k (x ∷ y) c n)) (fitting_free r f (w.nothing ∙ v.0)) (free_rest v.1))
       go (suc u) e =
           let p : is_nothing h ≡ true → used ss ≡ 0 → ⊥ =
           λ a b. omega (arith, ap₂ (λ (o : Bool) (m : ℕ). pick o (one_more m) (suc m)) a b, e) in

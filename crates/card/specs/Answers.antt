@@ -4,8 +4,6 @@ use Rattle.table.specs.declared.Table.{Table}
 use Rattle.table.specs.declared.Request.{Request}
 use Rattle.line.specs.Slots.{pick, is_waiting, lowest_of}
 use Rattle.table.specs.Words.{request_with, empty_table, refusal, Said}
-use Rattle.card.specs.declared.CardAnswer.{CardAnswer}
-use Rattle.card.specs.declared.CardAnswer.TheVariants.{Read, Refused}
 use Rattle.card.specs.declared.ReadCard.{ReadCard}
 use Rattle.card.specs.Marked.{Records}
 use Rattle.card.specs.Card.{Card, carrying, card_of}
@@ -18,26 +16,21 @@ zero_request = request_with (replicate 16 0) 0 0
 
 -- R56, R58: what is handed out, with the word of the slots whose records were TA; beside a refusal it is nothing of the card
 abbrev pub handed : (turned : ℕ) → Said Card → ReadCard
-handed w (Ok c) = record { table = c.table; request = c.request; turned = w; answer = Read }
-handed w (Err r) = record { table = empty_table; request = zero_request; turned = 0; answer = Refused r }
+handed w (Ok c) = record { table = c.table; request = c.request; turned = w; answer = Ok tt }
+handed w (Err r) = record { table = empty_table; request = zero_request; turned = 0; answer = Err r }
 
 -- R56, R58: the same of a card's records
 abbrev pub handed_of : Said Records → ReadCard
 handed_of s = handed (turned_in s) (meaning s)
 
 -- what the reader's answer says: the table and the request beside it, or the refusal's number and place
-abbrev pub said_with : Table → Request → CardAnswer → Said Card
-said_with t q Read = Ok (carrying t q)
-said_with t q (Refused r) = Err r
+abbrev pub said_with : Table → Request → Said (Unit {0}) → Said Card
+said_with t q (Ok u) = Ok (carrying t q)
+said_with t q (Err r) = Err r
 
 -- the same of all that the reader hands out
 abbrev pub said_read : ReadCard → Said Card
 said_read c = said_with c.table c.request c.answer
-
--- what the writer's answer says: the card's length, or the refusal
-abbrev pub said_written : Said ℕ → Said ℕ
-(Ok n) = Ok n
-(Err r) = Err r
 
 -- R33: the card's length where there is room for it
 unfoldable pub length_of : Table → Request → (room : ℕ) → Said ℕ

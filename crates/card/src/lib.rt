@@ -40,21 +40,7 @@ pub enum Record {
     Refused(u16),
 }
 
-// R23, R53: the record of what a slot holds. A waiting line has none.
-#[derive(Clone, Copy)]
-pub enum Option<SlotRecord> {
-    As(SlotRecord),
-    No,
-}
-
-// R56: the card was read, or refused.
-#[derive(Clone, Copy)]
-pub enum Result<(), Refusal> {
-    Read,
-    Refused(Refusal),
-}
-
-// R56: what the reader hands out. The table and the request stand beside the answer, as they are there with a refusal too.
+// R56: what the reader hands out: whether the card was read, or what it was refused for. The table and the request stand beside the answer, as they are there with a refusal too.
 #[derive(Clone, Copy)]
 pub struct ReadCard {
     pub table: Table,
@@ -62,13 +48,6 @@ pub struct ReadCard {
     // R58: a bit for each slot whose record was TA, slot 0 lowest.
     pub turned: u16,
     pub answer: Result<(), Refusal>,
-}
-
-// R59: the card's length, or a refusal.
-#[derive(Clone, Copy)]
-pub enum Result<usize, Refusal> {
-    Length(usize),
-    Refused(Refusal),
 }
 
 impl Mark {
@@ -178,7 +157,7 @@ impl SlotRecord {
         SlotRecord::new(m, x.need, x.period, stretched, x.age, x.remaining)
     }
 
-    // R53: the record of a slot and its entry of the request.
+    // R23, R53: the record of a slot and its entry of the request. A waiting line has none.
     pub fn of(slot: Slot, stretched: u16) -> Option<SlotRecord>
         ensures { result ≡ record_for slot.held stretched }
     {
