@@ -18,12 +18,12 @@ use Rattle.table.specs.Leave.{leave_of}
 use Rattle.admit.proofs.Right.{admitted_answer}
 use Rattle.board.specs.Board.{ReadyWord}
 use Rattle.image.specs.Answers.{stored_in}
-use Rattle.calls.specs.declared.Result.{Result}
+use Rattle.calls.specs.declared.Returned.{Returned}
 use Rattle.calls.specs.Results.{granted_as, refused_as, result_of}
 use Rattle.calls.specs.Tables.{changed, asked_as, admitted_in, ran_as, stepped_as, stepped_in, left_as, left_in, ReadyFor}
 
 -- R89: the value is the ready word
-pub ready_granted : (t : Table) {r : Result} {w : ℕ} → r ≡ granted_as 0 w → ReadyWord t.slots w → ReadyFor (Ok t) r
+pub ready_granted : (t : Table) {r : Returned} {w : ℕ} → r ≡ granted_as 0 w → ReadyWord t.slots w → ReadyFor (Ok t) r
 ready_granted t e h = rw e (refl, h)
 
 module _ (t : Table) (q : Request) {m : Admitted} (e : m ≡ admit_of t q) where
@@ -38,7 +38,7 @@ module _ (t : Table) (q : Request) {m : Admitted} (e : m ≡ admit_of t q) where
       ∙ ap (λ (a : Said ℕ). changed a (stored_in (admit_of t q).table l) l) (sym h ∙ admit_answer)
 
   -- R17, R87: a refusal stores nothing
-  pub admit_refused : {x : Refusal} {r : Result} (l : List ℕ) → m.answer ≡ Err x → r ≡ refused_as x
+  pub admit_refused : {x : Refusal} {r : Returned} (l : List ℕ) → m.answer ≡ Err x → r ≡ refused_as x
       → (r ≡ asked_as t ((ask_of t q))) × (l ≡ admitted_in t q l)
   admit_refused l h s = (
     s ∙ ap (λ (a : Said ℕ). asked_as t a) (sym h ∙ admit_answer),
@@ -50,7 +50,7 @@ module _ (t : Table) {s : Stepped} (e : s ≡ step_of t) where
   outcome_is = ap (λ (x : Stepped). x.outcome) e
 
   -- R88: the slot that ran is answered, and the new table was stored
-  pub step_ran : {w : Option ℕ} {k : ℕ} {r : Result} (l o : List ℕ) → s.outcome ≡ Ok w → k ≡ slot_number w → r ≡ granted_as 0 k
+  pub step_ran : {w : Option ℕ} {k : ℕ} {r : Returned} (l o : List ℕ) → s.outcome ≡ Ok w → k ≡ slot_number w → r ≡ granted_as 0 k
       → o ≡ stored_in s.table l → (r ≡ stepped_as t) × (o ≡ stepped_in t l)
   step_ran l o h n g p = (
     g ∙ ap (granted_as 0) n ∙ ap (λ (x : Said (Option ℕ)). ran_as x) (sym h ∙ outcome_is),
@@ -59,7 +59,7 @@ module _ (t : Table) {s : Stepped} (e : s ≡ step_of t) where
   )
 
   -- R17, R88: a refused step stores nothing
-  pub step_refused : {x : Refusal} {r : Result} (l : List ℕ) → s.outcome ≡ Err x → r ≡ refused_as x
+  pub step_refused : {x : Refusal} {r : Returned} (l : List ℕ) → s.outcome ≡ Err x → r ≡ refused_as x
       → (r ≡ stepped_as t) × (l ≡ stepped_in t l)
   step_refused l h g = (
     g ∙ ap (λ (x : Said (Option ℕ)). ran_as x) (sym h ∙ outcome_is),
@@ -71,7 +71,7 @@ module _ (t : Table) (n : ℕ) {s : Left} (e : s ≡ leave_of t n) where
   leaving_is = ap (λ (x : Left). x.leaving) e
 
   -- R102: the ticks are answered, and the new table was stored
-  pub leave_granted : {k : ℕ} {r : Result} (l o : List ℕ) → s.leaving ≡ Ok k → r ≡ granted_as 0 k → o ≡ stored_in s.table l → (r ≡ left_as t n) × (o ≡ left_in t n l)
+  pub leave_granted : {k : ℕ} {r : Returned} (l o : List ℕ) → s.leaving ≡ Ok k → r ≡ granted_as 0 k → o ≡ stored_in s.table l → (r ≡ left_as t n) × (o ≡ left_in t n l)
   leave_granted l o h g p = (
     g ∙ ap (λ (x : Said ℕ). result_of x) (sym h ∙ leaving_is),
     p ∙ ap (λ (x : Left). stored_in x.table l) e
@@ -79,7 +79,7 @@ module _ (t : Table) (n : ℕ) {s : Left} (e : s ≡ leave_of t n) where
   )
 
   -- R17, R102: a refused leave stores nothing
-  pub leave_refused : {x : Refusal} {r : Result} (l : List ℕ) → s.leaving ≡ Err x → r ≡ refused_as x → (r ≡ left_as t n) × (l ≡ left_in t n l)
+  pub leave_refused : {x : Refusal} {r : Returned} (l : List ℕ) → s.leaving ≡ Err x → r ≡ refused_as x → (r ≡ left_as t n) × (l ≡ left_in t n l)
   leave_refused l h g = (
     g ∙ ap (λ (x : Said ℕ). result_of x) (sym h ∙ leaving_is),
     ap (λ (x : Said ℕ). changed x (stored_in (leave_of t n).table l) l) (sym h ∙ leaving_is),

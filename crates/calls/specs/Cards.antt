@@ -11,7 +11,7 @@ use Rattle.card.specs.Reading.{read_of}
 use Rattle.card.specs.Twin.{turned_of}
 use Rattle.card.specs.Answers.{write_of, buffer_of}
 use Rattle.reply.specs.Line.{answer_line, length_for}
-use Rattle.calls.specs.declared.Result.{Result}
+use Rattle.calls.specs.declared.Returned.{Returned}
 use Rattle.calls.specs.Results.{result_at}
 
 -- R60: the reader's refusal, or what ask answers
@@ -46,7 +46,7 @@ abbrev pub rewrite_of : (card : List ℕ) (room : ℕ) → Said ℕ
 rewrite_of card room = rewrite_for (read_of card) room
 
 -- R65, R94: the result of it, whose place is the word of the slots whose records were TA
-abbrev pub rewrite_as : (card : List ℕ) (room : ℕ) → Result
+abbrev pub rewrite_as : (card : List ℕ) (room : ℕ) → Returned
 rewrite_as card room = result_at (turned_of card) (rewrite_of card room)
 
 -- R65: what the buffer holds then; a refusal leaves every byte

@@ -5,7 +5,7 @@ ghost use Rattle.reply.specs.Line.{answer_line, held_after};
 ghost use Rattle.calls.specs.Results.{result_of};
 ghost use Rattle.calls.specs.Cards.{answer_of, put_of, rewrite_as, rewritten_of, counted, ticks_run, run_admitted};
 
-use crate::Result;
+use crate::Returned;
 use table::{Refusal, Request, Table};
 
 // R60: the reader's refusal, or what ask answers
@@ -21,17 +21,17 @@ pub fn answer(card: &[u8]) -> Result<u64, Refusal>
 }
 
 // R33, R62: the line of an answer in a lent buffer, or refusal 13.
-pub fn put_line(a: Result<u64, Refusal>, out: &mut [u8]) -> Result
+pub fn put_line(a: Result<u64, Refusal>, out: &mut [u8]) -> Returned
     ensures { (result ≡ result_of (put_of (answer_line (a)) out.old)) × (out.new ≡ held_after (answer_line (a)) out.old) }
 {
     match reply::put_reply(a, out) {
-        Some(n) => Result::granted(0, n as u64),
-        None => Result::refused(Refusal::new(13, 0)),
+        Some(n) => Returned::granted(0, n as u64),
+        None => Returned::refused(Refusal::new(13, 0)),
     }
 }
 
 // R65: the card's twin goes into the lent buffer, or the card is refused, or the buffer is too short, and then every byte of it stays.
-pub fn rewrite(card: &[u8], out: &mut [u8]) -> Result
+pub fn rewrite(card: &[u8], out: &mut [u8]) -> Returned
     ensures { (result ≡ rewrite_as card.now (length out.old)) × (out.new ≡ rewritten_of card.now out.old) }
 {
     let c = reader::read(card);
@@ -40,7 +40,7 @@ pub fn rewrite(card: &[u8], out: &mut [u8]) -> Result
         Ok(()) => {
             crate::written(c.turned as u64, writer::write(c.table, c.request, out))
         }
-        Err(x) => Result::refused(x),
+        Err(x) => Returned::refused(x),
     }
 }
 
@@ -55,7 +55,7 @@ fn count_of(w: Option<usize>) -> u16
 }
 
 // R66: steps a table so many times, or to the first refusal.
-fn run_table(start: Table, ticks: u16) -> Result
+fn run_table(start: Table, ticks: u16) -> Returned
     ensures { result ≡ result_of (ticks_run ticks start) }
 {
     let mut t = start;
@@ -69,23 +69,23 @@ fn run_table(start: Table, ticks: u16) -> Result
                 ran = ran + count_of(w);
             }
             Err(x) => {
-                return Result::refused(x);
+                return Returned::refused(x);
             }
         }
         t = s.table;
         i = i + 1;
     }
-    Result::granted(0, ran as u64)
+    Returned::granted(0, ran as u64)
 }
 
 // R66: admits the request and steps the table that this leaves.
-pub fn run(t: Table, q: Request, ticks: u16) -> Result
+pub fn run(t: Table, q: Request, ticks: u16) -> Returned
     ensures { result ≡ result_of (run_admitted ticks (admit_of t q)) }
 {
     let m = admit::admit(t, q);
     let a = m.answer;
     match a {
         Ok(_) => run_table(m.table, ticks),
-        Err(x) => Result::refused(x),
+        Err(x) => Returned::refused(x),
     }
 }

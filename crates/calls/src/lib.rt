@@ -15,7 +15,7 @@ pub mod tables; // a table asked, admitted to and stepped
 // R63: what a call answers. Number 0: what was asked for is granted, and is the value. R103: refusal 10 has a tick and an excess, all else 0 for both.
 #[repr(C)]
 #[derive(Clone, Copy)]
-pub struct Result {
+pub struct Returned {
     pub number: u64,
     pub place: u64,
     pub value: u64,
@@ -23,12 +23,12 @@ pub struct Result {
     pub excess: u64,
 }
 
-impl Result {
+impl Returned {
     // R63: what was asked for.
-    pub fn granted(place: u64, value: u64) -> Result
+    pub fn granted(place: u64, value: u64) -> Returned
         ensures { result ≡ granted_as place value }
     {
-        Result {
+        Returned {
             number: 0,
             place: place,
             value: value,
@@ -38,10 +38,10 @@ impl Result {
     }
 
     // R63: a refusal.
-    pub fn refused(x: Refusal) -> Result
+    pub fn refused(x: Refusal) -> Returned
         ensures { result ≡ refused_as x }
     {
-        Result {
+        Returned {
             number: x.number as u64,
             place: x.place,
             value: 0,
@@ -62,11 +62,11 @@ fn slot_number(w: Option<usize>) -> u64
 }
 
 // R59, R84: what was written, by a writer's answer, with the place that a grant has.
-pub fn written(place: u64, w: Result<usize, Refusal>) -> Result
+pub fn written(place: u64, w: Result<usize, Refusal>) -> Returned
     ensures { result ≡ result_at place (w) }
 {
     match w {
-        Ok(n) => Result::granted(place, n as u64),
-        Err(x) => Result::refused(x),
+        Ok(n) => Returned::granted(place, n as u64),
+        Err(x) => Returned::refused(x),
     }
 }

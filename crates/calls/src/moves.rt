@@ -4,7 +4,7 @@ ghost use Rattle.image.specs.Answers.{store_of, stored_in};
 ghost use Rattle.calls.specs.Results.{result_of};
 ghost use Rattle.calls.specs.Moves.{eighteen, numbers_if};
 
-use crate::{Result, written};
+use crate::{Returned, written};
 use table::{Request, Table};
 
 // R92: a request's eighteen numbers.
@@ -24,7 +24,7 @@ fn numbers_of(q: Request) -> [u16; 18]
 }
 
 // R92: the table and the request of a card, where the buffer has room for the image.
-pub fn move_in(t: Table, q: Request, table: &mut [u8], numbers: &mut [u16; 18]) -> Result
+pub fn move_in(t: Table, q: Request, table: &mut [u8], numbers: &mut [u16; 18]) -> Returned
     ensures { (result ≡ result_of (store_of (length table.old))) × (table.new ≡ stored_in t table.old) × (numbers.new ≡ numbers_if q (store_of (length table.old)) numbers.old) }
 {
     let w = image::store(t, table);

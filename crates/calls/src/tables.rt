@@ -4,29 +4,29 @@ ghost use Rattle.table.specs.Ask.{ask_of};
 ghost use Rattle.calls.specs.Results.{granted_as};
 ghost use Rattle.calls.specs.Tables.{asked_as, admitted_in, stepped_as, stepped_in, left_as, left_in, ReadyFor, all_counts};
 
-use crate::Result;
+use crate::Returned;
 use line::Kind;
 use table::{Request, Table};
 
 // R86: the start and the new line's slot, or the refusal.
-fn asked(t: Table, a: Result<u64, Refusal>) -> Result
+fn asked(t: Table, a: Result<u64, Refusal>) -> Returned
     ensures { result ≡ asked_as t (a) }
 {
     match a {
-        Ok(start) => Result::granted(crate::slot_number(t.lowest(Kind::Free)), start),
-        Err(x) => Result::refused(x),
+        Ok(start) => Returned::granted(crate::slot_number(t.lowest(Kind::Free)), start),
+        Err(x) => Returned::refused(x),
     }
 }
 
 // R86: asks a table, and changes nothing.
-pub fn ask(t: Table, q: Request) -> Result
+pub fn ask(t: Table, q: Request) -> Returned
     ensures { result ≡ asked_as t ((ask_of t q)) }
 {
     asked(t, ask::ask(t, q))
 }
 
 // R87: admits into the lent image, which a refusal leaves as it is.
-pub fn admit(t: Table, q: Request, out: &mut [u8]) -> Result
+pub fn admit(t: Table, q: Request, out: &mut [u8]) -> Returned
     ensures { (result ≡ asked_as t ((ask_of t q))) × (out.new ≡ admitted_in t q out.old) }
 {
     let m = admit::admit(t, q);
@@ -36,12 +36,12 @@ pub fn admit(t: Table, q: Request, out: &mut [u8]) -> Result
             image::store(m.table, out);
             asked(t, a)
         }
-        Err(x) => Result::refused(x),
+        Err(x) => Returned::refused(x),
     }
 }
 
 // R88: steps into the lent image, which a refusal leaves as it is.
-pub fn step(t: Table, out: &mut [u8]) -> Result
+pub fn step(t: Table, out: &mut [u8]) -> Returned
     ensures { (result ≡ stepped_as t) × (out.new ≡ stepped_in t out.old) }
 {
     let s = driver::driven(t);
@@ -49,14 +49,14 @@ pub fn step(t: Table, out: &mut [u8]) -> Result
     match o {
         Ok(w) => {
             image::store(s.table, out);
-            Result::granted(0, crate::slot_number(w))
+            Returned::granted(0, crate::slot_number(w))
         }
-        Err(x) => Result::refused(x),
+        Err(x) => Returned::refused(x),
     }
 }
 
 // R102: lets a line go in the lent image, which a refusal leaves as it is.
-pub fn leave(t: Table, number: u64, out: &mut [u8]) -> Result
+pub fn leave(t: Table, number: u64, out: &mut [u8]) -> Returned
     ensures { (result ≡ left_as t number) × (out.new ≡ left_in t number out.old) }
 {
     let left = t.leave(number);
@@ -64,17 +64,17 @@ pub fn leave(t: Table, number: u64, out: &mut [u8]) -> Result
     match a {
         Ok(ticks) => {
             image::store(left.table, out);
-            Result::granted(0, ticks as u64)
+            Returned::granted(0, ticks as u64)
         }
-        Err(x) => Result::refused(x),
+        Err(x) => Returned::refused(x),
     }
 }
 
 // R89: the ready word of a table.
-pub fn ready(t: Table) -> Result
+pub fn ready(t: Table) -> Returned
     ensures { ReadyFor (Ok t) result }
 {
-    Result::granted(0, board::ready_word(t) as u64)
+    Returned::granted(0, board::ready_word(t) as u64)
 }
 
 // R98: a table's eighteen counts.
@@ -94,9 +94,9 @@ fn counts_of(t: Table) -> [u64; 18]
 }
 
 // R98: the clock of a table, and its counts into the lent numbers.
-pub fn counts(t: Table, out: &mut [u64; 18]) -> Result
+pub fn counts(t: Table, out: &mut [u64; 18]) -> Returned
     ensures { (result ≡ granted_as 0 t.clock) × (out.new ≡ all_counts t) }
 {
     *out = counts_of(t);
-    Result::granted(0, t.clock)
+    Returned::granted(0, t.clock)
 }

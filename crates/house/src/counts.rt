@@ -3,17 +3,17 @@ ghost use Rattle.std.specs.Prelude.{◌≡◌};
 ghost use Rattle.image.specs.Loading.{load_of};
 ghost use Rattle.calls.specs.Tables.{counts_for, counts_after};
 
-use calls::Result;
+use calls::Returned;
 
 // R98: the counts of the image's table go into the lent numbers; a refusal leaves every one of them.
 #[unsafe(no_mangle)]
-pub extern "C" fn trimthuel_counts(table: &[u8], counts: &mut [u64; 18]) -> Result
+pub extern "C" fn trimthuel_counts(table: &[u8], counts: &mut [u64; 18]) -> Returned
     ensures { (result ≡ counts_for (load_of table.now)) × (counts.new ≡ counts_after (load_of table.now) counts.old) }
 {
     let i = image::load(table);
     let said = i.answer;
     match said {
         Ok(()) => calls::tables::counts(i.table, counts),
-        Err(x) => Result::refused(x),
+        Err(x) => Returned::refused(x),
     }
 }

@@ -6,7 +6,7 @@ ghost use Rattle.calls.specs.Results.{result_of};
 ghost use Rattle.calls.specs.Tables.{request_of};
 ghost use Rattle.calls.specs.Moves.{write_card_for, card_after, read_card_for, image_after, numbers_after};
 
-use calls::Result;
+use calls::Returned;
 use table::Request;
 
 // R91: the image is read and the card of its table and a request written; a refusal leaves every byte of the lent buffer.
@@ -17,7 +17,7 @@ pub extern "C" fn trimthuel_write_card(
     period: u16,
     stretched: &[u16; 16],
     card: &mut [u8],
-) -> Result
+) -> Returned
     ensures { (result ≡ result_of (write_card_for (load_of table.now) (request_of need period stretched.now) (length card.old))) × (card.new ≡ card_after (load_of table.now) (request_of need period stretched.now) card.old) }
 {
     let i = image::load(table);
@@ -27,7 +27,7 @@ pub extern "C" fn trimthuel_write_card(
             let q = Request::new(*stretched, need, period);
             calls::written(0, writer::write(i.table, q, card))
         }
-        Err(x) => Result::refused(x),
+        Err(x) => Returned::refused(x),
     }
 }
 
@@ -37,13 +37,13 @@ pub extern "C" fn trimthuel_read_card(
     card: &[u8],
     table: &mut [u8],
     numbers: &mut [u16; 18],
-) -> Result
+) -> Returned
     ensures { (result ≡ result_of (read_card_for (read_of card.now) (length table.old))) × (table.new ≡ image_after (read_of card.now) table.old) × (numbers.new ≡ numbers_after (read_of card.now) (length table.old) numbers.old) }
 {
     let c = reader::read(card);
     let said = c.answer;
     match said {
         Ok(()) => calls::moves::move_in(c.table, c.request, table, numbers),
-        Err(x) => Result::refused(x),
+        Err(x) => Returned::refused(x),
     }
 }

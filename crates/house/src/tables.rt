@@ -6,12 +6,12 @@ ghost use Rattle.image.specs.Answers.{store_of, stored_in};
 ghost use Rattle.calls.specs.Results.{result_of};
 ghost use Rattle.calls.specs.Tables.{request_of, ask_for, after_admit, step_for, after_step, leave_for, after_leave, ReadyFor};
 
-use calls::Result;
+use calls::Returned;
 use table::{Request, Table};
 
 // R85: the empty table's image goes into the lent buffer, or the buffer is too short and every byte stays.
 #[unsafe(no_mangle)]
-pub extern "C" fn trimthuel_empty(table: &mut [u8]) -> Result
+pub extern "C" fn trimthuel_empty(table: &mut [u8]) -> Returned
     ensures { (result ≡ result_of (store_of (length table.old))) × (table.new ≡ stored_in empty_table table.old) }
 {
     calls::written(0, image::store(Table::empty(), table))
@@ -24,14 +24,14 @@ pub extern "C" fn trimthuel_ask(
     need: u16,
     period: u16,
     stretched: &[u16; 16],
-) -> Result
+) -> Returned
     ensures { result ≡ ask_for (load_of table.now) (request_of need period stretched.now) }
 {
     let i = image::load(table);
     let said = i.answer;
     match said {
         Ok(()) => { calls::tables::ask(i.table, Request::new(*stretched, need, period)) }
-        Err(x) => Result::refused(x),
+        Err(x) => Returned::refused(x),
     }
 }
 
@@ -42,7 +42,7 @@ pub extern "C" fn trimthuel_admit(
     need: u16,
     period: u16,
     stretched: &[u16; 16],
-) -> Result
+) -> Returned
     ensures { (result ≡ ask_for (load_of table.old) (request_of need period stretched.now)) × (table.new ≡ after_admit (load_of table.old) (request_of need period stretched.now) table.old) }
 {
     let i = image::load(table);
@@ -51,45 +51,45 @@ pub extern "C" fn trimthuel_admit(
         Ok(()) => {
             calls::tables::admit(i.table, Request::new(*stretched, need, period), table)
         }
-        Err(x) => Result::refused(x),
+        Err(x) => Returned::refused(x),
     }
 }
 
 // R88: one reading, one step, one writing; a refusal leaves every byte of the image.
 #[unsafe(no_mangle)]
-pub extern "C" fn trimthuel_step(table: &mut [u8]) -> Result
+pub extern "C" fn trimthuel_step(table: &mut [u8]) -> Returned
     ensures { (result ≡ step_for (load_of table.old)) × (table.new ≡ after_step (load_of table.old) table.old) }
 {
     let i = image::load(table);
     let said = i.answer;
     match said {
         Ok(()) => calls::tables::step(i.table, table),
-        Err(x) => Result::refused(x),
+        Err(x) => Returned::refused(x),
     }
 }
 
 // R102: lets the line of the slot named go; a refusal leaves every byte of the image.
 #[unsafe(no_mangle)]
-pub extern "C" fn trimthuel_leave(table: &mut [u8], number: u64) -> Result
+pub extern "C" fn trimthuel_leave(table: &mut [u8], number: u64) -> Returned
     ensures { (result ≡ leave_for (load_of table.old) number) × (table.new ≡ after_leave (load_of table.old) number table.old) }
 {
     let i = image::load(table);
     let said = i.answer;
     match said {
         Ok(()) => calls::tables::leave(i.table, number, table),
-        Err(x) => Result::refused(x),
+        Err(x) => Returned::refused(x),
     }
 }
 
 // R89: the ready word of the image's table.
 #[unsafe(no_mangle)]
-pub extern "C" fn trimthuel_ready(table: &[u8]) -> Result
+pub extern "C" fn trimthuel_ready(table: &[u8]) -> Returned
     ensures { ReadyFor (load_of table.now) result }
 {
     let i = image::load(table);
     let said = i.answer;
     match said {
         Ok(()) => calls::tables::ready(i.table),
-        Err(x) => Result::refused(x),
+        Err(x) => Returned::refused(x),
     }
 }

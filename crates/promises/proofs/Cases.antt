@@ -22,7 +22,7 @@ use Rattle.table.specs.Cases.{running, parting, waiting, table_of, tallied, tall
 use Rattle.image.specs.Image.{image_of}
 use Rattle.image.specs.Loading.{blank_from, slots_wrong, length_wrong, wrong_in, held_in, load_with, load_of}
 use Rattle.image.specs.Answers.{store_of, stored_in}
-use Rattle.calls.specs.declared.Result.{Result}
+use Rattle.calls.specs.declared.Returned.{Returned}
 use Rattle.calls.specs.Results.{granted_as, refused_as}
 use Rattle.calls.specs.Tables.{ask_for, step_for}
 use Rattle.promises.specs.Images.{NarrowRequest, Narrowed, AllNarrowed, image_run, UnfailingStep}
@@ -136,11 +136,11 @@ table_cases = (refl, refl)
 -- ---- answers
 
 -- R86, R87: what is asked or admitted over the boundary after some acts
-abbrev ask_after : List Act → Request → Result
+abbrev ask_after : List Act → Request → Returned
 ask_after done q = ask_for (load_of (image_run done (image_of empty_table))) q
 
 -- R88: a step over the boundary after some acts
-abbrev step_after : List Act → Result
+abbrev step_after : List Act → Returned
 step_after done = step_for (load_of (image_run done (image_of empty_table)))
 
 -- R86, R88: the start with its slot, refusals 8 and 5, the slot that ran, and 255 where none did
@@ -161,20 +161,20 @@ last_steps = refl
 -- R74: a step that reports 14 or 4 is none that is promised, at any clock
 pub neither_14_nor_4 : (k i : ℕ) → (UnfailingStep k (refused_as (refusal 14 i)) → ⊥) × (UnfailingStep k (refused_as (refusal 4 i)) → ⊥)
 neither_14_nor_4 k i = (
-  λ u. omega (arith, ap (λ (r : Result). r.number) (u.only_fifteen (λ z. omega arith)).0),
-  λ u. omega (arith, ap (λ (r : Result). r.number) (u.only_fifteen (λ z. omega arith)).0),
+  λ u. omega (arith, ap (λ (r : Returned). r.number) (u.only_fifteen (λ z. omega arith)).0),
+  λ u. omega (arith, ap (λ (r : Returned). r.number) (u.only_fifteen (λ z. omega arith)).0),
 )
 
 -- R74, R35: nor is one that reports 15 a tick before the last, or goes on at the last
 pub fifteen_edges : (UnfailingStep (2 ^ 48 - 1) (refused_as (refusal 15 0)) → ⊥) × (UnfailingStep (2 ^ 48) (granted_as 0 255) → ⊥)
 fifteen_edges = (
   λ u. omega (arith, (u.only_fifteen (λ z. omega arith)).1),
-  λ u. omega (arith, ap (λ (r : Result). r.number) (u.at_the_last refl)),
+  λ u. omega (arith, ap (λ (r : Returned). r.number) (u.at_the_last refl)),
 )
 
 -- R74: a tick before the last every step goes on
-pub before_the_last : (r : Result) → UnfailingStep (2 ^ 48 - 1) r → r.number ≡ 0
-before_the_last r u = ap (λ (x : Result). x.number) (u.goes_on (omega arith)).1
+pub before_the_last : (r : Returned) → UnfailingStep (2 ^ 48 - 1) r → r.number ≡ 0
+before_the_last r u = ap (λ (x : Returned). x.number) (u.goes_on (omega arith)).1
 
 -- ---- limits
 

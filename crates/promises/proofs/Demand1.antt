@@ -38,7 +38,7 @@ use Rattle.reply.proofs.Line.{reply_settled, put_reply_settled}
 use Rattle.image.specs.Image.{image_of}
 use Rattle.image.specs.Loading.{load_of}
 use Rattle.image.specs.Answers.{handed_out, said_loaded, store_of, stored_in}
-use Rattle.calls.specs.declared.Result.{Result}
+use Rattle.calls.specs.declared.Returned.{Returned}
 use Rattle.calls.specs.Results.{granted_as, result_at, result_of}
 use Rattle.calls.specs.Cards.{line_for, said_put, rewrite_for, rewritten_for}
 use Rattle.calls.specs.Tables.{changed, asked_as, ask_for, after_admit, ran_as, step_for, after_step, leave_for, after_leave, ReadyFor, counts_for, counts_after}
@@ -206,15 +206,15 @@ refusal_keeps = record {
       let f : load_of l ≡ Err x = sym (said_loaded_lem (load_of l)) ∙ ap said_loaded (sym h) ∙ e in
       (f, rw h (ap (λ (s : Said Table). (handed_out s).table) f));
   store = λ t l a m x h e. h.1 ∙ ap (filled (image_of t) l) (sym h.0 ∙ e);
-  answer_card = λ card l r m h e. h.1 ∙ line_kept (fits (line_for card) l) (line_for card) l (λ z. e (ap (λ (x : Result). x.number) h.0 ∙ z));
-  rewrite_card = λ card l r m h e. h.1 ∙ rewrite_kept (turned_of card) (read_of card) l (λ z. e (ap (λ (x : Result). x.number) h.0 ∙ z));
-  empty_image = λ l r m h e. h.1 ∙ filled_kept 0 (store_of (length l)) (image_of empty_table) l (λ z. e (ap (λ (x : Result). x.number) h.0 ∙ z));
-  admit_image = λ l q r m h e. h.1 ∙ admit_kept (load_of l) q l (λ z. e (ap (λ (x : Result). x.number) h.0 ∙ z));
-  step_image = λ l r m h e. h.1 ∙ step_kept (load_of l) l (λ z. e (ap (λ (x : Result). x.number) h.0 ∙ z));
-  leave_image = λ l n r m h e. h.1 ∙ leave_kept (load_of l) n l (λ z. e (ap (λ (x : Result). x.number) h.0 ∙ z));
-  counts_image = λ l ns r m h e. h.1 ∙ counts_kept (load_of l) ns (λ z. e (ap (λ (x : Result). x.number) h.0 ∙ z));
-  write_image = λ l q out r m h e. h.1 ∙ card_kept (load_of l) q out (λ z. e (ap (λ (x : Result). x.number) h.0 ∙ z));
+  answer_card = λ card l r m h e. h.1 ∙ line_kept (fits (line_for card) l) (line_for card) l (λ z. e (ap (λ (x : Returned). x.number) h.0 ∙ z));
+  rewrite_card = λ card l r m h e. h.1 ∙ rewrite_kept (turned_of card) (read_of card) l (λ z. e (ap (λ (x : Returned). x.number) h.0 ∙ z));
+  empty_image = λ l r m h e. h.1 ∙ filled_kept 0 (store_of (length l)) (image_of empty_table) l (λ z. e (ap (λ (x : Returned). x.number) h.0 ∙ z));
+  admit_image = λ l q r m h e. h.1 ∙ admit_kept (load_of l) q l (λ z. e (ap (λ (x : Returned). x.number) h.0 ∙ z));
+  step_image = λ l r m h e. h.1 ∙ step_kept (load_of l) l (λ z. e (ap (λ (x : Returned). x.number) h.0 ∙ z));
+  leave_image = λ l n r m h e. h.1 ∙ leave_kept (load_of l) n l (λ z. e (ap (λ (x : Returned). x.number) h.0 ∙ z));
+  counts_image = λ l ns r m h e. h.1 ∙ counts_kept (load_of l) ns (λ z. e (ap (λ (x : Returned). x.number) h.0 ∙ z));
+  write_image = λ l q out r m h e. h.1 ∙ card_kept (load_of l) q out (λ z. e (ap (λ (x : Returned). x.number) h.0 ∙ z));
   read_image = λ card l ns r m n h e.
-      let k = image_kept (read_of card) l ns (λ z. e (ap (λ (x : Result). x.number) h.0 ∙ z)) in
+      let k = image_kept (read_of card) l ns (λ z. e (ap (λ (x : Returned). x.number) h.0 ∙ z)) in
       (h.1 ∙ k.0, h.2 ∙ k.1);
 }

@@ -24,7 +24,7 @@ use Rattle.card.proofs.Rewritten.{write_is, buffer_is}
 use Rattle.image.proofs.ReadsBack.{one_image}
 use Rattle.image.proofs.WritesBack.{loaded_length, stores_back}
 use Rattle.image.proofs.Stored.{has_room, room_is, stored_is, stored_loads}
-use Rattle.calls.specs.declared.Result.{Result}
+use Rattle.calls.specs.declared.Returned.{Returned}
 use Rattle.calls.specs.Results.{granted_as}
 use Rattle.calls.proofs.Theorems.{rewrites_twin}
 use Rattle.promises.specs.Demand2.{LeastStart, SomeOf, ExactlyRefused, WrittenReadsBack, ReadWritesTwin, ReadWritesBack, RewritesTwin, ReadRefusesBroken, StoredLoadsBack, LoadedStoresBack, Demand2}
@@ -76,7 +76,7 @@ pub rewrites_as_twin : RewritesTwin
 unfolding read_with
 rewrites_as_twin card d l r m b e h w =
     let t = rewrites_twin card l b (card_for d) (ap meaning e) h in
-    let p : r.place ≡ turned_of card = ap (λ (x : Result). x.place) (w.0 ∙ t.0) in (
+    let p : r.place ≡ turned_of card = ap (λ (x : Returned). x.place) (w.0 ∙ t.0) in (
       w.0 ∙ t.0 ∙ ap (λ (k : ℕ). granted_as k (length card)) (sym p),
       (λ k. ap (λ (x : ℕ). x / 2 ^ k % 2) p ∙ turned_bit 16 card d e k),
       w.1 ∙ t.1,

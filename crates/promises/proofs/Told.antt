@@ -17,15 +17,15 @@ use Rattle.card.specs.Reading.{read_of}
 use Rattle.card.specs.Twin.{turned_of}
 use Rattle.image.specs.Loading.{load_of}
 use Rattle.image.specs.Answers.{store_of}
-use Rattle.calls.specs.declared.Result.{Result}
+use Rattle.calls.specs.declared.Returned.{Returned}
 use Rattle.calls.specs.Cards.{line_for, put_of, rewrite_of, run_of}
 use Rattle.calls.specs.Moves.{write_card_for, read_card_for}
 use Rattle.calls.specs.Tables.{asked_as, ask_for, ran_as, step_for, leave_for, ReadyFor, all_counts, counts_for, counts_after}
 use Rattle.promises.specs.Demand1.{ToldApart, TensOf, TenAlone}
 use Rattle.promises.proofs.Numbered.{Numbered, zero_grants, result_tens, ask_numbered, step_numbered, leave_numbered, load_numbered, store_numbered, put_numbered, rewrite_numbered, run_numbered, card_numbered, image_numbered}
 
-number_is : {r s : Result} → r ≡ s → r.number ≡ 0 → s.number ≡ 0
-number_is e z = ap (λ (x : Result). x.number) (sym e) ∙ z
+number_is : {r s : Returned} → r ≡ s → r.number ≡ 0 → s.number ≡ 0
+number_is e z = ap (λ (x : Returned). x.number) (sym e) ∙ z
 
 ask_told : (s : Said Table) (q : Request) → Numbered s → (ask_for s q).number ≡ 0 → (t : Table) × (s ≡ Ok t) × ((k : ℕ) × (ask_of t q ≡ Ok k))
 ask_told (Err x) q h e = absurd (h.0 e)
@@ -47,7 +47,7 @@ leave_told : (s : Said Table) (n : ℕ) → Numbered s → (leave_for s n).numbe
 leave_told (Err x) n h e = absurd (h.0 e)
 leave_told (Ok t) n h e = (t, refl, zero_grants 0 ((leave_of t n).leaving) (leave_numbered t n) e)
 
-ready_told : (s : Said Table) (r : Result) → Numbered s → ReadyFor s r → r.number ≡ 0 → (t : Table) × (s ≡ Ok t)
+ready_told : (s : Said Table) (r : Returned) → Numbered s → ReadyFor s r → r.number ≡ 0 → (t : Table) × (s ≡ Ok t)
 ready_told (Ok t) r h k e = (t, refl)
 ready_told (Err x) r h k e = absurd (h.0 (number_is k e))
 
@@ -74,7 +74,7 @@ told_apart = record {
 
 -- ---- who says a tick and an excess
 
-tens_is : {r s : Result} → r ≡ s → TensOf s → TensOf r
+tens_is : {r s : Returned} → r ≡ s → TensOf s → TensOf r
 tens_is e h = subst TensOf (sym e) h
 
 ask_tens : (s : Said Table) (q : Request) → Numbered s → TensOf (ask_for s q)
@@ -93,7 +93,7 @@ leave_tens : (s : Said Table) (n : ℕ) → Numbered s → TensOf (leave_for s n
 leave_tens (Ok t) n h = result_tens 0 ((leave_of t n).leaving) (leave_numbered t n)
 leave_tens (Err x) n h = h.1
 
-ready_tens : (s : Said Table) (r : Result) → Numbered s → ReadyFor s r → TensOf r
+ready_tens : (s : Said Table) (r : Returned) → Numbered s → ReadyFor s r → TensOf r
 ready_tens (Ok t) r h k = tens_is k.0 (result_tens 0 (Ok r.value) tt)
 ready_tens (Err x) r h k = tens_is k h.1
 

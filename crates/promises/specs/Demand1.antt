@@ -22,7 +22,7 @@ use Rattle.reply.specs.Line.{answer_line, Replied}
 use Rattle.image.specs.declared.Loaded.{Loaded}
 use Rattle.image.specs.Loading.{load_of}
 use Rattle.image.specs.Answers.{said_loaded, store_of}
-use Rattle.calls.specs.declared.Result.{Result}
+use Rattle.calls.specs.declared.Returned.{Returned}
 use Rattle.calls.specs.Cards.{line_for, put_of, rewrite_of, run_of}
 use Rattle.calls.specs.Tables.{all_counts}
 use Rattle.calls.specs.Moves.{write_card_for, read_card_for}
@@ -92,37 +92,37 @@ pub record RefusalKeeps : Type 0 where
   -- loading is lent nothing to change either
   pub load : (l : List ℕ) (y : Loaded) (x : Refusal) → Loads l y → said_loaded y ≡ Err x → (load_of l ≡ Err x) × (y.table ≡ empty_table)
   pub store : (t : Table) (l : List ℕ) (a : Said ℕ) (m : List ℕ) (x : Refusal) → Stores t l a m → a ≡ Err x → m ≡ l
-  pub answer_card : (card l : List ℕ) (r : Result) (m : List ℕ) → AnswersCard card l r m → (r.number ≡ 0 → ⊥) → m ≡ l
-  pub rewrite_card : (card l : List ℕ) (r : Result) (m : List ℕ) → Rewrites card l r m → (r.number ≡ 0 → ⊥) → m ≡ l
-  pub empty_image : (l : List ℕ) (r : Result) (m : List ℕ) → Empties l r m → (r.number ≡ 0 → ⊥) → m ≡ l
-  pub admit_image : (l : List ℕ) (q : Request) (r : Result) (m : List ℕ) → AdmitsImage l q r m → (r.number ≡ 0 → ⊥) → m ≡ l
-  pub step_image : (l : List ℕ) (r : Result) (m : List ℕ) → StepsImage l r m → (r.number ≡ 0 → ⊥) → m ≡ l
-  pub leave_image : (l : List ℕ) (n : ℕ) (r : Result) (m : List ℕ) → LetsGoImage l n r m → (r.number ≡ 0 → ⊥) → m ≡ l
-  pub counts_image : (l ns : List ℕ) (r : Result) (m : List ℕ) → CountsImage l ns r m → (r.number ≡ 0 → ⊥) → m ≡ ns
-  pub write_image : (l : List ℕ) (q : Request) (out : List ℕ) (r : Result) (m : List ℕ) → WritesImage l q out r m → (r.number ≡ 0 → ⊥) → m ≡ out
-  pub read_image : (card l ns : List ℕ) (r : Result) (m n : List ℕ) → ReadsImage card l ns r m n → (r.number ≡ 0 → ⊥) → (m ≡ l) × (n ≡ ns)
+  pub answer_card : (card l : List ℕ) (r : Returned) (m : List ℕ) → AnswersCard card l r m → (r.number ≡ 0 → ⊥) → m ≡ l
+  pub rewrite_card : (card l : List ℕ) (r : Returned) (m : List ℕ) → Rewrites card l r m → (r.number ≡ 0 → ⊥) → m ≡ l
+  pub empty_image : (l : List ℕ) (r : Returned) (m : List ℕ) → Empties l r m → (r.number ≡ 0 → ⊥) → m ≡ l
+  pub admit_image : (l : List ℕ) (q : Request) (r : Returned) (m : List ℕ) → AdmitsImage l q r m → (r.number ≡ 0 → ⊥) → m ≡ l
+  pub step_image : (l : List ℕ) (r : Returned) (m : List ℕ) → StepsImage l r m → (r.number ≡ 0 → ⊥) → m ≡ l
+  pub leave_image : (l : List ℕ) (n : ℕ) (r : Returned) (m : List ℕ) → LetsGoImage l n r m → (r.number ≡ 0 → ⊥) → m ≡ l
+  pub counts_image : (l ns : List ℕ) (r : Returned) (m : List ℕ) → CountsImage l ns r m → (r.number ≡ 0 → ⊥) → m ≡ ns
+  pub write_image : (l : List ℕ) (q : Request) (out : List ℕ) (r : Returned) (m : List ℕ) → WritesImage l q out r m → (r.number ≡ 0 → ⊥) → m ≡ out
+  pub read_image : (card l ns : List ℕ) (r : Returned) (m n : List ℕ) → ReadsImage card l ns r m n → (r.number ≡ 0 → ⊥) → (m ≡ l) × (n ≡ ns)
 
 -- ---- grants and refusals told apart
 
 -- R63: operation by operation, a result whose number is 0 is a grant
 pub record ToldApart : Type 0 where
-  pub answer_card : (card l : List ℕ) (r : Result) (m : List ℕ) → AnswersCard card l r m → r.number ≡ 0 → (n : ℕ) × (put_of (line_for card) l ≡ Ok n)
-  pub rewrite_card : (card l : List ℕ) (r : Result) (m : List ℕ) → Rewrites card l r m → r.number ≡ 0 → (n : ℕ) × (rewrite_of card (length l) ≡ Ok n)
-  pub run_card : (card : List ℕ) (ticks : ℕ) (r : Result) → RunsCard card ticks r → r.number ≡ 0 → (n : ℕ) × (run_of card ticks ≡ Ok n)
-  pub empty_image : (l : List ℕ) (r : Result) (m : List ℕ) → Empties l r m → r.number ≡ 0 → (n : ℕ) × (store_of (length l) ≡ Ok n)
-  pub ask_image : (l : List ℕ) (q : Request) (r : Result) → AsksImage l q r → r.number ≡ 0
+  pub answer_card : (card l : List ℕ) (r : Returned) (m : List ℕ) → AnswersCard card l r m → r.number ≡ 0 → (n : ℕ) × (put_of (line_for card) l ≡ Ok n)
+  pub rewrite_card : (card l : List ℕ) (r : Returned) (m : List ℕ) → Rewrites card l r m → r.number ≡ 0 → (n : ℕ) × (rewrite_of card (length l) ≡ Ok n)
+  pub run_card : (card : List ℕ) (ticks : ℕ) (r : Returned) → RunsCard card ticks r → r.number ≡ 0 → (n : ℕ) × (run_of card ticks ≡ Ok n)
+  pub empty_image : (l : List ℕ) (r : Returned) (m : List ℕ) → Empties l r m → r.number ≡ 0 → (n : ℕ) × (store_of (length l) ≡ Ok n)
+  pub ask_image : (l : List ℕ) (q : Request) (r : Returned) → AsksImage l q r → r.number ≡ 0
       → (t : Table) × (load_of l ≡ Ok t) × ((s : ℕ) × (ask_of t q ≡ Ok s))
-  pub admit_image : (l : List ℕ) (q : Request) (r : Result) (m : List ℕ) → AdmitsImage l q r m → r.number ≡ 0
+  pub admit_image : (l : List ℕ) (q : Request) (r : Returned) (m : List ℕ) → AdmitsImage l q r m → r.number ≡ 0
       → (t : Table) × (load_of l ≡ Ok t) × ((s : ℕ) × (ask_of t q ≡ Ok s))
-  pub step_image : (l : List ℕ) (r : Result) (m : List ℕ) → StepsImage l r m → r.number ≡ 0
+  pub step_image : (l : List ℕ) (r : Returned) (m : List ℕ) → StepsImage l r m → r.number ≡ 0
       → (t : Table) × (load_of l ≡ Ok t) × ((o : Option ℕ) × ((step_of t).outcome ≡ Ok o))
-  pub leave_image : (l : List ℕ) (n : ℕ) (r : Result) (m : List ℕ) → LetsGoImage l n r m → r.number ≡ 0
+  pub leave_image : (l : List ℕ) (n : ℕ) (r : Returned) (m : List ℕ) → LetsGoImage l n r m → r.number ≡ 0
       → (t : Table) × (load_of l ≡ Ok t) × ((k : ℕ) × ((leave_of t n).leaving ≡ Ok k))
-  pub ready_image : (l : List ℕ) (r : Result) → ReadiesImage l r → r.number ≡ 0 → (t : Table) × (load_of l ≡ Ok t)
-  pub counts_image : (l ns : List ℕ) (r : Result) (m : List ℕ) → CountsImage l ns r m → r.number ≡ 0 → (t : Table) × (load_of l ≡ Ok t) × (m ≡ all_counts t)
-  pub write_image : (l : List ℕ) (q : Request) (out : List ℕ) (r : Result) (m : List ℕ) → WritesImage l q out r m → r.number ≡ 0
+  pub ready_image : (l : List ℕ) (r : Returned) → ReadiesImage l r → r.number ≡ 0 → (t : Table) × (load_of l ≡ Ok t)
+  pub counts_image : (l ns : List ℕ) (r : Returned) (m : List ℕ) → CountsImage l ns r m → r.number ≡ 0 → (t : Table) × (load_of l ≡ Ok t) × (m ≡ all_counts t)
+  pub write_image : (l : List ℕ) (q : Request) (out : List ℕ) (r : Returned) (m : List ℕ) → WritesImage l q out r m → r.number ≡ 0
       → (n : ℕ) × (write_card_for (load_of l) q (length out) ≡ Ok n)
-  pub read_image : (card l ns : List ℕ) (r : Result) (m n : List ℕ) → ReadsImage card l ns r m n → r.number ≡ 0
+  pub read_image : (card l ns : List ℕ) (r : Returned) (m n : List ℕ) → ReadsImage card l ns r m n → r.number ≡ 0
       → (k : ℕ) × (read_card_for (read_of card) (length l) ≡ Ok k)
 
 -- ---- who says a tick and an excess
@@ -133,21 +133,21 @@ pub record OnlyTen (number tick excess : ℕ) : Type 0 where
   pub others : (number ≡ 10 → ⊥) → (tick ≡ 0) × (excess ≡ 0)
 
 -- R63, R103: those of a result
-abbrev pub TensOf : Result → Type 0
+abbrev pub TensOf : Returned → Type 0
 TensOf r = OnlyTen r.number r.tick r.excess
 
 -- R103: operation by operation, of any result that the contract allows
 pub record TenAlone : Type 0 where
   pub ask : (t : Table) (q : Request) (x : Refusal) → Answers t q (Err x) → OnlyTen x.number x.tick x.excess
-  pub answer_card : (card l : List ℕ) (r : Result) (m : List ℕ) → AnswersCard card l r m → TensOf r
-  pub rewrite_card : (card l : List ℕ) (r : Result) (m : List ℕ) → Rewrites card l r m → TensOf r
-  pub run_card : (card : List ℕ) (ticks : ℕ) (r : Result) → RunsCard card ticks r → TensOf r
-  pub empty_image : (l : List ℕ) (r : Result) (m : List ℕ) → Empties l r m → TensOf r
-  pub ask_image : (l : List ℕ) (q : Request) (r : Result) → AsksImage l q r → TensOf r
-  pub admit_image : (l : List ℕ) (q : Request) (r : Result) (m : List ℕ) → AdmitsImage l q r m → TensOf r
-  pub step_image : (l : List ℕ) (r : Result) (m : List ℕ) → StepsImage l r m → TensOf r
-  pub leave_image : (l : List ℕ) (n : ℕ) (r : Result) (m : List ℕ) → LetsGoImage l n r m → TensOf r
-  pub ready_image : (l : List ℕ) (r : Result) → ReadiesImage l r → TensOf r
-  pub counts_image : (l ns : List ℕ) (r : Result) (m : List ℕ) → CountsImage l ns r m → TensOf r
-  pub write_image : (l : List ℕ) (q : Request) (out : List ℕ) (r : Result) (m : List ℕ) → WritesImage l q out r m → TensOf r
-  pub read_image : (card l ns : List ℕ) (r : Result) (m n : List ℕ) → ReadsImage card l ns r m n → TensOf r
+  pub answer_card : (card l : List ℕ) (r : Returned) (m : List ℕ) → AnswersCard card l r m → TensOf r
+  pub rewrite_card : (card l : List ℕ) (r : Returned) (m : List ℕ) → Rewrites card l r m → TensOf r
+  pub run_card : (card : List ℕ) (ticks : ℕ) (r : Returned) → RunsCard card ticks r → TensOf r
+  pub empty_image : (l : List ℕ) (r : Returned) (m : List ℕ) → Empties l r m → TensOf r
+  pub ask_image : (l : List ℕ) (q : Request) (r : Returned) → AsksImage l q r → TensOf r
+  pub admit_image : (l : List ℕ) (q : Request) (r : Returned) (m : List ℕ) → AdmitsImage l q r m → TensOf r
+  pub step_image : (l : List ℕ) (r : Returned) (m : List ℕ) → StepsImage l r m → TensOf r
+  pub leave_image : (l : List ℕ) (n : ℕ) (r : Returned) (m : List ℕ) → LetsGoImage l n r m → TensOf r
+  pub ready_image : (l : List ℕ) (r : Returned) → ReadiesImage l r → TensOf r
+  pub counts_image : (l ns : List ℕ) (r : Returned) (m : List ℕ) → CountsImage l ns r m → TensOf r
+  pub write_image : (l : List ℕ) (q : Request) (out : List ℕ) (r : Returned) (m : List ℕ) → WritesImage l q out r m → TensOf r
+  pub read_image : (card l ns : List ℕ) (r : Returned) (m n : List ℕ) → ReadsImage card l ns r m n → TensOf r

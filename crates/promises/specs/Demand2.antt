@@ -16,7 +16,7 @@ use Rattle.card.specs.Reading.{records_with, read_of}
 use Rattle.card.specs.Twin.{is_old, turned_of, twin_of}
 use Rattle.image.specs.Image.{image_of, TableWidths}
 use Rattle.image.specs.Loading.{load_of}
-use Rattle.calls.specs.declared.Result.{Result}
+use Rattle.calls.specs.declared.Returned.{Returned}
 use Rattle.calls.specs.Results.{granted_as}
 use Rattle.promises.specs.Operations.{Writes, Rewrites, Stores}
 
@@ -63,7 +63,7 @@ ReadAlike = (l m : List ℕ) → Bytes l → Bytes m → (c d : Card) → read_o
 
 -- R65: the tool makes the twin of any card that reads, and its word has a bit for each slot whose record is TA, and no other
 abbrev pub RewritesTwin : Type 0
-RewritesTwin = (card : List ℕ) (d : Records) (l : List ℕ) (r : Result) (m : List ℕ) → Bytes card → records_with 16 card ≡ Ok d → length card ≤ length l
+RewritesTwin = (card : List ℕ) (d : Records) (l : List ℕ) (r : Returned) (m : List ℕ) → Bytes card → records_with 16 card ≡ Ok d → length card ≤ length l
     → Rewrites card l r m
     → (r ≡ granted_as r.place (length card)) × ((k : ℕ) → r.place / 2 ^ k % 2 ≡ pick (get_or (map is_old d.slots) k false) 1 0)
     × (m ≡ twin_of card ++ drop (length card) l)

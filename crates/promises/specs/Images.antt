@@ -8,7 +8,7 @@ use Rattle.table.specs.Runs.{Act, asking, admitting, stepping, leaving, after, r
 use Rattle.image.specs.Image.{size, image_of, TableWidths}
 use Rattle.image.specs.Loading.{load_of}
 use Rattle.image.specs.Answers.{stored_in}
-use Rattle.calls.specs.declared.Result.{Result}
+use Rattle.calls.specs.declared.Returned.{Returned}
 use Rattle.calls.specs.Results.{granted_as, refused_as}
 use Rattle.calls.specs.Tables.{asked_as, ask_for, after_admit, stepped_as, step_for, after_step, left_as, leave_for, after_leave}
 use Rattle.promises.specs.Operations.{Empties, AdmitsImage, StepsImage, LetsGoImage}
@@ -46,10 +46,10 @@ image_run (a ∷ rest) l = image_run rest (image_by a l)
 
 -- R85, R87, R88, R102: whatever the contracts allow, they leave these bytes
 pub record LeftByContract : Type 0 where
-  pub empty : (l : List ℕ) (r : Result) (m : List ℕ) → Empties l r m → m ≡ stored_in empty_table l
-  pub admit : (l : List ℕ) (q : Request) (r : Result) (m : List ℕ) → AdmitsImage l q r m → m ≡ image_by (admitting q) l
-  pub step : (l : List ℕ) (r : Result) (m : List ℕ) → StepsImage l r m → m ≡ image_by stepping l
-  pub leave : (l : List ℕ) (n : ℕ) (r : Result) (m : List ℕ) → LetsGoImage l n r m → m ≡ image_by (leaving n) l
+  pub empty : (l : List ℕ) (r : Returned) (m : List ℕ) → Empties l r m → m ≡ stored_in empty_table l
+  pub admit : (l : List ℕ) (q : Request) (r : Returned) (m : List ℕ) → AdmitsImage l q r m → m ≡ image_by (admitting q) l
+  pub step : (l : List ℕ) (r : Returned) (m : List ℕ) → StepsImage l r m → m ≡ image_by stepping l
+  pub leave : (l : List ℕ) (n : ℕ) (r : Returned) (m : List ℕ) → LetsGoImage l n r m → m ≡ image_by (leaving n) l
 
 -- ---- what they are then
 
@@ -79,7 +79,7 @@ ImageLoads = (acts : List Act) → AllNarrowed acts → load_of (image_run acts 
 
 -- R74, R88: what is promised of a step r from the clock k: it names who ran, but at the last tick, and where its number is not 0 it is 15 at the last tick.
 -- So it is never 14, nor 4, nor 11.
-pub record UnfailingStep (k : ℕ) (r : Result) : Type 0 where
+pub record UnfailingStep (k : ℕ) (r : Returned) : Type 0 where
   pub goes_on : k < 2 ^ 48 → (o : Option ℕ) × (r ≡ granted_as 0 (slot_number o))
   pub only_fifteen : (r.number ≡ 0 → ⊥) → (r ≡ refused_as (refusal 15 0)) × (k ≡ 2 ^ 48)
   pub at_the_last : k ≡ 2 ^ 48 → r ≡ refused_as (refusal 15 0)
