@@ -11,7 +11,6 @@ use Rattle.line.specs.Slots.{empty, lowest}
 use Rattle.table.specs.declared.Table.{Table}
 use Rattle.table.specs.Words.{table_with, with_counts, with_departed, with_last, refusal, Said}
 use Rattle.table.specs.Cases.{running, parting, waiting}
-use Rattle.image.specs.declared.LoadAnswer.{LoadAnswer}
 use Rattle.image.specs.Image.{size, image_of}
 use Rattle.image.specs.Loading.{byte, blank_from, slots_wrong, length_wrong, wrong_in, held_in, load_with, load_of}
 use Rattle.image.specs.Answers.{handed_out, said_loaded, store_of, stored_in}
@@ -292,16 +291,16 @@ stored_edges = refl
 
 -- R84: what is handed out: a table with its answer, and with a refusal the empty table of sixteen slots
 pub handed_edges : map (λ (l : List ℕ). handed_out (load_of l)) (sixteen_bytes ∷ take 297 sixteen_bytes ∷ (sixteen_bytes ++ (0 ∷ [])) ∷ set sixteen_bytes 144 4 ∷ set sixteen_bytes 0 3 ∷ [])
-    ≡ record { table = sixteen; answer = LoadAnswer.Read }
-    ∷ record { table = table_with 0 (replicate 16 empty); answer = LoadAnswer.Refused (refusal 11 297) }
-    ∷ record { table = table_with 0 (replicate 16 empty); answer = LoadAnswer.Refused (refusal 11 298) }
-    ∷ record { table = table_with 0 (replicate 16 empty); answer = LoadAnswer.Refused (refusal 11 144) }
-    ∷ record { table = table_with 0 (replicate 16 empty); answer = LoadAnswer.Refused (refusal 11 0) }
+    ≡ record { table = sixteen; answer = Ok tt }
+    ∷ record { table = table_with 0 (replicate 16 empty); answer = Err (refusal 11 297) }
+    ∷ record { table = table_with 0 (replicate 16 empty); answer = Err (refusal 11 298) }
+    ∷ record { table = table_with 0 (replicate 16 empty); answer = Err (refusal 11 144) }
+    ∷ record { table = table_with 0 (replicate 16 empty); answer = Err (refusal 11 0) }
     ∷ []
 unfolding lowest blank_from slots_wrong length_wrong wrong_in held_in load_with
 handed_edges = refl
 
 -- R17, R84: an answer says its own numbers, whatever table stands beside a refusal
-pub said_edges : (t : Table) → map said_loaded (record { table = t; answer = LoadAnswer.Read } ∷ record { table = t; answer = LoadAnswer.Refused (refusal 12 34) } ∷ [])
+pub said_edges : (t : Table) → map said_loaded (record { table = t; answer = Ok tt } ∷ record { table = t; answer = Err (refusal 12 34) } ∷ [])
     ≡ Ok t ∷ Err (refusal 12 34) ∷ []
 said_edges t = refl

@@ -16,10 +16,8 @@ use Rattle.line.specs.Slots.{or_else}
 use Rattle.line.proofs.Sound.{both_false}
 use Rattle.line.proofs.Search.{Looking, look_on, look_stop, look_end, lowest_below, none_found}
 use Rattle.table.specs.declared.Table.{Table}
+use Rattle.table.specs.declared.Refusal.{Refusal}
 use Rattle.table.specs.Words.{refusal}
-use Rattle.image.specs.declared.LoadAnswer.TheVariants.{Read}
-use Rattle.image.specs.declared.Loaded.{Loaded}
-use Rattle.image.specs.Answers.{handed_out}
 use Rattle.image.proofs.RunKinds.{run_blank}
 use Rattle.image.proofs.Eight.{fourth}
 use Rattle.image.proofs.WritesBack.{nothing_wrong}
@@ -236,11 +234,11 @@ module _ (n : ℕ) (l : List ℕ) where
     has_length q = (nothing_wrong n l (sym e ∙ q)).2
 
     -- R31, R83: what is wrong is refused at its offset
-    pub load_broken : (p : ℕ) (r : Loaded) → w ≡ Some p → r ≡ handed_out (Err (refusal 11 p)) → r ≡ handed_out (load_with n l)
+    pub load_broken : (p : ℕ) (r : Refusal) → w ≡ Some p → r ≡ refusal 11 p → Err r ≡ load_with n l
     unfolding load_with
-    load_broken p r q b = b ∙ ap (λ (o : Option ℕ). handed_out (unless_wrong o (table_in n l))) (sym q ∙ e)
+    load_broken p r q b = ap Err b ∙ ap (λ (o : Option ℕ). unless_wrong o (table_in n l)) (sym q ∙ e)
 
     -- R83: and what is not is a table
-    pub load_right : (t : Table) → w ≡ None → t ≡ table_in n l → record { table = t; answer = Read } ≡ handed_out (load_with n l)
+    pub load_right : (t : Table) → w ≡ None → t ≡ table_in n l → Ok t ≡ load_with n l
     unfolding load_with
-    load_right t q b = ap (λ (u : Table). handed_out (Ok u)) b ∙ ap (λ (o : Option ℕ). handed_out (unless_wrong o (table_in n l))) (sym q ∙ e)
+    load_right t q b = ap Ok b ∙ ap (λ (o : Option ℕ). unless_wrong o (table_in n l)) (sym q ∙ e)

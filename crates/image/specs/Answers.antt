@@ -4,20 +4,18 @@ use Rattle.line.specs.Slots.{pick}
 use Rattle.table.specs.declared.Table.{Table}
 use Rattle.table.specs.Words.{empty_table, refusal, Said}
 use Rattle.card.specs.Answers.{filled}
-use Rattle.image.specs.declared.LoadAnswer.{LoadAnswer}
-use Rattle.image.specs.declared.LoadAnswer.TheVariants.{Read, Refused}
 use Rattle.image.specs.declared.Loaded.{Loaded}
 use Rattle.image.specs.Image.{size, image_of}
 
 -- R84: what is handed out; beside a refusal it is nothing of the image
 abbrev pub handed_out : Said Table → Loaded
-handed_out (Ok t) = record { table = t; answer = Read }
-handed_out (Err r) = record { table = empty_table; answer = Refused r }
+handed_out (Ok t) = record { table = t; answer = Ok tt }
+handed_out (Err r) = record { table = empty_table; answer = Err r }
 
 -- what an answer of loading says: the table beside it, or the refusal
-abbrev pub said_beside : Table → LoadAnswer → Said Table
-said_beside t Read = Ok t
-said_beside t (Refused r) = Err r
+abbrev pub said_beside : Table → Said (Unit {0}) → Said Table
+said_beside t (Ok u) = Ok t
+said_beside t (Err r) = Err r
 
 -- the same of all that is handed out
 abbrev pub said_loaded : Loaded → Said Table

@@ -1,7 +1,7 @@
 // The table as bytes: any bytes of any length loaded as a table or refused, and a table stored.
 #![tactic(auto)]
 
-ghost use Rattle.std.specs.Prelude.{None, Err, ◌≡◌, ◌≤◌, ◌++◌, length, drop};
+ghost use Rattle.std.specs.Prelude.{Err, ◌≡◌, ◌≤◌, ◌++◌, length, drop};
 ghost use Rattle.image.specs.Image.{image_of};
 ghost use Rattle.image.specs.Loading.{table_in, load_of};
 ghost use Rattle.image.specs.Answers.{handed_out, store_of, stored_in};
@@ -15,27 +15,28 @@ mod judge; // which byte is wrong
 mod numbers; // numbers of eight bytes
 mod slots; // the slots in an image
 
-// R84: the image was read, or refused.
-#[derive(Clone, Copy)]
-pub enum Result<(), Refusal> {
-    Read,
-    Refused(Refusal),
-}
-
-// R84: what loading hands out. The table stands beside the answer, as it is there with a refusal too.
+// R84: what loading hands out. The table stands beside the answer, since R84 hands one out with a refusal too: the empty one.
 #[derive(Clone, Copy)]
 pub struct Loaded {
     pub table: Table,
     pub answer: Result<(), Refusal>,
 }
 
-// R83: nothing of the image is handed out beside a refusal.
-fn broken(at: usize) -> Loaded
-    ensures { result ≡ handed_out (Err (refusal 11 at)) }
-{
-    Loaded {
-        table: Table::empty(),
-        answer: Err(Refusal::new(11, at as u64)),
+impl From<Result<Table, Refusal>> for Loaded {
+    // R83, R84: nothing of the image is handed out beside a refusal.
+    fn from(read: Result<Table, Refusal>) -> Loaded
+        ensures { result ≡ handed_out read }
+    {
+        match read {
+            Ok(table) => Loaded {
+                table,
+                answer: Ok(()),
+            },
+            Err(x) => Loaded {
+                table: Table::empty(),
+                answer: Err(x),
+            },
+        }
     }
 }
 
@@ -45,25 +46,28 @@ fn table_in(image: &[u8]) -> Table
     ensures { result ≡ table_in 16 image.now }
 {
     let mut t = Table::new(numbers::eight_at(image, 1), slots::slots_in(image));
-    let had = counts::counts_in(image);
-    t.had = had;
+    t.had = counts::counts_in(image);
     t.idle = numbers::eight_at(image, 281);
     t.departed = numbers::eight_at(image, 289);
     t.last = image[297];
     t
 }
 
-// R31, R83: any bytes of any length. The contract is an equation: it settles all that is handed out.
+// R31, R83: any bytes of any length. The contract is an equation: it settles all that is answered.
+pub fn try_load(image: &[u8]) -> Result<Table, Refusal>
+    ensures { result ≡ load_of image.now }
+{
+    match judge::wrong_in(image) {
+        Some(at) => Err(Refusal::new(11, at as u64)),
+        None => Ok(table_in(image)),
+    }
+}
+
+// R31, R83, R84: the same, as it is handed out.
 pub fn load(image: &[u8]) -> Loaded
     ensures { result ≡ handed_out (load_of image.now) }
 {
-    match judge::wrong_in(image) {
-        Some(at) => broken(at),
-        None => Loaded {
-            table: table_in(image),
-            answer: Ok(()),
-        },
-    }
+    Loaded::from(try_load(image))
 }
 
 // R81: the version and the clock, then the slots, then the counts, then the last slot.

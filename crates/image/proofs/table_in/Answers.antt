@@ -13,7 +13,7 @@ pub returns : goal.returns
 returns c =
     let d = c.eight_at-3 in
     let i = c.eight_at-2 in
-    let h = c.counts_in-had in
+    let h = c.counts_in-t in
     let l = c.args.image.now in
     let k = byte l 297 in
     ap (λ (t : Table). with_last (with_departed (with_counts t h.result i.result) d.result) k) (c.new-t.ensures ∙ ap₂ table_with c.eight_at.ensures c.slots_in.ensures)
