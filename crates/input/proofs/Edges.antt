@@ -1,7 +1,7 @@
 -- What is taken at its limits: how many bytes may be counted, and which bytes they are.
 use Rattle.std.proofs.Common.{ℕ, ◌≡◌, refl, ap, get_or, List, [], ◌∷◌, length, arith}
 use Rattle.std.specs.Prelude.{None, Some}
-use Rattle.input.specs.Counts.{Counts, Begins}
+use Rattle.input.specs.Counts.{Counts, Begins, Fills}
 
 -- R60, R94: as many bytes are counted as are lent, and not one more
 pub whole_counted : Counts 2 (7 ∷ 8 ∷ [])
@@ -31,3 +31,13 @@ no_later_byte_begins h = let e : 7 ≡ 8 = ap (λ (l : List ℕ). get_or l 0 0) 
 -- R60: of a reader of which nothing is known, any bytes are allowed
 pub unknown_begin : Begins 1 (8 ∷ []) None
 unknown_begin = tt
+
+-- R60, R94: without a failure they are all that it has, or as many as are lent
+pub all_fill : Fills 1 (7 ∷ 0 ∷ []) (Some (7 ∷ []))
+all_fill = refl
+
+pub no_more_than_lent_fill : Fills 2 (7 ∷ 8 ∷ []) (Some (7 ∷ 8 ∷ 9 ∷ []))
+no_more_than_lent_fill = refl
+
+pub one_left_over_does_not_fill : Fills 1 (7 ∷ 0 ∷ []) (Some (7 ∷ 8 ∷ [])) → ⊥
+one_left_over_does_not_fill h = let e : 1 ≡ 2 = ap length h in omega (arith, e)
