@@ -33,7 +33,7 @@ impl Table {
         let mut i: usize = 0;
         while i < 16 {
             let s = self.slots[i];
-            if s.is(line::Kind::Unsound) {
+            if !s.sound() {
                 return Err(i);
             }
             let key = s.key();

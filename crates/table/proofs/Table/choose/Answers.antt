@@ -1,10 +1,8 @@
 use Prim.Native.Nat.{◌<◌}
-use mathlib.Core.Bool.{not}
 use mathlib.Core.Path.{◌≡◌}
+use borrow.Author.Rules.{rules}
 use native.Mathlib.Omega.{arith}
 use lib.ListN.{length}
-use Rattle.line.specs.Sound.{sound}
-use Rattle.line.proofs.Read.{seen}
 use Rattle.line.proofs.Search.{look_start, look_on, look_stop, look_end}
 use Rattle.table.proofs.Choice.{choose_start, choose_take, choose_keep, choose_last, choose_other, choose_none, key_nowhere}
 use Rattle.table.proofs.Table.choose.Goals as goal
@@ -21,12 +19,12 @@ loop-i-init c =
       ],
     )
 
-pub returns-then-is : goal.returns-then-is
-returns-then-is c =
+pub returns-then-not-sound : goal.returns-then-not-sound
+returns-then-not-sound c =
     let v = c.loop-i.invariant in
     let ss = c.args.self.slots in
     let h : c.loop-i.i < length ss = omega (arith, v.0.long) in
-    look_stop v.1 h (seen (λ x. not (sound x)) ss c.loop-i.i _ c.is.ensures c.if-is.true h)
+    look_stop v.1 h (search rules)
 
 pub loop-i-preserved : goal.loop-i-preserved
 loop-i-preserved c =
@@ -34,7 +32,7 @@ loop-i-preserved c =
     let ss = c.args.self.slots in
     let t = c.loop-i-test.true in
     let h : c.loop-i.i < length ss = omega (arith, v.0.long) in
-    let o = look_on v.1 h (seen (λ x. not (sound x)) ss c.loop-i.i _ c.is.ensures c.if-is.false h) in
+    let o = look_on v.1 h (search rules) in
     elim c.if-key-least.branch [
       | then-key-least w ↦ rw (w.least-is, w.best-is) (choose_take v.0 t c.key-key.ensures w.if-key-least.true, o, v.2)
       | else-key-least w ↦ rw (w.least-is, w.best-is) (choose_keep v.0 t c.key-key.ensures w.if-key-least.false, o, v.2)

@@ -1,19 +1,13 @@
--- `Table::fault` meets its contract: one law of ground 4 for each way out.
-use mathlib.Core.Path.{sym, ap, ◌∙◌}
-use borrow.Author.Tests.{ltb-false}
-use Rattle.table.proofs.Counts.{fault_line, fault_counts, no_fault}
+-- `Table::fault` meets its contract: the search for a line that is not sound, or else the counts.
+use mathlib.Core.Bool.{not}
+use mathlib.Core.Path.{◌≡◌}
+use borrow.Author.Rules.{rules}
+use Rattle.line.specs.Slots.{lowest_of}
+use Rattle.line.specs.Sound.{sound}
+use Rattle.table.proofs.Counts.{else_is}
 use Rattle.table.proofs.Table.fault.Goals as goal
 
-pub returns-then-overcounted : goal.returns-then-overcounted
-returns-then-overcounted c =
-    sym (fault_counts c.args.self (sym c.lowest-w.ensures ∙ c.in-None.is) (sym c.overcounted.ensures ∙ c.if-overcounted.true))
-
-pub returns-in-Some : goal.returns-in-Some
-returns-in-Some c =
-    let z = c.in-Some.is in
-    z ∙ sym (fault_line c.args.self (sym c.lowest-w.ensures ∙ z))
-
-pub returns-else-overcounted : goal.returns-else-overcounted
-returns-else-overcounted c =
-    let z = c.in-None.is in
-    z ∙ sym (no_fault c.args.self (sym c.lowest-w.ensures ∙ z) (ltb-false _ _ (sym c.overcounted.ensures ∙ c.if-overcounted.false)))
+pub returns : goal.returns
+returns c =
+    let e : c.lowest.result ≡ lowest_of (λ h. not (sound h)) c.args.self.slots = c.lowest.ensures (λ i h. not (sound h)) (λ i b h k. search rules) in
+    rw (← e) (else_is c.lowest.result c.or_else.ensures (λ k. search rules))

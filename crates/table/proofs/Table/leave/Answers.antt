@@ -1,5 +1,5 @@
 -- `Table::leave` meets its contract: one law of leaving for each way out.
-use mathlib.Core.Path.{◌≡◌, refl, sym, ap, ◌∙◌}
+use mathlib.Core.Path.{◌≡◌, refl, sym, ◌∙◌}
 use native.Mathlib.Omega.{arith}
 use lib.ListN.{length}
 use Rattle.line.specs.Leave.{may_leave, ticks_left}
