@@ -2,6 +2,7 @@
 use Prim.Native.Nat.{ℕ, zero, suc, ◌+◌, ◌-◌, ◌*◌, ◌/◌, ◌≤◌, ◌<◌}
 use mathlib.Core.Path.{◌≡◌, refl, sym, ap, ◌∙◌}
 use mathlib.Core.Bool.{Bool, true, false, not}
+use mathlib.Core.Logic.{◌⊎◌, inl, inr}
 use mathlib.Core.List.{List, [], ◌∷◌}
 use native.Mathlib.Omega.{arith}
 use native.Mathlib.Decide.{dec_le}
@@ -240,25 +241,24 @@ module _ (e c n p : List ℕ) (Cn Tn : ℕ) {b : Bool} (eb : b ≡ fitting_in e 
   unfolding weighed
   weigh_4 m = unfit_is (alike e c n p) (fitting (lines_of e c n p)) 4 _ (sym eb ∙ not-true b m)
 
-  module _ {m : Bool} (h : not b ≡ false) (em : m ≡ both (leb 1 Cn) (leb Cn Tn)) where
-    past_4 : {r : ℕ} → r ≡ pick (not m) 6 (weighed_fit (lines_of e c n p) (frame_of (Tn ∷ periods_of (lines_of e c n p))) Cn Tn) → r ≡ weighed_in e c n p Cn Tn
+  module _ (h : not b ≡ false) where
+    past_4 : {r : ℕ} → r ≡ pick (not (both (leb 1 Cn) (leb Cn Tn))) 6 (weighed_fit (lines_of e c n p) (frame_of (Tn ∷ periods_of (lines_of e c n p))) Cn Tn) → r ≡ weighed_in e c n p Cn Tn
     unfolding weighed
-    past_4 q = rw em at q ∙ fit_is (alike e c n p) (fitting (lines_of e c n p)) 4 _ (sym eb ∙ not-false b h)
+    past_4 q = q ∙ fit_is (alike e c n p) (fitting (lines_of e c n p)) 4 _ (sym eb ∙ not-false b h)
 
     -- R26: the new line does not fit its period
-    pub weigh_6 : not m ≡ true → 6 ≡ weighed_in e c n p Cn Tn
-    weigh_6 k = past_4 (rw k)
+    pub weigh_6 : ((1 ≤ Cn) × (Tn < Cn)) ⊎ (Cn < 1) → 6 ≡ weighed_in e c n p Cn Tn
+    weigh_6 (inl l) = past_4 (rw (le-leb 1 Cn l.0, lt-leb Cn Tn l.1) refl)
+    weigh_6 (inr l) = past_4 (rw (lt-leb 1 Cn l) refl)
 
-    module _ (k : not m ≡ false) where
+    module _ (k : (1 ≤ Cn) × (Cn ≤ Tn)) where
       -- R24, R26: what is then known of the lines and of the new one
       pub weigh_known : Packed e c n p × (1 ≤ Cn) × (Cn ≤ Tn)
-      weigh_known =
-          let t = both_says _ _ (sym em ∙ not-false _ k) in
-          (fit_test_says e c n p eb h, leb-true _ _ t.0, leb-true _ _ t.1)
+      weigh_known = (fit_test_says e c n p eb h, k.0, k.1)
 
       -- R18: past both, the first of the others
       pub weigh_on : {r : ℕ} → r ≡ weighed_fit (lines_of e c n p) (frame_of (Tn ∷ p)) Cn Tn → r ≡ weighed_in e c n p Cn Tn
-      weigh_on q = past_4 (rw (k, periods_are e c n p weigh_known.0.same_p) q)
+      weigh_on q = past_4 (rw (le-leb 1 Cn k.0, le-leb Cn Tn k.1, periods_are e c n p weigh_known.0.same_p) q)
 
 pick_none : (b m : Bool) (n : ℕ) → pick (not b) 4 (pick (not m) 6 n) ≡ 0 → m ≡ true
 pick_none true true n e = refl

@@ -25,56 +25,52 @@ struct Weights {
     needs: u64,
 }
 
-// both tests hold
-fn and(a: bool, b: bool) -> bool
-    ensures { result ≡ both a b }
-{
-    if a { b } else { false }
-}
-
-// four slices have the same length: line k has the k-th number of each
-fn same_length<'a>(
-    ends: &'a [u32],
-    remaining: &'a [u32],
-    needs: &'a [u32],
-    periods: &'a [u32],
-) -> bool
-    ensures { result ≡ alike ends.now remaining.now needs.now periods.now }
-{
-    let n = ends.len();
-    and(
-        remaining.len() == n,
-        and(needs.len() == n, periods.len() == n),
-    )
-}
-
 // R24, R25, R3: a line's numbers agree with each other
-fn line_fits(end: u32, remaining: u32, need: u32, period: u32) -> bool
-    ensures { result ≡ is_fit (stream end remaining need period) }
+fn line_fits(end: u32, remaining: u32, need: u32, span: u32) -> bool
+    ensures { result ≡ is_fit (stream end remaining need span) }
 {
-    let inside = and(end <= period, need <= period);
-    let sized = and(1 <= period, period <= LONGEST);
-    and(and(remaining <= need, inside), sized)
+    remaining <= need && end <= span && need <= span && 1 <= span && span <= LONGEST
 }
 
-// R24, R25, R3: slices of one length, sixteen lines at most, each of them fit
-pub fn fits<'a>(ends: &'a [u32], remaining: &'a [u32], needs: &'a [u32], periods: &'a [u32]) -> bool
-    ensures { result ≡ fitting_in ends.now remaining.now needs.now periods.now }
-{
-    if !same_length(ends, remaining, needs, periods) {
-        return false;
+// R9: lines gathered, counted from the clock: line k has the k-th number of each slice: its first end, what remains of its need, its need, and its
+// span, the ticks from one end to the next as the reader takes them: its T' for the sums, its gap for the ends.
+// No slice of structs: the slices may differ in length, and then they are not fit (R24).
+#[derive(Clone, Copy)]
+pub struct Lines<'a> {
+    pub ends: &'a [u32],
+    pub remaining: &'a [u32],
+    pub needs: &'a [u32],
+    pub spans: &'a [u32],
+}
+
+impl<'a> Lines<'a> {
+    // the four slices have the same length
+    fn same_length(self) -> bool
+        ensures { result ≡ alike self.entry.ends.now self.entry.remaining.now self.entry.needs.now self.entry.spans.now }
+    {
+        let n = self.ends.len();
+        self.remaining.len() == n && self.needs.len() == n && self.spans.len() == n
     }
-    if ends.len() > MOST {
-        return false;
-    }
-    let mut i: usize = 0;
-    while i < ends.len() {
-        if !line_fits(ends[i], remaining[i], needs[i], periods[i]) {
+
+    // R24, R25, R3: slices of one length, sixteen lines at most, each of them fit
+    pub fn fits(self) -> bool
+        ensures { result ≡ fitting_in self.entry.ends.now self.entry.remaining.now self.entry.needs.now self.entry.spans.now }
+    {
+        if !self.same_length() || self.ends.len() > MOST {
             return false;
         }
-        i = i + 1;
+        for i in 0..self.ends.len() {
+            if !line_fits(
+                self.ends[i],
+                self.remaining[i],
+                self.needs[i],
+                self.spans[i],
+            ) {
+                return false;
+            }
+        }
+        true
     }
-    true
 }
 
 // R16, R28: C/T', times the frame.
@@ -175,10 +171,16 @@ pub fn weigh<'a>(
 ) -> u16
     ensures { result ≡ weighed_in ends.now remaining.now needs.now periods.now need period }
 {
-    if !fits(ends, remaining, needs, periods) {
+    let l = Lines {
+        ends,
+        remaining,
+        needs,
+        spans: periods,
+    };
+    if !l.fits() {
         return 4;
     }
-    if !and(1 <= need, need <= period) {
+    if !(1 <= need && need <= period) {
         return 6;
     }
     weigh_fit(ends, remaining, needs, periods, need, period)
