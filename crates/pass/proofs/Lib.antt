@@ -1,5 +1,4 @@
--- The laws of the pass: one end, the last end, what the pass says, a line's next end, the lines that end at a tick, the lines at their first ends, and the ticks in order.
-pub mod Point
+-- The laws of the pass: the last end, what the pass says, a line's next end, the lines that end at a tick, the lines at their first ends, and the ticks in order.
 pub mod LastEnd
 pub mod Passing
 pub mod NextEnd

@@ -1,6 +1,6 @@
 -- The pass over the ends, counted from the clock: the demand at each end tells whether the running lines have excess there and what start
 -- the new line may have. The period of a line is here the time from one of its ends to the next.
-use Rattle.std.specs.Prelude.{ℕ, ◌-◌, ◌≤◌, max, Bool, not, List, [], ◌∷◌, ◌++◌, map, ltb, ℤ, pos, Option, None, Some}
+use Rattle.std.specs.Prelude.{ℕ, ◌-◌, ◌≤◌, max, Bool, not, List, [], ◌∷◌, ◌++◌, map, ltb, ℤ, pos, Option, None, Some, Result, Ok, Err}
 use Rattle.std.proofs.Math.IntN.{sub_ℕ}
 use Rattle.std.specs.Int.Signed.{lt_z}
 use Rattle.line.specs.declared.Stream.{Stream}
@@ -11,8 +11,8 @@ use Rattle.line.specs.Ends.{bound, greatest, soonest_of}
 use Rattle.sums.specs.Lines.{sum_of, lines_of, alike, longest}
 use Rattle.sums.specs.Weighed.{fitting}
 use Rattle.pass.specs.declared.FirstExcess.{FirstExcess}
-use Rattle.pass.specs.declared.Pass.{Pass}
-use Rattle.pass.specs.declared.Pass.TheVariants.{Start, Short, Unfit}
+use Rattle.pass.specs.declared.NoPass.{NoPass}
+use Rattle.pass.specs.declared.NoPass.TheVariants.{Short, Unfit}
 use Rattle.pass.specs.declared.New.{New}
 
 -- R10: a line's demand d ticks after the clock
@@ -54,29 +54,29 @@ abbrev pub bound_by : (Cn Tn last : ℕ) → (ℕ → ℕ) → ℕ → ℕ
 bound_by Cn Tn last all d = bound Cn Tn last d (d - all d)
 
 -- R103, R14: what is said of the soonest short end, or else of the start r
-abbrev pub pass_by : (ℕ → ℕ) → Option ℕ → (r : ℕ) → Pass
-pass_by all (Some d) r = Short (excess_from all d)
-pass_by all None r = Start r
+abbrev pub pass_by : (ℕ → ℕ) → Option ℕ → (r : ℕ) → Result ℕ NoPass
+pass_by all (Some d) r = Err (Short (excess_from all d))
+pass_by all None r = Ok r
 
 -- R30, R14: the soonest of the ends that is short, else the greatest of f at each end. The order of the ends is not looked at.
-unfoldable pub pass_over : (all f : ℕ → ℕ) → List ℕ → Pass
+unfoldable pub pass_over : (all f : ℕ → ℕ) → List ℕ → Result ℕ NoPass
 pass_over all f ds = pass_by all (soonest_of (short_by all) ds) (greatest f 0 ds)
 
 -- R30, R14: the pass over the ends of the lines before `last`, from the clock on
-abbrev pub pass_to : (last : ℕ) → List Stream → (Cn Tn : ℕ) → Pass
+abbrev pub pass_to : (last : ℕ) → List Stream → (Cn Tn : ℕ) → Result ℕ NoPass
 pass_to last l Cn Tn = pass_over (demand_of l) (bound_by Cn Tn last (demand_of l)) (ends_by last l)
 
 -- R15: and over those before the last end
-abbrev pub pass_in : List Stream → (Cn Tn : ℕ) → Pass
+abbrev pub pass_in : List Stream → (Cn Tn : ℕ) → Result ℕ NoPass
 pass_in l Cn Tn = pass_to (last_by l) l Cn Tn
 
 -- R30, R14: the pass of lines that are fit, with a need of at least 1
-unfoldable pub pass_of : List Stream → (Cn Tn : ℕ) → Pass
-pass_of l Cn Tn = pick (not (fitting l)) Unfit (pick (ltb Cn 1) Unfit (pass_in l Cn Tn))
+unfoldable pub pass_of : List Stream → (Cn Tn : ℕ) → Result ℕ NoPass
+pass_of l Cn Tn = pick (not (fitting l)) (Err Unfit) (pick (ltb Cn 1) (Err Unfit) (pass_in l Cn Tn))
 
 -- the same of slices: not fit where they differ in length
-abbrev pub passed_in : (e c n p : List ℕ) → (Cn Tn : ℕ) → Pass
-passed_in e c n p Cn Tn = pick (alike e c n p) (pass_of (lines_of e c n p) Cn Tn) Unfit
+abbrev pub passed_in : (e c n p : List ℕ) → (Cn Tn : ℕ) → Result ℕ NoPass
+passed_in e c n p Cn Tn = pick (alike e c n p) (pass_of (lines_of e c n p) Cn Tn) (Err Unfit)
 
 -- R26, R3: what is known of the new line, since its ground did not hold, and of the last end
 pub record FitNew (new : New) : Type 0 where
