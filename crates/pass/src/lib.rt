@@ -3,9 +3,10 @@
 
 ghost use Rattle.std.specs.Prelude.{◌≡◌, ◌≤◌, ◌-ℤ◌, pos, length};
 ghost use Rattle.line.specs.Ends.{bound};
-ghost use Rattle.sums.specs.Lines.{lines_of, Packed};
-ghost use Rattle.pass.specs.Pass.{greatest_end, pass_to, pass_in, passed_in, FitNew};
+ghost use Rattle.pass.specs.Pass.{greatest_end, pass_to, passed_in, FitNew};
 ghost use Rattle.pass.specs.Order.{nth, next_of, LinedUp, Soonest, Moved, added_at, Places, lines_from, FitFrom};
+
+use sums::Lines;
 
 // R103: the first tick at which the running lines have an excess above 0, counted from the clock, and that excess.
 #[derive(Clone, Copy)]
@@ -66,16 +67,16 @@ struct Due {
 }
 
 // R9, R10: each line at its first end, where what remains of it falls due; and the soonest of these ends, or `last`.
-fn line_up(ends: &[u32], remaining: &[u32], dues: &mut [Due], last: u32) -> u32
-    requires { (length remaining.now ≡ length ends.now) × (length ends.now ≤ length dues.old) }
-    ensures lined_up { LinedUp ends.now remaining.now dues.new }
-    ensures soonest { Soonest (nth ends.now) (length ends.now) last result }
+fn line_up(lines: Lines, dues: &mut [Due], last: u32) -> u32
+    requires { (length lines.remaining.now ≡ length lines.ends.now) × (length lines.ends.now ≤ length dues.old) }
+    ensures lined_up { LinedUp lines.entry.ends.now lines.entry.remaining.now dues.new }
+    ensures soonest { Soonest (nth lines.entry.ends.now) (length lines.entry.ends.now) last result }
 {
     let mut first = last;
-    for (i, &at) in ends.iter().enumerate() {
+    for (i, &at) in lines.ends.iter().enumerate() {
         dues[i] = Due {
             at,
-            owed: remaining[i],
+            owed: lines.remaining[i],
         };
         first = first.min(at);
     }
@@ -90,20 +91,23 @@ struct Brought {
 }
 
 // R9, R10: takes every line that ends at d, lowest slot first. What it owes falls due, and it moves on to its next end, where its need falls due.
-fn take_ends(dues: &mut [Due], needs: &[u32], gaps: &[u32], d: u32, last: u32) -> Brought
-    requires { Places dues.old needs.now gaps.now × (d ≤ 65536) }
-    ensures moved { Moved dues.old needs.now gaps.now d dues.new }
-    ensures added_value { (result.added ≡ added_at dues.old (length gaps.now) d) × (result.added ≤ 1048576) }
-    ensures soonest { Soonest (next_of dues.new) (length gaps.now) last result.soonest }
+fn take_ends(lines: Lines, dues: &mut [Due], d: u32, last: u32) -> Brought
+    requires { Places dues.old lines.needs.now lines.spans.now × (d ≤ 65536) }
+    ensures moved { Moved dues.old lines.entry.needs.now lines.entry.spans.now d dues.new }
+    ensures added_value { (result.added ≡ added_at dues.old (length lines.entry.spans.now) d) × (result.added ≤ 1048576) }
+    ensures soonest { Soonest (next_of dues.new) (length lines.entry.spans.now) last result.soonest }
 {
     let mut added: u32 = 0;
     let mut soonest = last;
-    for (i, &gap) in gaps.iter().enumerate() {
+    for (i, &span) in lines.spans.iter().enumerate() {
         let mut at = dues[i].at;
         if at == d {
             added += dues[i].owed;
-            at = d + gap;
-            dues[i] = Due { at, owed: needs[i] };
+            at = d + span;
+            dues[i] = Due {
+                at,
+                owed: lines.needs[i],
+            };
         }
         soonest = soonest.min(at);
     }
@@ -111,22 +115,16 @@ fn take_ends(dues: &mut [Due], needs: &[u32], gaps: &[u32], d: u32, last: u32) -
 }
 
 // R30, R103, R14: the ends before the last one in time order, each tick once, with the demand carried along. The first short one ends it.
-fn in_order(
-    dues: &mut [Due],
-    needs: &[u32],
-    gaps: &[u32],
-    new: New,
-    first: u32,
-) -> Result<u32, NoPass>
-    requires places { Places dues.old needs.now gaps.now × FitFrom dues.old needs.now gaps.now × FitNew new }
-    requires soonest { Soonest (next_of dues.old) (length gaps.now) new.last first }
-    ensures { result ≡ pass_to new.last (lines_from dues.old needs.now gaps.now) new.need new.period }
+fn in_order(lines: Lines, dues: &mut [Due], new: New, first: u32) -> Result<u32, NoPass>
+    requires places { Places dues.old lines.needs.now lines.spans.now × FitFrom dues.old lines.needs.now lines.spans.now × FitNew new }
+    requires soonest { Soonest (next_of dues.old) (length lines.spans.now) new.last first }
+    ensures { result ≡ pass_to new.last (lines_from dues.old lines.entry.needs.now lines.entry.spans.now) new.need new.period }
 {
     let mut sum: u32 = 0;
     let mut start: u32 = 0;
     let mut d = first;
     while d < new.last {
-        let taken = take_ends(dues, needs, gaps, d, new.last);
+        let taken = take_ends(lines, dues, d, new.last);
         sum += taken.added;
         let x = excess_at(sum, d);
         if x > 0 {
@@ -142,41 +140,19 @@ fn in_order(
     Ok(start)
 }
 
-// R30, R14: the pass over lines that are fit.
-fn pass_all(
-    ends: &[u32],
-    remaining: &[u32],
-    needs: &[u32],
-    gaps: &[u32],
-    need: u16,
-    period: u16,
-) -> Result<u32, NoPass>
-    requires { Packed ends.now remaining.now needs.now gaps.now × (1 ≤ need) }
-    ensures { result ≡ pass_in (lines_of ends.now remaining.now needs.now gaps.now) need period }
+// R30, R14: the pass over the ends, where a line's span is its gap. Slices that differ in length, lines that are not fit, and a need of 0, are `Unfit`.
+pub fn over_ends(lines: Lines, need: u16, period: u16) -> Result<u32, NoPass>
+    ensures { result ≡ passed_in lines.entry.ends.now lines.entry.remaining.now lines.entry.needs.now lines.entry.spans.now need period }
 {
+    if !lines.fits() || need < 1 {
+        return Err(NoPass::Unfit);
+    }
     let new = New {
         need: need as u32,
         period: period as u32,
-        last: last_end(ends),
+        last: last_end(lines.ends),
     };
     let mut dues = [Due { at: 0, owed: 0 }; sums::MOST];
-    let first = line_up(ends, remaining, &mut dues, new.last);
-    in_order(&mut dues, needs, gaps, new, first)
-}
-
-// R30, R14: the pass over the ends. Slices that differ in length, lines that are not fit, and a need of 0, are `Unfit`.
-pub fn over_ends(
-    ends: &[u32],
-    remaining: &[u32],
-    needs: &[u32],
-    gaps: &[u32],
-    need: u16,
-    period: u16,
-) -> Result<u32, NoPass>
-    ensures { result ≡ passed_in ends.now remaining.now needs.now gaps.now need period }
-{
-    if !sums::fits(ends, remaining, needs, gaps) || need < 1 {
-        return Err(NoPass::Unfit);
-    }
-    pass_all(ends, remaining, needs, gaps, need, period)
+    let first = line_up(lines, &mut dues, new.last);
+    in_order(lines, &mut dues, new, first)
 }

@@ -4,7 +4,7 @@ use Rattle.pass.proofs.Order.{Visited}
 use Rattle.pass.proofs.in_order.Given as goal
 
 abbrev pub invariant-loop-d : goal.invariant-loop-d
-invariant-loop-d l = Visited l.initial.dues l.needs l.gaps l.new.need l.new.period l.new.last l.dues l.sum l.start l.d
+invariant-loop-d l = Visited l.initial.dues l.lines.needs.now l.lines.spans.now l.new.need l.new.period l.new.last l.dues l.sum l.start l.d
 
 abbrev pub decreases-loop-d : goal.decreases-loop-d
 decreases-loop-d l = l.new.last - l.d

@@ -4,4 +4,4 @@ use Rattle.pass.proofs.TakingEnds.{WrittenTo}
 use Rattle.pass.proofs.line_up.Given as goal
 
 abbrev pub invariant-loop-i : goal.invariant-loop-i
-invariant-loop-i l = WrittenTo l.initial.dues (λ k. due_at (nth l.ends k) (nth l.remaining k)) l.dues l.i × Soonest (nth l.ends) l.i l.last l.first
+invariant-loop-i l = WrittenTo l.initial.dues (λ k. due_at (nth l.lines.ends.now k) (nth l.lines.remaining.now k)) l.dues l.i × Soonest (nth l.lines.ends.now) l.i l.last l.first

@@ -3,4 +3,4 @@ use Rattle.pass.proofs.TakingEnds.{TakingEnds}
 use Rattle.pass.proofs.take_ends.Given as goal
 
 abbrev pub invariant-loop-i : goal.invariant-loop-i
-invariant-loop-i l = TakingEnds l.initial.dues l.needs l.gaps l.d l.last l.dues l.added l.soonest l.i
+invariant-loop-i l = TakingEnds l.initial.dues l.lines.needs.now l.lines.spans.now l.d l.last l.dues l.added l.soonest l.i
