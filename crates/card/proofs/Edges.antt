@@ -15,7 +15,7 @@ use Rattle.line.proofs.Search.{true_false}
 use Rattle.table.specs.Words.{request_with, refusal, Said}
 use Rattle.table.specs.Cases.{running, parting, waiting, table_of}
 use Rattle.card.specs.Bytes.{marked}
-use Rattle.card.specs.Card.{card_of, Card, cleared}
+use Rattle.card.specs.Card.{card_of, Card, carrying, cleared}
 use Rattle.card.specs.Reading.{record_of, records_of, read_with, read_of}
 use Rattle.card.specs.Answers.{handed, said_read, length_of, write_of, buffer_of}
 
@@ -360,18 +360,17 @@ cleared_edge = (refl, refl)
 pub handed_edges :
     map (λ (l : List ℕ). handed 5 (read_of l)) (clock ∷ whole ∷ [])
     ≡ record {
-      table = table_of 0 (replicate 16 empty);
-      request = request_with (replicate 16 0) 0 0;
+      card = carrying (table_of 0 (replicate 16 empty)) (request_with (replicate 16 0) 0 0);
       turned = 0;
       answer = Err (refusal 11 10);
     }
-    ∷ record { table = whole_table; request = whole_request; turned = 5; answer = Ok tt }
+    ∷ record { card = carrying whole_table whole_request; turned = 5; answer = Ok tt }
     ∷ []
 unfolding marked record_of records_of read_with
 handed_edges = refl
 
 -- R17, R59: the reader's answers say their own numbers, whatever table stands beside a refusal
 pub said_edges : (t : Table) (q : Request) →
-    map said_read (record { table = t; request = q; turned = 0; answer = Err (refusal 11 34) } ∷ record { table = t; request = q; turned = 5; answer = Ok tt } ∷ [])
+    map said_read (record { card = carrying t q; turned = 0; answer = Err (refusal 11 34) } ∷ record { card = carrying t q; turned = 5; answer = Ok tt } ∷ [])
     ≡ Err (refusal 11 34) ∷ Ok (record { table = t; request = q }) ∷ []
 said_edges t q = refl

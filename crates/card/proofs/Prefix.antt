@@ -1,5 +1,5 @@
 -- A unit with n slots settles its verdict on the bytes of its longest card and one more.
-use Rattle.std.specs.Prelude.{Ok}
+use Rattle.std.specs.Prelude.{Option, None, Some, Ok}
 use mathlib.Core.Path.{◌≡◌, refl, sym, ap, ap₂, ◌∙◌}
 use mathlib.Core.List.{List, [], ◌∷◌}
 use mathlib.Core.Bool.{Bool, true, false}
@@ -13,7 +13,7 @@ use borrow.Author.Tests.{leb-true, leb-false, le-leb, lt-leb, eqb-true, eqb-fals
 use Rattle.line.specs.Slots.{pick, both}
 use Rattle.card.specs.declared.Mark.{Mark}
 use Rattle.card.specs.declared.Record.{Record}
-use Rattle.card.specs.declared.Record.TheVariants.{Slot, Last, Refused}
+use Rattle.card.specs.declared.Record.TheVariants.{Slot, Last}
 use Rattle.card.specs.Bytes.{value, marked}
 use Rattle.card.specs.Layout.{CK, TB, TL, TF, TA, RQ, is_free, clock_at, need_at, period_at, stretched_at, fourth_at, fifth_at, clock_length, line_length, last_length, record_length}
 use Rattle.card.specs.Marked.{Records}
@@ -107,20 +107,20 @@ unfolding records_of
 records_take k zero gap at l m h =
     ap (step k 0 gap at (take m l) (λ g a x. broken at)) (full_take m l (omega arith)) ∙ go (record_of 0 l)
   where
-    go : (r : Record) → step k 0 gap at (take m l) (λ g a x. broken at) r ≡ step k 0 gap at l (λ g a x. broken at) r
-    go (Slot r) = refl
-    go (Last c t) = closing_take gap at m l (ending k 0 c t) (omega arith)
-    go (Refused r) = refl
+    go : (r : Option Record) → step k 0 gap at (take m l) (λ g a x. broken at) r ≡ step k 0 gap at l (λ g a x. broken at) r
+    go (Some (Slot r)) = refl
+    go (Some (Last c t)) = closing_take gap at m l (ending k 0 c t) (omega arith)
+    go None = refl
 records_take k (suc n) gap at l m h =
     ap (step k (suc n) gap at (take m l) (records_of k n)) (record_take m l (suc n) (omega arith))
     ∙ go (record_of (suc n) l)
     (λ g w a u. ap (records_of k n g a) (behind w m l (omega arith)) ∙ records_take k n g a (drop w l) (m - w) (omega arith))
   where
-    go : (r : Record) → ((g : Bool) (w a : ℕ) → w ≤ line_length → records_of k n g a (drop w (take m l)) ≡ records_of k n g a (drop w l))
+    go : (r : Option Record) → ((g : Bool) (w a : ℕ) → w ≤ line_length → records_of k n g a (drop w (take m l)) ≡ records_of k n g a (drop w l))
         → step k (suc n) gap at (take m l) (records_of k n) r ≡ step k (suc n) gap at l (records_of k n) r
-    go (Slot r) x = ap (put_in_front (r ∷ [])) (x (is_free r.mark) (record_length r.mark) (at + record_length r.mark) (mark_length_lem r.mark))
-    go (Last c t) x = closing_take gap at m l (ending k (suc n) c t) (omega arith)
-    go (Refused r) x = refl
+    go (Some (Slot r)) x = ap (put_in_front (r ∷ [])) (x (is_free r.mark) (record_length r.mark) (at + record_length r.mark) (mark_length_lem r.mark))
+    go (Some (Last c t)) x = closing_take gap at m l (ending k (suc n) c t) (omega arith)
+    go None x = refl
 
 -- the bytes of the longest card of n slots, and one more
 abbrev pub deciding : ℕ → ℕ

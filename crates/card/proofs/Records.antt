@@ -1,5 +1,5 @@
 -- What stands at the front of the bytes: the record for each way through the tests, and what each record says of the bytes.
-use Rattle.std.specs.Prelude.{Some}
+use Rattle.std.specs.Prelude.{Option, None, Some}
 use mathlib.Core.Path.{◌≡◌, refl, sym, ap, ap₂, ◌∙◌}
 use mathlib.Core.List.{List, [], ◌∷◌, ◌++◌}
 use mathlib.Core.Bool.{Bool, true, false}
@@ -13,7 +13,7 @@ use Rattle.line.proofs.Search.{true_false}
 use Rattle.card.specs.declared.Mark.{Mark}
 use Rattle.card.specs.declared.SlotRecord.{SlotRecord}
 use Rattle.card.specs.declared.Record.{Record}
-use Rattle.card.specs.declared.Record.TheVariants.{Slot, Last, Refused}
+use Rattle.card.specs.declared.Record.TheVariants.{Slot, Last}
 use Rattle.card.specs.Bytes.{Bytes, le, value, marked}
 use Rattle.card.specs.Layout.{TB, TL, TF, TA, RQ, mark_bytes, is_free, need_at, period_at, stretched_at, fourth_at, fifth_at, mark_length, line_length, last_length, record_length}
 use Rattle.card.specs.Marked.{record_with, free, numbers_of, record_bytes, NumbersFit, Fitting, held_under, twin, record_for}
@@ -29,7 +29,7 @@ module _ (left : ℕ) (l : List ℕ) where
   at_last h = simp h
 
   -- R57: with no slot left it alone may stand
-  pub at_end : marked RQ l ≡ false → left ≡ 0 → record_of left l ≡ Refused 11
+  pub at_end : marked RQ l ≡ false → left ≡ 0 → record_of left l ≡ None
   unfolding record_of
   at_end h e = simp (h, e)
 
@@ -52,7 +52,7 @@ module _ (l : List ℕ) where
     -- nor TL
     module _ (j : marked TL l ≡ false) where
       -- R53: TF
-      pub slot_free : marked TF l ≡ true → slot_record_of l ≡ Slot free
+      pub slot_free : marked TF l ≡ true → slot_record_of l ≡ Some (Slot free)
       slot_free k = simp (i, j, k)
 
       -- R58: TA
@@ -60,7 +60,7 @@ module _ (l : List ℕ) where
       slot_old k m = simp (i, j, k, m)
 
       -- R57: no mark of a slot's record
-      pub slot_unknown : marked TF l ≡ false → marked TA l ≡ false → slot_record_of l ≡ Refused 11
+      pub slot_unknown : marked TF l ≡ false → marked TA l ≡ false → slot_record_of l ≡ None
       slot_unknown k m = simp (i, j, k, m)
 
 -- R57: what the mark of a slot's record opens is not RQ
@@ -81,21 +81,21 @@ slot_marked Mark.TL l f h = slot_leaving l (marked_other TL TB l h refl) h
 
 module _ (m : Mark) (l : List ℕ) where
   -- R53: twelve bytes are a line
-  pub line_whole : line_length ≤ length l → line_record_of m l ≡ Slot (record_at m l)
-  line_whole h = ap (λ (o : Bool). pick o (Slot (record_at m l)) (Refused 11)) (le-leb line_length (length l) h)
+  pub line_whole : line_length ≤ length l → line_record_of m l ≡ Some (Slot (record_at m l))
+  line_whole h = ap (λ (o : Bool). pick o (Some (Slot (record_at m l))) None) (le-leb line_length (length l) h)
 
   -- R57: fewer are none
-  pub line_cut : length l < line_length → line_record_of m l ≡ Refused 11
-  line_cut h = ap (λ (o : Bool). pick o (Slot (record_at m l)) (Refused 11)) (lt-leb line_length (length l) h)
+  pub line_cut : length l < line_length → line_record_of m l ≡ None
+  line_cut h = ap (λ (o : Bool). pick o (Some (Slot (record_at m l))) None) (lt-leb line_length (length l) h)
 
 module _ (l : List ℕ) where
   -- R53: six bytes are a new line
-  pub last_whole : last_length ≤ length l → last_of l ≡ Last (value 2 l need_at) (value 2 l period_at)
-  last_whole h = ap (λ (o : Bool). pick o (Last (value 2 l need_at) (value 2 l period_at)) (Refused 11)) (le-leb last_length (length l) h)
+  pub last_whole : last_length ≤ length l → last_of l ≡ Some (Last (value 2 l need_at) (value 2 l period_at))
+  last_whole h = ap (λ (o : Bool). pick o (Some (Last (value 2 l need_at) (value 2 l period_at))) None) (le-leb last_length (length l) h)
 
   -- R57: fewer are none
-  pub last_cut : length l < last_length → last_of l ≡ Refused 11
-  last_cut h = ap (λ (o : Bool). pick o (Last (value 2 l need_at) (value 2 l period_at)) (Refused 11)) (lt-leb last_length (length l) h)
+  pub last_cut : length l < last_length → last_of l ≡ None
+  last_cut h = ap (λ (o : Bool). pick o (Some (Last (value 2 l need_at) (value 2 l period_at))) None) (lt-leb last_length (length l) h)
 
 -- R53: twelve bytes behind the mark a b are its record's, with numbers that fit, whatever the mark says of them
 line_fronts : (m : Mark) (a b : ℕ) (l : List ℕ) → marked (a ∷ b ∷ []) l ≡ true → line_length ≤ length l → Bytes l
@@ -115,15 +115,15 @@ abbrev pub Fronts : List ℕ → SlotRecord → Type 0
 Fronts l r = (l ≡ record_bytes r ++ drop (record_length r.mark) l) × Fitting r
 
 -- what a record says of the bytes at whose front it stands; the slot that a slot's record stands for has its twin for a record
-abbrev pub Stands : ℕ → List ℕ → Record → Type 0
-Stands left l (Slot r) =
+abbrev pub Stands : ℕ → List ℕ → Option Record → Type 0
+Stands left l (Some (Slot r)) =
     (0 < left) × (record_length r.mark ≤ length l) × (Bytes l → Fronts l r) × (record_for (held_under r.mark r) r.stretched ≡ Some (twin r))
-Stands left l (Last c n) = (last_length ≤ length l) × (marked RQ l ≡ true) × (c ≡ value 2 l need_at) × (n ≡ value 2 l period_at)
-Stands left l (Refused n) = Unit {0}
+Stands left l (Some (Last c n)) = (last_length ≤ length l) × (marked RQ l ≡ true) × (c ≡ value 2 l need_at) × (n ≡ value 2 l period_at)
+Stands left l None = Unit {0}
 
 -- twelve bytes that a line's mark opens are a record under that mark
 line_stands : (left : ℕ) (l : List ℕ) (m : Mark) → is_free m ≡ false → 0 < left → marked (mark_bytes m) l ≡ true → line_length ≤ length l
-    → Stands left l (Slot (record_at m l))
+    → Stands left l (Some (Slot (record_at m l)))
 line_stands left l Mark.TA f p e h = (p, h, line_fronts Mark.TA (get_or TA 0 0) (get_or TA 1 0) l e h, refl)
 line_stands left l Mark.TB f p e h = (p, h, line_fronts Mark.TB (get_or TB 0 0) (get_or TB 1 0) l e h, refl)
 line_stands left l Mark.TF f p e h = absurd (true_false refl f)
@@ -137,14 +137,14 @@ stands left l = go (marked RQ l) refl (leb last_length (length l)) refl (ltb 0 l
     line : (m : Mark) → is_free m ≡ false → 0 < left → marked (mark_bytes m) l ≡ true → Stands left l (line_record_of m l)
     line m f p e = whole (leb line_length (length l)) refl
       where
-        whole : (o : Bool) → leb line_length (length l) ≡ o → Stands left l (pick o (Slot (record_at m l)) (Refused 11))
+        whole : (o : Bool) → leb line_length (length l) ≡ o → Stands left l (pick o (Some (Slot (record_at m l))) None)
         whole true h = line_stands left l m f p e (leb-true line_length (length l) h)
         whole false h = tt
 
     go : (a : Bool) → marked RQ l ≡ a → (b : Bool) → leb last_length (length l) ≡ b → (c : Bool) → ltb 0 left ≡ c → (d : Bool) → marked TB l ≡ d
         → (e : Bool) → marked TL l ≡ e → (f : Bool) → marked TF l ≡ f → (g : Bool) → marked TA l ≡ g
-        → Stands left l (pick a (pick b (Last (value 2 l need_at) (value 2 l period_at)) (Refused 11))
-        (pick c (pick d (line_record_of Mark.TB l) (pick e (line_record_of Mark.TL l) (pick f (Slot free) (pick g (line_record_of Mark.TA l) (Refused 11))))) (Refused 11)))
+        → Stands left l (pick a (pick b (Some (Last (value 2 l need_at) (value 2 l period_at))) None)
+        (pick c (pick d (line_record_of Mark.TB l) (pick e (line_record_of Mark.TL l) (pick f (Some (Slot free)) (pick g (line_record_of Mark.TA l) None)))) None))
     go true p true q c r d s e t f u g v = (leb-true last_length (length l) q, p, refl, refl)
     go true p false q c r d s e t f u g v = tt
     go false p b q false r d s e t f u g v = tt
@@ -155,7 +155,7 @@ stands left l = go (marked RQ l) refl (leb last_length (length l)) refl (ltb 0 l
     go false p b q true r false s false t false u false v = tt
 
 -- the same of a record that was seen
-pub seen_stands : (left : ℕ) (l : List ℕ) {r : Record} → record_of left l ≡ r → Stands left l r
+pub seen_stands : (left : ℕ) (l : List ℕ) {r : Option Record} → record_of left l ≡ r → Stands left l r
 seen_stands left l e = rw e at (stands left l)
 
 -- R53: RQ and its six bytes, from the numbers that were got
@@ -180,40 +180,40 @@ gets_numbers m a b C T t x y r f =
 
 -- a whole line's record in front, by the bytes a b of its mark
 sees_line : (left : ℕ) (x : List ℕ) → 0 < left → (m : Mark) (a b C T t y z : ℕ) → mark_bytes m ≡ a ∷ b ∷ [] → is_free m ≡ false → NumbersFit (record_with m C T t y z)
-    → record_of left ((a ∷ b ∷ numbers_of (record_with m C T t y z)) ++ x) ≡ Slot (record_with m C T t y z)
+    → record_of left ((a ∷ b ∷ numbers_of (record_with m C T t y z)) ++ x) ≡ Some (Slot (record_with m C T t y z))
 sees_line left x p m a b C T t y z e f n =
     let l = (a ∷ b ∷ numbers_of (record_with m C T t y z)) ++ x in
     let h : marked (mark_bytes m) l ≡ true = rw e (marked_here (a ∷ b ∷ []) (drop mark_length l)) in
-    at_slot left l (not_last m l h) p ∙ slot_marked m l f h ∙ line_whole m l (omega arith) ∙ ap Slot (gets_numbers m a b C T t y z x n)
+    at_slot left l (not_last m l h) p ∙ slot_marked m l f h ∙ line_whole m l (omega arith) ∙ ap (λ (r : SlotRecord). Some (Slot r)) (gets_numbers m a b C T t y z x n)
 
 sees : (left : ℕ) (x : List ℕ) → 0 < left → (m : Mark) (C T t y z : ℕ) → Fitting (record_with m C T t y z)
-    → record_of left (record_bytes (record_with m C T t y z) ++ x) ≡ Slot (record_with m C T t y z)
+    → record_of left (record_bytes (record_with m C T t y z) ++ x) ≡ Some (Slot (record_with m C T t y z))
 unfolding marked
 sees left x p Mark.TA C T t y z f = sees_line left x p Mark.TA (get_or TA 0 0) (get_or TA 1 0) C T t y z refl refl f
 sees left x p Mark.TB C T t y z f = sees_line left x p Mark.TB (get_or TB 0 0) (get_or TB 1 0) C T t y z refl refl f
-sees left x p Mark.TF C T t y z f = at_slot left (TF ++ x) refl p ∙ slot_free (TF ++ x) refl refl (marked_here TF x) ∙ ap Slot (sym f)
+sees left x p Mark.TF C T t y z f = at_slot left (TF ++ x) refl p ∙ slot_free (TF ++ x) refl refl (marked_here TF x) ∙ ap (λ (r : SlotRecord). Some (Slot r)) (sym f)
 sees left x p Mark.TL C T t y z f = sees_line left x p Mark.TL (get_or TL 0 0) (get_or TL 1 0) C T t y z refl refl f
 
 -- R53: a slot's record in front is seen
-pub sees_record : (left : ℕ) (r : SlotRecord) (x : List ℕ) → 0 < left → Fitting r → record_of left (record_bytes r ++ x) ≡ Slot r
+pub sees_record : (left : ℕ) (r : SlotRecord) (x : List ℕ) → 0 < left → Fitting r → record_of left (record_bytes r ++ x) ≡ Some (Slot r)
 sees_record left r x p f = sees left x p r.mark r.need r.period r.stretched r.fourth r.fifth f
 
 -- R53: RQ in front is seen
-pub sees_last : (left c n : ℕ) (x : List ℕ) → c < 65536 → n < 65536 → record_of left (request_record c n ++ x) ≡ Last c n
+pub sees_last : (left c n : ℕ) (x : List ℕ) → c < 65536 → n < 65536 → record_of left (request_record c n ++ x) ≡ Some (Last c n)
 sees_last left c n x hc hn =
     let l = request_record c n ++ x in
     let ec : value 2 l need_at ≡ c = value_le 2 c [] hc in
     let en : value 2 l period_at ≡ n = value_le 2 n [] hn in
-    at_last left l (marked_here RQ (drop mark_length l)) ∙ last_whole l (omega arith) ∙ ap₂ Last ec en
+    at_last left l (marked_here RQ (drop mark_length l)) ∙ last_whole l (omega arith) ∙ ap₂ (λ (c n : ℕ). Some (Last c n)) ec en
 
 -- a record made of numbers that were got
 pub line_of : (m : Mark) (l : List ℕ) → line_length ≤ length l → (C T t x y : ℕ)
     → C ≡ value 2 l need_at → T ≡ value 2 l period_at → t ≡ value 2 l stretched_at → x ≡ value 2 l fourth_at → y ≡ value 2 l fifth_at
-    → Slot (record_with m C T t x y) ≡ line_record_of m l
+    → Some (Slot (record_with m C T t x y)) ≡ line_record_of m l
 line_of m l h C T t x y e1 e2 e3 e4 e5 = rw (e1, e2, e3, e4, e5) (sym (line_whole m l h))
 
 -- the same of the new line
-pub last_of_lem : (l : List ℕ) → last_length ≤ length l → (c n : ℕ) → c ≡ value 2 l need_at → n ≡ value 2 l period_at → Last c n ≡ last_of l
+pub last_of_lem : (l : List ℕ) → last_length ≤ length l → (c n : ℕ) → c ≡ value 2 l need_at → n ≡ value 2 l period_at → Some (Last c n) ≡ last_of l
 last_of_lem l h c n e1 e2 = rw (e1, e2) (sym (last_whole l h))
 
 -- R53: how long a slot's record is

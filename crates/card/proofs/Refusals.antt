@@ -1,5 +1,5 @@
 -- The refusals of R57, each with its offset, behind whole records of any number of slots.
-use Rattle.std.specs.Prelude.{Ok, Err}
+use Rattle.std.specs.Prelude.{None, Ok, Err}
 use mathlib.Core.Path.{◌≡◌, refl, ap, ap₂, ◌∙◌}
 use mathlib.Core.List.{List, ◌++◌}
 use mathlib.Core.Bool.{Bool, true, false}
@@ -13,7 +13,6 @@ use Rattle.table.specs.declared.Refusal.{Refusal}
 use Rattle.table.specs.Words.{refusal}
 use Rattle.card.specs.declared.Mark.{Mark}
 use Rattle.card.specs.declared.SlotRecord.{SlotRecord}
-use Rattle.card.specs.declared.Record.TheVariants.{Refused}
 use Rattle.card.specs.Bytes.{value, marked}
 use Rattle.card.specs.Layout.{CK, TB, TL, TF, TA, RQ, mark_bytes, is_free, need_at, period_at, mark_length, clock_length, line_length, last_length}
 use Rattle.card.specs.Card.{clock_record}
@@ -62,15 +61,15 @@ module _ (k : ℕ) (rs : List SlotRecord) (left : ℕ) (x : List ℕ) (hk : k < 
   there r e =
       ap meaning (after_clock slots_of k (all_bytes rs ++ x) hk ∙ passed k left x rs false clock_length f ∙ ap (put_in_front rs) e)
 
-  refused_there : (m : ℕ) → record_of left x ≡ Refused m → read_with slots_of card ≡ Err (refusal m offset)
-  refused_there m e = there (refusal m offset) (records_refused k left (after_free false rs) offset x m e)
+  refused_there : record_of left x ≡ None → read_with slots_of card ≡ broken offset
+  refused_there e = there (refusal 11 offset) (records_refused k left (after_free false rs) offset x e)
 
   -- R57: neither RQ nor a slot's mark
   pub unknown_mark : marked RQ x ≡ false → marked TB x ≡ false → marked TL x ≡ false → marked TF x ≡ false → marked TA x ≡ false
       → read_with slots_of card ≡ broken offset
-  unknown_mark q b g c d = refused_there 11 (go left refl)
+  unknown_mark q b g c d = refused_there (go left refl)
     where
-      go : (n : ℕ) → left ≡ n → record_of left x ≡ Refused 11
+      go : (n : ℕ) → left ≡ n → record_of left x ≡ None
       go zero e = at_end left x q e
       go (suc n) e = at_slot left x q (omega arith) ∙ slot_unknown x b g c d
 
@@ -86,15 +85,15 @@ module _ (k : ℕ) (rs : List SlotRecord) (left : ℕ) (x : List ℕ) (hk : k < 
 
   -- R57, R58: TB, TL or TA with fewer bytes left than its record has
   pub cut_line : (m : Mark) → is_free m ≡ false → 0 < left → marked (mark_bytes m) x ≡ true → length x < line_length → read_with slots_of card ≡ broken offset
-  cut_line m f p h c = refused_there 11 (at_slot left x (not_last m x h) p ∙ slot_marked m x f h ∙ line_cut m x c)
+  cut_line m f p h c = refused_there (at_slot left x (not_last m x h) p ∙ slot_marked m x f h ∙ line_cut m x c)
 
   -- R57: RQ with fewer bytes left than its record has
   pub cut_request : marked RQ x ≡ true → length x < last_length → read_with slots_of card ≡ broken offset
-  cut_request h c = refused_there 11 (at_last left x h ∙ last_cut x c)
+  cut_request h c = refused_there (at_last left x h ∙ last_cut x c)
 
   -- R57: a slot's record where no slot is left, whatever its mark
   pub one_record_too_many : (m : Mark) → left ≡ 0 → marked (mark_bytes m) x ≡ true → read_with slots_of card ≡ broken offset
-  one_record_too_many m e h = refused_there 11 (at_end left x (not_last m x h) e)
+  one_record_too_many m e h = refused_there (at_end left x (not_last m x h) e)
 
   -- R57: RQ directly after TF
   pub free_before_request : after_free false rs ≡ true → marked RQ x ≡ true → read_with slots_of card ≡ broken offset

@@ -1,5 +1,5 @@
 -- One record further: the reading of the records by what stands in front.
-use Rattle.std.specs.Prelude.{Ok, Err}
+use Rattle.std.specs.Prelude.{None, Some, Ok, Err}
 use mathlib.Core.Path.{◌≡◌, refl, sym, ap, ap₂, ◌∙◌}
 use mathlib.Core.List.{List, [], ◌∷◌, ◌++◌, append_assoc}
 use mathlib.Core.Bool.{Bool, true, false}
@@ -9,9 +9,9 @@ use lib.Dec.{leb}
 use borrow.Author.Tests.{le-leb, lt-leb}
 use Rattle.line.specs.Slots.{pick, both}
 use Rattle.line.proofs.Sound.{both_false}
-use Rattle.table.specs.Words.{refusal, Said}
+use Rattle.table.specs.Words.{Said}
 use Rattle.card.specs.declared.SlotRecord.{SlotRecord}
-use Rattle.card.specs.declared.Record.TheVariants.{Slot, Last, Refused}
+use Rattle.card.specs.declared.Record.TheVariants.{Slot, Last}
 use Rattle.card.specs.Bytes.{value, marked}
 use Rattle.card.specs.Layout.{CK, is_free, clock_at, clock_length, record_length}
 use Rattle.card.specs.Marked.{Records, saying}
@@ -37,25 +37,24 @@ clock_cut n l h =
     (lt-leb clock_length (length l) h)
 
 -- R53: a slot's record
-pub records_slot : (k n : ℕ) (gap : Bool) (at : ℕ) (l : List ℕ) (r : SlotRecord) → record_of (suc n) l ≡ Slot r
+pub records_slot : (k n : ℕ) (gap : Bool) (at : ℕ) (l : List ℕ) (r : SlotRecord) → record_of (suc n) l ≡ Some (Slot r)
     → records_of k (suc n) gap at l
     ≡ put_in_front (r ∷ []) (records_of k n (is_free r.mark) (at + record_length r.mark) (drop (record_length r.mark) l))
 unfolding records_of
 records_slot k n gap at l r e = ap (step k (suc n) gap at l (records_of k n)) e
 
 -- R54: RQ
-pub records_last : (k n : ℕ) (gap : Bool) (at : ℕ) (l : List ℕ) (c t : ℕ) → record_of n l ≡ Last c t
+pub records_last : (k n : ℕ) (gap : Bool) (at : ℕ) (l : List ℕ) (c t : ℕ) → record_of n l ≡ Some (Last c t)
     → records_of k n gap at l ≡ closing gap at (length l) (ending k n c t)
 unfolding records_of
 records_last k zero gap at l c t e = ap (step k 0 gap at l (λ g a x. broken at)) e
 records_last k (suc n) gap at l c t e = ap (step k (suc n) gap at l (records_of k n)) e
 
--- R57: a record that is refused
-pub records_refused : (k n : ℕ) (gap : Bool) (at : ℕ) (l : List ℕ) (m : ℕ) → record_of n l ≡ Refused m
-    → records_of k n gap at l ≡ Err (refusal m at)
+-- R57: no record can be read
+pub records_refused : (k n : ℕ) (gap : Bool) (at : ℕ) (l : List ℕ) → record_of n l ≡ None → records_of k n gap at l ≡ broken at
 unfolding records_of
-records_refused k zero gap at l m e = ap (step k 0 gap at l (λ g a x. broken at)) e
-records_refused k (suc n) gap at l m e = ap (step k (suc n) gap at l (records_of k n)) e
+records_refused k zero gap at l e = ap (step k 0 gap at l (λ g a x. broken at)) e
+records_refused k (suc n) gap at l e = ap (step k (suc n) gap at l (records_of k n)) e
 
 -- what was read before is put in front once
 pub in_front_twice : (rs xs : List SlotRecord) (s : Said Records) → put_in_front rs (put_in_front xs s) ≡ put_in_front (rs ++ xs) s

@@ -1,5 +1,5 @@
 -- A card and its twin, R72: as long as each other, and read alike, whatever the bytes.
-use Rattle.std.specs.Prelude.{Ok, Err}
+use Rattle.std.specs.Prelude.{Option, None, Some, Ok, Err}
 use mathlib.Core.Path.{◌≡◌, refl, sym, ap, ap₂, ◌∙◌}
 use mathlib.Core.List.{List, [], ◌∷◌, ◌++◌, append-nil, map}
 use mathlib.Core.Bool.{Bool, true, false}
@@ -15,7 +15,7 @@ use Rattle.table.specs.Words.{table_with, request_with, Said}
 use Rattle.card.specs.declared.Mark.{Mark}
 use Rattle.card.specs.declared.SlotRecord.{SlotRecord}
 use Rattle.card.specs.declared.Record.{Record}
-use Rattle.card.specs.declared.Record.TheVariants.{Slot, Last, Refused}
+use Rattle.card.specs.declared.Record.TheVariants.{Slot, Last}
 use Rattle.card.specs.Bytes.{Bytes, value, marked}
 use Rattle.card.specs.Layout.{CK, is_free, clock_at, mark_length, clock_length, line_length, last_length, record_length}
 use Rattle.card.specs.Marked.{record_with, free, record_bytes, Fitting, line_of, slot_for, entry_for, line_record, twin, Records, saying}
@@ -71,8 +71,8 @@ unfolding twin_from
 from_length zero l = refl
 from_length (suc n) l = go (record_of (suc n) l) (stands (suc n) l) (λ w. from_length n (drop w l))
   where
-    go : (r : Record) → Stands (suc n) l r → ((w : ℕ) → length (twin_from n (drop w l)) ≡ length (drop w l)) → length (twin_step l (twin_from n) r) ≡ length l
-    go (Slot r) s x =
+    go : (r : Option Record) → Stands (suc n) l r → ((w : ℕ) → length (twin_from n (drop w l)) ≡ length (drop w l)) → length (twin_step l (twin_from n) r) ≡ length l
+    go (Some (Slot r)) s x =
         let w = record_length r.mark in
         omega (
           arith,
@@ -83,8 +83,8 @@ from_length (suc n) l = go (record_of (suc n) l) (stands (suc n) l) (λ w. from_
           length-drop w l,
           s.1,
         )
-    go (Last c t) s x = refl
-    go (Refused m) s x = refl
+    go (Some (Last c t)) s x = refl
+    go None s x = refl
 
 -- R72: a card's twin is as long as the card
 pub twin_length : (n : ℕ) (l : List ℕ) → length (twin_with n l) ≡ length l
@@ -126,24 +126,24 @@ records_twin : (k n : ℕ) (gap : Bool) (at : ℕ) (l : List ℕ) → Bytes l �
 unfolding twin_from
 records_twin k zero gap at l b = go (record_of 0 l) refl (stands 0 l)
   where
-    go : (r : Record) → record_of 0 l ≡ r → Stands 0 l r → records_of k 0 gap at l ≡ twins (records_of k 0 gap at l)
-    go (Slot r) e s = absurd (omega (arith, s.0))
-    go (Last c t) e s = let z = records_last k 0 gap at l c t e in z ∙ twins_closing k 0 gap at (length l) c t ∙ ap twins (sym z)
-    go (Refused m) e s = let z = records_refused k 0 gap at l m e in z ∙ ap twins (sym z)
+    go : (r : Option Record) → record_of 0 l ≡ r → Stands 0 l r → records_of k 0 gap at l ≡ twins (records_of k 0 gap at l)
+    go (Some (Slot r)) e s = absurd (omega (arith, s.0))
+    go (Some (Last c t)) e s = let z = records_last k 0 gap at l c t e in z ∙ twins_closing k 0 gap at (length l) c t ∙ ap twins (sym z)
+    go None e s = let z = records_refused k 0 gap at l e in z ∙ ap twins (sym z)
 records_twin k (suc n) gap at l b = go (record_of (suc n) l) refl (stands (suc n) l) (λ g a w. records_twin k n g a (drop w l) (bytes_drop w l b))
   where
-    go : (r : Record) → record_of (suc n) l ≡ r → Stands (suc n) l r
+    go : (r : Option Record) → record_of (suc n) l ≡ r → Stands (suc n) l r
         → ((g : Bool) (a w : ℕ) → records_of k n g a (twin_from n (drop w l)) ≡ twins (records_of k n g a (drop w l)))
         → records_of k (suc n) gap at (twin_step l (twin_from n) r) ≡ twins (records_of k (suc n) gap at l)
-    go (Slot r) e s x =
+    go (Some (Slot r)) e s x =
         let w = record_length r.mark in
         reads_record k n gap at (twin r) (twin_from n (drop w l)) (twin_fits r (s.2 b).1)
         ∙ ap₂ (λ (o : Bool) (x : ℕ). put_in_front (twin r ∷ []) (records_of k n o (at + x) (twin_from n (drop w l)))) (alike r).free_too (length_twin r)
         ∙ ap (put_in_front (twin r ∷ [])) (x (is_free r.mark) (at + w) w)
         ∙ twins_front r (records_of k n (is_free r.mark) (at + w) (drop w l))
         ∙ ap twins (sym (records_slot k n gap at l r e))
-    go (Last c t) e s x = let z = records_last k (suc n) gap at l c t e in z ∙ twins_closing k (suc n) gap at (length l) c t ∙ ap twins (sym z)
-    go (Refused m) e s x = let z = records_refused k (suc n) gap at l m e in z ∙ ap twins (sym z)
+    go (Some (Last c t)) e s x = let z = records_last k (suc n) gap at l c t e in z ∙ twins_closing k (suc n) gap at (length l) c t ∙ ap twins (sym z)
+    go None e s x = let z = records_refused k (suc n) gap at l e in z ∙ ap twins (sym z)
 
 same_slots : (rs : List SlotRecord) → (map slot_for (map twin rs) ≡ map slot_for rs) × (map entry_for (map twin rs) ≡ map entry_for rs)
 same_slots [] = (refl, refl)

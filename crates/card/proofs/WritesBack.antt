@@ -1,5 +1,5 @@
 -- A card that reads is written back as its twin, and as it was where it has no TA (R72).
-use Rattle.std.specs.Prelude.{Ok, Err}
+use Rattle.std.specs.Prelude.{Option, None, Some, Ok, Err}
 use mathlib.Core.Path.{◌≡◌, refl, sym, ap, ap₂, subst, ◌∙◌}
 use mathlib.Core.List.{List, [], ◌∷◌, ◌++◌, append_assoc, map}
 use mathlib.Core.Bool.{Bool, true, false}
@@ -16,7 +16,7 @@ use Rattle.line.proofs.Sound.{both_says}
 use Rattle.table.specs.Words.{Said}
 use Rattle.card.specs.declared.SlotRecord.{SlotRecord}
 use Rattle.card.specs.declared.Record.{Record}
-use Rattle.card.specs.declared.Record.TheVariants.{Slot, Last, Refused}
+use Rattle.card.specs.declared.Record.TheVariants.{Slot, Last}
 use Rattle.card.specs.Bytes.{Bytes, value, marked}
 use Rattle.card.specs.Layout.{CK, is_free, clock_at, need_at, period_at, clock_length, last_length, record_length}
 use Rattle.card.specs.Marked.{free, record_bytes, held_under, slot_for, entry_for, twin, recorded_bytes, Records}
@@ -55,7 +55,7 @@ Right k n gap l y (Ok m) = Owes k n gap l y m
 Right k n gap l y (Err r) = Unit {0}
 
 -- a slot's record in front of others
-right_slot : (k n : ℕ) (gap : Bool) (l y : List ℕ) → Bytes l → (r : SlotRecord) → Stands (suc n) l (Slot r)
+right_slot : (k n : ℕ) (gap : Bool) (l y : List ℕ) → Bytes l → (r : SlotRecord) → Stands (suc n) l (Some (Slot r))
     → (s : Said Records) → Right k n (is_free r.mark) (drop (record_length r.mark) l) y s
     → Right k (suc n) gap l (record_bytes (twin r) ++ y) (put_in_front (r ∷ []) s)
 right_slot k n gap l y b r st (Ok m) h =
@@ -115,7 +115,7 @@ right_closing k n false at l c t e hc ht = go (eqb (length l) last_length) refl
         }
     go false h = tt
 
-right_last : (k n : ℕ) (gap : Bool) (at : ℕ) (l : List ℕ) → Bytes l → (c t : ℕ) → Stands n l (Last c t)
+right_last : (k n : ℕ) (gap : Bool) (at : ℕ) (l : List ℕ) → Bytes l → (c t : ℕ) → Stands n l (Some (Last c t))
     → Right k n gap l l (closing gap at (length l) (ending k n c t))
 right_last k n gap at l b c t s =
     let e : l ≡ request_record c t ++ drop last_length l = rw (s.2, s.3) (last_is_lem l b s.1 s.0) in
@@ -126,19 +126,19 @@ pub right : (k n : ℕ) (gap : Bool) (at : ℕ) (l : List ℕ) → Bytes l → R
 unfolding records_of twin_from
 right k zero gap at l b = go (record_of 0 l) (stands 0 l)
   where
-    go : (r : Record) → Stands 0 l r → Right k 0 gap l l (step k 0 gap at l (λ g a x. broken at) r)
-    go (Slot r) s = tt
-    go (Last c t) s = right_last k 0 gap at l b c t s
-    go (Refused m) s = tt
+    go : (r : Option Record) → Stands 0 l r → Right k 0 gap l l (step k 0 gap at l (λ g a x. broken at) r)
+    go (Some (Slot r)) s = tt
+    go (Some (Last c t)) s = right_last k 0 gap at l b c t s
+    go None s = tt
 right k (suc n) gap at l b = go (record_of (suc n) l) (stands (suc n) l) (λ g a w. right k n g a (drop w l) (bytes_drop w l b))
   where
-    go : (r : Record) → Stands (suc n) l r → ((g : Bool) (a w : ℕ) → Right k n g (drop w l) (twin_from n (drop w l)) (records_of k n g a (drop w l)))
+    go : (r : Option Record) → Stands (suc n) l r → ((g : Bool) (a w : ℕ) → Right k n g (drop w l) (twin_from n (drop w l)) (records_of k n g a (drop w l)))
         → Right k (suc n) gap l (twin_step l (twin_from n) r) (step k (suc n) gap at l (records_of k n) r)
-    go (Slot r) s x =
+    go (Some (Slot r)) s x =
         right_slot k n gap l (twin_from n (drop (record_length r.mark) l)) b r s (records_of k n (is_free r.mark) (at + record_length r.mark) (drop (record_length r.mark) l))
         (x (is_free r.mark) (at + record_length r.mark) (record_length r.mark))
-    go (Last c t) s x = right_last k (suc n) gap at l b c t s
-    go (Refused m) s x = tt
+    go (Some (Last c t)) s x = right_last k (suc n) gap at l b c t s
+    go None s x = tt
 
 clock_is : (l : List ℕ) → Bytes l → marked CK l ≡ true → clock_length ≤ length l → l ≡ clock_record (value 8 l clock_at) ++ drop clock_length l
 clock_is l b m h = marked_is CK l m ∙ ap (λ (x : List ℕ). CK ++ x) (le_value 8 l clock_at b h)

@@ -4,6 +4,7 @@ use Rattle.table.specs.declared.Table.{Table}
 use Rattle.table.specs.declared.Request.{Request}
 use Rattle.line.specs.Slots.{pick, is_waiting, lowest_of}
 use Rattle.table.specs.Words.{request_with, empty_table, refusal, Said}
+use Rattle.card.specs.declared.Reading.{Reading}
 use Rattle.card.specs.declared.ReadCard.{ReadCard}
 use Rattle.card.specs.Marked.{Records}
 use Rattle.card.specs.Card.{Card, carrying, card_of}
@@ -14,10 +15,19 @@ use Rattle.card.specs.Twin.{turned_in}
 abbrev pub zero_request : Request
 zero_request = request_with (replicate 16 0) 0 0
 
--- R56, R58: what is handed out, with the word of the slots whose records were TA; beside a refusal it is nothing of the card
+-- R56, R58: a card that was read, with the word of the slots whose records were TA
+abbrev pub reading_with : (turned : ℕ) → Said Card → Said Reading
+reading_with w (Ok c) = Ok (record { card = c; turned = w })
+reading_with w (Err r) = Err r
+
+-- R56, R58: what is handed out; beside a refusal it is nothing of the card
+abbrev pub handed_out : Said Reading → ReadCard
+handed_out (Ok x) = record { card = x.card; turned = x.turned; answer = Ok tt }
+handed_out (Err r) = record { card = carrying empty_table zero_request; turned = 0; answer = Err r }
+
+-- R56, R58: what is handed out of what was read, with that word
 abbrev pub handed : (turned : ℕ) → Said Card → ReadCard
-handed w (Ok c) = record { table = c.table; request = c.request; turned = w; answer = Ok tt }
-handed w (Err r) = record { table = empty_table; request = zero_request; turned = 0; answer = Err r }
+handed w s = handed_out (reading_with w s)
 
 -- R56, R58: the same of a card's records
 abbrev pub handed_of : Said Records → ReadCard
@@ -30,7 +40,7 @@ said_with t q (Err r) = Err r
 
 -- the same of all that the reader hands out
 abbrev pub said_read : ReadCard → Said Card
-said_read c = said_with c.table c.request c.answer
+said_read c = said_with c.card.table c.card.request c.answer
 
 -- R33: the card's length where there is room for it
 unfoldable pub length_of : Table → Request → (room : ℕ) → Said ℕ

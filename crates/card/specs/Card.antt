@@ -6,6 +6,7 @@ use Rattle.line.specs.Slots.{pick, is_nothing}
 use Rattle.table.specs.declared.Table.{Table}
 use Rattle.table.specs.declared.Request.{Request}
 use Rattle.table.specs.Words.{request_with}
+pub use Rattle.card.specs.declared.Card.{Card}
 use Rattle.card.specs.Bytes.{le}
 use Rattle.card.specs.Layout.{CK, RQ}
 use Rattle.card.specs.Marked.{record_for, recorded_bytes, CarriedAs}
@@ -51,11 +52,6 @@ card_of t q =
     request_record q.need q.period)
 
 -- a table and a request, as a card carries them
-pub record Card : Type 0 where
-  pub table : Table
-  pub request : Request
-
--- the two together
 abbrev pub carrying : Table → Request → Card
 carrying t q = record { table = t; request = q }
 

@@ -1,11 +1,11 @@
 -- The reading of a card: from its bytes to marked records, a recursive function, and from these to a table and a request.
-use Rattle.std.specs.Prelude.{Ok, Err, ℕ, zero, suc, ◌+◌, List, [], ◌∷◌, ◌++◌, map, Bool, false, length, drop, replicate, eqb, leb, ltb}
+use Rattle.std.specs.Prelude.{Option, None, Some, Ok, Err, ℕ, zero, suc, ◌+◌, List, [], ◌∷◌, ◌++◌, map, Bool, false, length, drop, replicate, eqb, leb, ltb}
 use Rattle.line.specs.Slots.{pick, both}
 use Rattle.table.specs.Words.{table_with, request_with, refusal, Said}
 use Rattle.card.specs.declared.Mark.{Mark}
 use Rattle.card.specs.declared.SlotRecord.{SlotRecord}
 use Rattle.card.specs.declared.Record.{Record}
-use Rattle.card.specs.declared.Record.TheVariants.{Slot, Last, Refused}
+use Rattle.card.specs.declared.Record.TheVariants.{Slot, Last}
 use Rattle.card.specs.Bytes.{value, marked}
 use Rattle.card.specs.Layout.{CK, TB, TL, TF, TA, RQ, is_free, clock_at, need_at, period_at, stretched_at, fourth_at, fifth_at, clock_length, line_length, last_length, record_length}
 use Rattle.card.specs.Marked.{record_with, free, slot_for, entry_for, Records, saying}
@@ -18,22 +18,22 @@ abbrev pub record_at : Mark → List ℕ → SlotRecord
 record_at m l = record_with m (value 2 l need_at) (value 2 l period_at) (value 2 l stretched_at) (value 2 l fourth_at) (value 2 l fifth_at)
 
 -- R53, R57: the same, whole or cut
-abbrev pub line_record_of : Mark → List ℕ → Record
-line_record_of m l = pick (leb line_length (length l)) (Slot (record_at m l)) (Refused 11)
+abbrev pub line_record_of : Mark → List ℕ → Option Record
+line_record_of m l = pick (leb line_length (length l)) (Some (Slot (record_at m l))) None
 
 -- R53, R57: the new line's record, whole or cut
-abbrev pub last_of : List ℕ → Record
-last_of l = pick (leb last_length (length l)) (Last (value 2 l need_at) (value 2 l period_at)) (Refused 11)
+abbrev pub last_of : List ℕ → Option Record
+last_of l = pick (leb last_length (length l)) (Some (Last (value 2 l need_at) (value 2 l period_at))) None
 
 -- R57, R58: a slot's record: a line under TB, TL or TA, or TF
-abbrev pub slot_record_of : List ℕ → Record
+abbrev pub slot_record_of : List ℕ → Option Record
 slot_record_of l =
     pick (marked TB l) (line_record_of Mark.TB l)
-    (pick (marked TL l) (line_record_of Mark.TL l) (pick (marked TF l) (Slot free) (pick (marked TA l) (line_record_of Mark.TA l) (Refused 11))))
+    (pick (marked TL l) (line_record_of Mark.TL l) (pick (marked TF l) (Some (Slot free)) (pick (marked TA l) (line_record_of Mark.TA l) None)))
 
--- R57: what stands at the front where so many slots are left; with none left RQ alone may
-unfoldable pub record_of : (left : ℕ) → List ℕ → Record
-record_of left l = pick (marked RQ l) (last_of l) (pick (ltb 0 left) (slot_record_of l) (Refused 11))
+-- R57: what stands at the front where so many slots are left, if it can be read; with none left RQ alone may
+unfoldable pub record_of : (left : ℕ) → List ℕ → Option Record
+record_of left l = pick (marked RQ l) (last_of l) (pick (ltb 0 left) (slot_record_of l) None)
 
 -- ---- the records
 
@@ -55,11 +55,11 @@ abbrev pub closing : {A : Type 0} → (gap : Bool) (at bytes : ℕ) → A → Sa
 closing gap at n m = pick gap (broken at) (pick (eqb n last_length) (Ok m) (broken (at + last_length)))
 
 -- R54: a record at an offset; next reads what follows
-abbrev pub step : (clock left : ℕ) (gap : Bool) (at : ℕ) → List ℕ → (Bool → ℕ → List ℕ → Said Records) → Record → Said Records
-step k left gap at l next (Slot r) =
+abbrev pub step : (clock left : ℕ) (gap : Bool) (at : ℕ) → List ℕ → (Bool → ℕ → List ℕ → Said Records) → Option Record → Said Records
+step k left gap at l next (Some (Slot r)) =
     put_in_front (r ∷ []) (next (is_free r.mark) (at + record_length r.mark) (drop (record_length r.mark) l))
-step k left gap at l next (Last c n) = closing gap at (length l) (ending k left c n)
-step k left gap at l next (Refused n) = Err (refusal n at)
+step k left gap at l next (Some (Last c n)) = closing gap at (length l) (ending k left c n)
+step k left gap at l next None = broken at
 
 -- R54: the records from an offset on, with so many slots left; gap says that the record before was TF
 unfoldable pub records_of : (clock left : ℕ) (gap : Bool) (at : ℕ) → List ℕ → Said Records

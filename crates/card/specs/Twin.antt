@@ -1,10 +1,10 @@
 -- Cards of the third generation: which slots' records are TA, R58, and the card that has TB in their place, R72.
-use Rattle.std.specs.Prelude.{Ok, Err, ℕ, zero, suc, ◌+◌, ◌*◌, List, [], ◌∷◌, ◌++◌, map, Bool, take, drop}
+use Rattle.std.specs.Prelude.{Option, None, Some, Ok, Err, ℕ, zero, suc, ◌+◌, ◌*◌, List, [], ◌∷◌, ◌++◌, map, Bool, take, drop}
 use Rattle.line.specs.Slots.{pick}
 use Rattle.table.specs.Words.{Said}
 use Rattle.card.specs.declared.SlotRecord.{SlotRecord}
 use Rattle.card.specs.declared.Record.{Record}
-use Rattle.card.specs.declared.Record.TheVariants.{Slot, Last, Refused}
+use Rattle.card.specs.declared.Record.TheVariants.{Slot, Last}
 use Rattle.card.specs.Layout.{is_turned, clock_length, record_length}
 use Rattle.card.specs.Marked.{record_bytes, twin, Records}
 use Rattle.card.specs.Reading.{record_of, records_with}
@@ -36,10 +36,10 @@ turned_of l = turned_with 16 l
 -- ---- the twin
 
 -- R72: a slot's record in front is its twin's bytes, and next makes the rest; anything else stays
-abbrev pub twin_step : List ℕ → (List ℕ → List ℕ) → Record → List ℕ
-twin_step l next (Slot r) = record_bytes (twin r) ++ next (drop (record_length r.mark) l)
-twin_step l next (Last c n) = l
-twin_step l next (Refused n) = l
+abbrev pub twin_step : List ℕ → (List ℕ → List ℕ) → Option Record → List ℕ
+twin_step l next (Some (Slot r)) = record_bytes (twin r) ++ next (drop (record_length r.mark) l)
+twin_step l next (Some (Last c n)) = l
+twin_step l next None = l
 
 -- R72: the twin of the bytes behind the clock's record, with so many slots left
 unfoldable pub twin_from : (left : ℕ) → List ℕ → List ℕ

@@ -4,7 +4,7 @@
 ghost use Rattle.std.specs.Prelude.{Option, ◌≡◌, ◌≤◌};
 ghost use Rattle.line.specs.declared.Held.TheVariants.{Running};
 ghost use Rattle.line.specs.Slots.{run_then, holding};
-ghost use Rattle.card.specs.Layout.{is_free, is_turned, line_mark, line_length, record_length};
+ghost use Rattle.card.specs.Layout.{is_free, is_turned, line_length, record_length};
 ghost use Rattle.card.specs.Marked.{record_with, free, slot_for, line_record, record_for};
 
 use line::{Follows, Held, Run, Slot};
@@ -32,29 +32,71 @@ pub struct SlotRecord {
     pub fifth: u16,
 }
 
-// R53, R57: what stands where a slot's record or RQ may stand: one of them, or a refusal's number.
+// R53: what stands where a slot's record or RQ may stand.
 #[derive(Clone, Copy)]
 pub enum Record {
     Slot(SlotRecord),
-    Last(u16, u16),
-    Refused(u16),
+    Last { need: u16, period: u16 },
 }
 
-// R56: what the reader hands out: whether the card was read, or what it was refused for. The table and the request stand beside the answer, as they are there with a refusal too.
+// R53: the table and the request that a card carries.
 #[derive(Clone, Copy)]
-pub struct ReadCard {
+pub struct Card {
     pub table: Table,
     pub request: Request,
+}
+
+// R56: a card that was read.
+#[derive(Clone, Copy)]
+pub struct Reading {
+    pub card: Card,
     // R58: a bit for each slot whose record was TA, slot 0 lowest.
+    pub turned: u16,
+}
+
+// R56: what the reader hands out. The card stands beside the answer, as it is there with a refusal too.
+#[derive(Clone, Copy)]
+pub struct ReadCard {
+    pub card: Card,
+    // R58: as in a reading.
     pub turned: u16,
     pub answer: Result<(), Refusal>,
 }
 
-impl Mark {
+impl From<Result<Reading, Refusal>> for ReadCard {
+    ghost use Rattle.std.specs.Prelude.{◌≡◌};
+    ghost use Rattle.card.specs.Answers.{handed_out};
+
+    ghost from_gives = { λ said c. c ≡ handed_out said };
+
+    // R56: with a refusal the empty table, a request of zeros and no slot are handed out.
+    fn from(said: Result<Reading, Refusal>) -> ReadCard {
+        match said {
+            Ok(Reading { card, turned }) => ReadCard {
+                card,
+                turned,
+                answer: Ok(()),
+            },
+            Err(x) => ReadCard {
+                card: Card {
+                    table: Table::empty(),
+                    request: Request::new([0; 16], 0, 0),
+                },
+                turned: 0,
+                answer: Err(x),
+            },
+        }
+    }
+}
+
+impl From<Follows> for Mark {
+    ghost use Rattle.std.specs.Prelude.{◌≡◌};
+    ghost use Rattle.card.specs.Layout.{line_mark};
+
+    ghost from_gives = { λ follows m. m ≡ line_mark follows };
+
     // R53, R99: the mark that a line is written under.
-    fn of_line(follows: Follows) -> Mark
-        ensures { result ≡ line_mark follows }
-    {
+    fn from(follows: Follows) -> Mark {
         match follows {
             Follows::Renews => Mark::TB,
             Follows::Leaves => Mark::TL,
@@ -75,12 +117,12 @@ impl SlotRecord {
         ensures { result ≡ record_with mark need period stretched fourth fifth }
     {
         SlotRecord {
-            mark: mark,
-            need: need,
-            period: period,
-            stretched: stretched,
-            fourth: fourth,
-            fifth: fifth,
+            mark,
+            need,
+            period,
+            stretched,
+            fourth,
+            fifth,
         }
     }
 
@@ -95,26 +137,14 @@ impl SlotRecord {
     pub fn is_free(self) -> bool
         ensures { result ≡ is_free self.mark }
     {
-        let m = self.mark;
-        match m {
-            Mark::TA => false,
-            Mark::TB => false,
-            Mark::TF => true,
-            Mark::TL => false,
-        }
+        matches!(self.mark, Mark::TF)
     }
 
     // R58: its two last numbers are remaining and then age.
     pub fn is_turned(self) -> bool
         ensures { result ≡ is_turned self.mark }
     {
-        let m = self.mark;
-        match m {
-            Mark::TA => true,
-            Mark::TB => false,
-            Mark::TF => false,
-            Mark::TL => false,
-        }
+        matches!(self.mark, Mark::TA)
     }
 
     // R53: how many bytes it has.
@@ -122,25 +152,24 @@ impl SlotRecord {
         ensures { (result ≡ record_length self.mark) × (result ≤ line_length) }
     {
         if self.is_free() {
-            return layout::MARK_LENGTH;
+            layout::MARK_LENGTH
+        } else {
+            layout::LINE_LENGTH
         }
-        layout::LINE_LENGTH
     }
 
     // R53, R99: a slot with its line, of this age and these remaining ticks.
     fn with_line(self, age: u16, remaining: u16, follows: Follows) -> Slot
         ensures { result ≡ holding (Running (run_then follows self.need self.period age remaining)) }
     {
-        let run = Held::running(self.need, self.period, age, remaining, follows);
-        Slot::holding(run)
+        Slot::holding(Held::running(self.need, self.period, age, remaining, follows))
     }
 
     // R53, R58: the slot that it stands for.
     pub fn slot(self) -> Slot
         ensures { result ≡ slot_for self }
     {
-        let m = self.mark;
-        match m {
+        match self.mark {
             Mark::TA => self.with_line(self.fifth, self.fourth, Follows::Renews),
             Mark::TB => self.with_line(self.fourth, self.fifth, Follows::Renews),
             Mark::TF => Slot::empty(),
@@ -152,17 +181,21 @@ impl SlotRecord {
     fn line(x: Run, stretched: u16) -> SlotRecord
         ensures { result ≡ line_record x stretched }
     {
-        let f = x.follows;
-        let m = Mark::of_line(f);
-        SlotRecord::new(m, x.need, x.period, stretched, x.age, x.remaining)
+        SlotRecord::new(
+            x.follows.into(),
+            x.need,
+            x.period,
+            stretched,
+            x.age,
+            x.remaining,
+        )
     }
 
     // R23, R53: the record of a slot and its entry of the request. A waiting line has none.
     pub fn of(slot: Slot, stretched: u16) -> Option<SlotRecord>
         ensures { result ≡ record_for slot.held stretched }
     {
-        let h = slot.held;
-        match h {
+        match slot.held {
             Held::Nothing => Some(SlotRecord::free()),
             Held::Running(x) => Some(SlotRecord::line(x, stretched)),
             Held::Waiting(_) => None,
