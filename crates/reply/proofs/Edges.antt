@@ -164,7 +164,3 @@ expected e = (e.length, e.holds)
 pub put_edges_lem : map putting put_edges ≡ map expected put_edges
 unfolding digits_in digits answer_line put_edges
 put_edges_lem = refl
-
--- R62: the code's answers say their own numbers
-pub length_edges_lem : map (Some 15 ∷ None ∷ []) ≡ Some 15 ∷ None ∷ []
-length_edges_lem = refl

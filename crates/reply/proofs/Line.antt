@@ -1,5 +1,5 @@
 -- The line as a whole. A byte below `0` ends a number, so the digits can be taken off the front of a line in one way only: a line says which answer it is.
-use Rattle.std.specs.Prelude.{None, Some, Option, Ok, Err}
+use Rattle.std.specs.Prelude.{Option, Ok, Err}
 use Prim.Native.Nat.{ℕ, ◌+◌, ◌≤◌, ◌<◌}
 use mathlib.Core.Path.{◌≡◌, refl, ap, sym, ◌∙◌}
 use mathlib.Core.Bool.{Bool, true, false, not}
@@ -120,13 +120,6 @@ line_unique (Ok r) (Err x) e = absurd (differ r x e)
 line_unique (Err x) (Ok r) e = absurd (differ r x (sym e))
 line_unique (Err x) (Err y) e = ap Err (refuses_one x y e)
 
--- R61: the same of the code's answers
-pub answer_unique : (a b : Said ℕ) → answer_line a ≡ answer_line b → a ≡ b
-answer_unique (Ok r) (Ok s) e = let h : Ok r ≡ Ok s = line_unique _ _ e in cc
-answer_unique (Ok r) (Err x) e = let h : Ok r ≡ Err x = line_unique _ _ e in cc
-answer_unique (Err x) (Ok r) e = let h : Err x ≡ Ok r = line_unique _ _ e in cc
-answer_unique (Err x) (Err y) e = let h : ◌≡◌ {A = Said ℕ} (Err x) (Err y) = line_unique _ _ e in cc
-
 -- ---- how long a line is
 
 -- R61: how long a start's line is
@@ -188,15 +181,9 @@ reply_settled line r s v w =
     sym (take-append-drop r.len r.bytes) ∙ rw (f, g) (take-append-drop s.len s.bytes) in
     rw (n, b)
 
-length_one : (r s : Option ℕ) → r ≡ s → r ≡ s
-length_one (Some m) (Some n) e = cc
-length_one (Some m) None e = cc
-length_one None (Some n) e = cc
-length_one None None e = refl
-
 -- R71: and so are what putting a line into a buffer may answer and what the buffer may then hold
 pub put_reply_settled : (line buffer : List ℕ) (r s : Option ℕ) (m n : List ℕ)
     → (r ≡ length_for line buffer) × (m ≡ held_after line buffer)
     → (s ≡ length_for line buffer) × (n ≡ held_after line buffer)
     → (r ≡ s) × (m ≡ n)
-put_reply_settled line buffer r s m n v w = (length_one r s (v.0 ∙ sym w.0), v.1 ∙ sym w.1)
+put_reply_settled line buffer r s m n v w = (v.0 ∙ sym w.0, v.1 ∙ sym w.1)

@@ -95,11 +95,6 @@ laid bytes buffer = bytes ++ drop (length bytes) buffer
 abbrev pub laid_from : (at : ℕ) (bytes buffer : List ℕ) → List ℕ
 laid_from at bytes buffer = take at buffer ++ laid bytes (drop at buffer)
 
--- the length that is answered, or none for a buffer that is too short
-abbrev pub said_length : Option ℕ → Option ℕ
-(Some n) = Some n
-None = None
-
 -- R33: the line fits the buffer
 abbrev pub fits : (line buffer : List ℕ) → Bool
 fits line buffer = leb (length line) (length buffer)

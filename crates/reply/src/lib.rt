@@ -1,7 +1,7 @@
 // The line that the answering program prints.
 #![tactic(auto)]
 
-ghost use Rattle.std.specs.Prelude.{Option, Ok, Err, ◌≡◌, ◌+◌, ◌≤◌, ◌<◌, length};
+ghost use Rattle.std.specs.Prelude.{Ok, Err, ◌≡◌, ◌+◌, ◌≤◌, ◌<◌, length};
 ghost use Rattle.reply.specs.Line.{digits, carries, lateness_of, answer_line, laid, laid_from, Replied, length_for, held_after};
 
 use table::Refusal;
@@ -13,16 +13,9 @@ pub struct Reply {
     pub len: usize,
 }
 
-// R33, R62: what putting a line into a lent buffer answers: the line's length, or that the buffer is too short for it.
-#[derive(Clone, Copy)]
-pub enum Option<usize> {
-    Length(usize),
-    Short,
-}
-
 // R61: the line for an answer.
 pub fn reply_to(a: Result<u64, Refusal>) -> Reply
-    ensures { Replied (answer_line (a)) result }
+    ensures { Replied (answer_line a) result }
 {
     let len = line_len(a);
     let mut bytes = [0u8; 72];
@@ -32,8 +25,8 @@ pub fn reply_to(a: Result<u64, Refusal>) -> Reply
 
 // R33, R62: puts the line for an answer at the start of a lent buffer. One that is too short keeps every byte.
 pub fn put_reply(a: Result<u64, Refusal>, out: &mut [u8]) -> Option<usize>
-    ensures length_said { result ≡ length_for (answer_line (a)) out.old }
-    ensures buffer_after { out.new ≡ held_after (answer_line (a)) out.old }
+    ensures length_said { result ≡ length_for (answer_line a) out.old }
+    ensures buffer_after { out.new ≡ held_after (answer_line a) out.old }
 {
     let len = line_len(a);
     if out.len() < len {
@@ -45,7 +38,7 @@ pub fn put_reply(a: Result<u64, Refusal>, out: &mut [u8]) -> Option<usize>
 
 // R61: the length of an answer's line.
 fn line_len(a: Result<u64, Refusal>) -> usize
-    ensures { (result ≡ length (answer_line (a))) × (result ≤ 72) }
+    ensures { (result ≡ length (answer_line a)) × (result ≤ 72) }
 {
     match a {
         Ok(start) => 9 + places(start),
@@ -75,8 +68,8 @@ fn lateness_len(x: Refusal) -> usize
 
 // R61: puts the line for an answer at the start of out.
 fn put_line(out: &mut [u8], a: Result<u64, Refusal>)
-    requires { length (answer_line (a)) ≤ length out.old }
-    ensures { out.new ≡ laid (answer_line (a)) out.old }
+    requires { length (answer_line a) ≤ length out.old }
+    ensures { out.new ≡ laid (answer_line a) out.old }
 {
     match a {
         Ok(start) => put_release(out, start),
