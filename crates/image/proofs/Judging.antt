@@ -1,29 +1,34 @@
 -- Which byte is wrong (R83): of one slot, of the slots, and of the whole image.
-use Rattle.std.specs.Prelude.{Ok, Err, Option, None, Some}
+use Rattle.std.specs.Prelude.{Ok, Err, Option, None, Some, MatchOption, slice_get}
+use Rattle.std.specs.Bool.{MatchBool, then_some}
+use Rattle.std.specs.List.{AllWithin, range_with_len}
+use Rattle.std.proofs.lemmas.List.FromFn.{length-range_with_len, get_or-range_with_len}
 use mathlib.Core.Path.{◌≡◌, refl, sym, ap, ap₂, ◌∙◌}
 use mathlib.Core.List.{List, [], ◌∷◌}
 use mathlib.Core.Bool.{Bool, true, false, not}
-use Prim.Native.Nat.{ℕ, zero, suc, ◌+◌, ◌*◌, ◌-◌, ◌≤◌, ◌<◌}
+use Prim.Native.Nat.{ℕ, zero, suc, ◌+◌, ◌*◌, ◌-◌, ◌≤◌, ◌<◌, min}
 use native.Mathlib.Omega.{arith}
-use native.Mathlib.Decide.{dec_lt}
+use native.Mathlib.Decide.{dec_lt, ℕ_discrete}
 use native.Mathlib.Nat.{sub-zero}
-use lib.ListN.{length, drop, get_or, drop_of_length-le}
+use lib.ListN.{length, take, drop, get_or, drop_of_length-le}
 use lib.Seq.{drop-drop}
 use lib.Dec.{eqb, leb, ltb}
 use borrow.Author.Tests.{ltb-true, eqb-true, not-true, not-false, eq-eqb, ne_eqb, le-leb, lt-leb, lt-ltb, le-ltb}
 use Rattle.line.specs.declared.Follows.{Follows}
 use Rattle.line.specs.Slots.{or_else}
 use Rattle.line.proofs.Sound.{both_false}
-use Rattle.line.proofs.Search.{Looking, look_on, look_stop, look_end, lowest_below, none_found}
+use Rattle.line.proofs.Search.{lowest_found, lowest_below, none_found}
 use Rattle.table.specs.declared.Table.{Table}
 use Rattle.table.specs.declared.Refusal.{Refusal}
 use Rattle.table.specs.Words.{refusal}
 use Rattle.image.proofs.RunKinds.{run_blank}
 use Rattle.image.proofs.Eight.{fourth}
+use Rattle.image.proofs.Series.{next_drop}
 use Rattle.image.proofs.WritesBack.{nothing_wrong}
 use Rattle.image.specs.Image.{version, size, run_kind}
 use Rattle.card.specs.Bytes.{Bytes, value}
-use Rattle.image.specs.Loading.{byte, blank_from, is_wrong, slot_wrong, on_by, slots_wrong, length_wrong, wrong_in, table_in, unless_wrong, load_with}
+use Rattle.card.proofs.Parts.{part_all}
+use Rattle.image.specs.Loading.{byte, blank_from, is_wrong, slot_wrong, on_by, slots_wrong, version_wrong, length_wrong, wrong_in, table_in, unless_wrong, load_with}
 
 module _ (k : ℕ) where
   -- R83: after kind 0 nothing stands
@@ -55,40 +60,38 @@ past (x ∷ l) (suc i) h = past l i (omega arith)
 zero_right : (l : List ℕ) (i : ℕ) → byte l i ≡ 0 → is_wrong l i ≡ false
 zero_right l i e = rw (le-ltb 0 (byte l i) (omega arith), both_false (leb (blank_from (byte l 0)) i))
 
--- a search among the bytes of the slot in front that has passed those below i
-pub record Passing (l : List ℕ) (i : ℕ) : Type 0 where
-  pub from : blank_from (byte l 0) ≤ i
-  pub looking : Looking (is_wrong l) 9 i
+-- the byte in front, as the code looks at it
+pub no_first : (l : List ℕ) → None ≡ slice_get l 0 → length l ≤ 0
+no_first [] e = omega arith
+no_first (x ∷ l) e = let z : ◌≡◌ {A = ℕ} 0 1 = cc in absurd (omega arith)
 
--- R83: before the first byte that must be 0 none is wrong
-pub pass_start : (l : List ℕ) {i : ℕ} → i ≡ blank_from (byte l 0) → i ≤ 9 → Passing l i
-pass_start l {i} e h =
-    record { from = omega arith; looking = record { upto = h; passed = λ k p. rw (lt-leb (blank_from (byte l 0)) k (omega arith)) } }
+pub first_is : (l : List ℕ) {b : ℕ} → Some b ≡ slice_get l 0 → b ≡ byte l 0
+first_is [] e = let z : ◌≡◌ {A = ℕ} 0 1 = cc in absurd (omega arith)
+first_is (x ∷ l) e = cc
 
 -- R83: where no byte is there, none is wrong
 pub none_there : (l : List ℕ) → length l ≤ 0 → None ≡ slot_wrong l
 none_there l h = sym (none_found (is_wrong l) 9 (λ k p. zero_right l k (past l k (omega arith))))
 
-module _ {l : List ℕ} {i : ℕ} (v : Passing l i) where
-  -- a byte that is 0 is passed
-  pub pass_on : i < 9 → byte l i ≡ 0 → Passing l (i + 1)
-  pass_on h e = let f = v.from in record { from = omega arith; looking = look_on v.looking h (zero_right l i e) }
+-- R83: a search from the first byte that must be 0 to the last that is there finds the lowest wrong one
+pub searched : (l : List ℕ) {a b : ℕ} (r : Option ℕ) → a ≡ blank_from (byte l 0) → b ≡ min (length l) 9
+    → MatchOption r ((k : ℕ) → a ≤ k → k < b → byte l k ≡ 0) (λ i. (a ≤ i) × (i < b) × (byte l i ≡ 0 → ⊥) × ((k : ℕ) → a ≤ k → k < i → byte l k ≡ 0)) → r ≡ slot_wrong l
+searched l {a} {b} r ea eb m = go r m
+  where
+    passed : (k : ℕ) → (a ≤ k → k < length l → byte l k ≡ 0) → is_wrong l k ≡ false
+    passed k z =
+        elim (dec_lt k a) [
+          | yes q ↦ rw (lt-leb (blank_from (byte l 0)) k (omega arith))
+          | no q ↦ elim (dec_lt k (length l)) [ yes h ↦ zero_right l k (z (omega arith) h) | no h ↦ zero_right l k (past l k (omega arith)) ]
+        ]
 
-  -- R83: the first that is not is the lowest wrong one
-  pub pass_stop : i < 9 → (byte l i ≡ 0 → ⊥) → Some i ≡ slot_wrong l
-  pass_stop h e = sym (look_stop v.looking h (rw (le-leb (blank_from (byte l 0)) i v.from, lt-ltb 0 (byte l i) (omega arith))))
-
-  -- R83: after the nine bytes none is wrong
-  pub pass_end : 9 ≤ i → None ≡ slot_wrong l
-  pass_end h = sym (look_end v.looking h)
-
-  -- R83: nor where the image ends
-  pub pass_cut : length l ≤ i → None ≡ slot_wrong l
-  pass_cut h =
-      sym (none_found (is_wrong l) 9 (λ k p. elim (dec_lt k i) [
-        | yes q ↦ v.looking.passed k q
-        | no q ↦ zero_right l k (past l k (omega arith))
-      ]))
+    go : (o : Option ℕ) → MatchOption o ((k : ℕ) → a ≤ k → k < b → byte l k ≡ 0) (λ i. (a ≤ i) × (i < b) × (byte l i ≡ 0 → ⊥) × ((k : ℕ) → a ≤ k → k < i → byte l k ≡ 0))
+        → o ≡ slot_wrong l
+    go None z = sym (none_found (is_wrong l) 9 (λ k p. passed k (λ f h. z k f (omega arith))))
+    go (Some i) v =
+        let n : 0 < byte l i = elim (dec_lt 0 (byte l i)) [ yes h ↦ h | no h ↦ absurd (v.2 (omega arith)) ] in
+        sym (lowest_found (is_wrong l) 9 (omega (arith, v.1)) (rw (le-leb (blank_from (byte l 0)) i (omega (arith, v.0)), lt-ltb 0 (byte l i) n))
+        (λ k p. passed k (λ f h. v.3 k f p)))
 
 -- ---- a slot at one look
 
@@ -188,44 +191,52 @@ judge_end {n} {l} {k} v h =
     let z : n - k ≡ 0 = omega arith in
     sym (ap (λ (m : ℕ). slots_wrong m (9 + 9 * k) (drop (9 + 9 * k) l)) z) ∙ v.left
 
-module _ (m n : ℕ) where
-  -- R83: the length that is wanted
-  pub length_right : n ≡ m → None ≡ length_wrong m n
-  unfolding length_wrong
-  length_right e = rw (eq-eqb n m e)
+-- a slot's part of an image is what `drop` leaves
+pub right_part : (l : List ℕ) (at : ℕ) → slot_wrong (take (length l - at) (drop at l)) ≡ None → slot_wrong (drop at l) ≡ None
+right_part l at e = rw part_all at e
 
-  -- R83: less than that
-  pub length_short : (n ≡ m → ⊥) → n < m → Some n ≡ length_wrong m n
-  unfolding length_wrong
-  length_short d h = rw (ne_eqb n m d, lt-ltb n m h)
+right_each : (n at : ℕ) (l : List ℕ) → ((i : ℕ) → i < n → slot_wrong (drop (9 * i) l) ≡ None) → slots_wrong n at l ≡ None
+unfolding slots_wrong
+right_each zero at l h = refl
+right_each (suc n) at l h = rw (h 0 (omega arith)) (right_each n (at + 9) (drop 9 l) (λ i k. rw (next_drop 9 i l) (h (suc i) (omega arith))))
 
-  -- R83: more than that
-  pub length_long : (n ≡ m → ⊥) → m ≤ n → Some m ≡ length_wrong m n
-  unfolding length_wrong
-  length_long d h = rw (ne_eqb n m d, le-ltb n m h)
+-- R83: all slots are right where each of them is, looked at by its number
+pub all_right : (n : ℕ) (l : List ℕ) {r : Bool} (X : Type 0) → r ≡ true
+    → MatchBool r (AllWithin (λ (k : ℕ). slot_wrong (drop (9 + 9 * k) l) ≡ None) (range_with_len 0 n) 0 (length (range_with_len 0 n))) X → slots_wrong n 9 (drop 9 l) ≡ None
+all_right n l X e m =
+    let v = rw e at m in
+    right_each n 9 (drop 9 l) (λ i h.
+    let j : get_or (range_with_len 0 n) i 0 ≡ i = omega (arith, get_or-range_with_len 0 n i 0 h) in
+    rw (drop-drop (9 * i) 9 l) (rw j at (v i 0 (omega arith) (omega (arith, length-range_with_len 0 n)))))
 
--- R83: an image without a byte has no version
-pub no_version : (l : List ℕ) → length l < 1 → true ≡ not (eqb (byte l 0) version)
-no_version l h = rw (past l 0 (omega arith))
+-- R83: any other length than the one that is wanted, at the lesser of the two
+pub length_tested : (m n : ℕ) → then_some (not (eqb n m)) (min n m) ≡ length_wrong m n
+unfolding length_wrong
+length_tested m n =
+    elim (ℕ_discrete n m) [
+      | yes e ↦ rw (eq-eqb n m e)
+      | no d ↦ elim (dec_lt n m) [
+        | yes h ↦ let e : min n m ≡ n = omega arith in rw (ne_eqb n m d, lt-ltb n m h, e)
+        | no h ↦ let e : min n m ≡ m = omega arith in rw (ne_eqb n m d, le-ltb n m (omega arith), e)
+      ]
+    ]
+
+-- what stands where nothing was found is looked for
+pub or_found : (o p : Option ℕ) {r : Option ℕ} (X : Type 0) → MatchOption o X (λ k. r ≡ Some k) → (X → r ≡ p) → r ≡ or_else o p
+or_found None p X m f = f m
+or_found (Some k) p X m f = m
+
+or_assoc : (o p q : Option ℕ) → or_else (or_else o p) q ≡ or_else o (or_else p q)
+or_assoc None p q = refl
+or_assoc (Some k) p q = refl
 
 module _ (n : ℕ) (l : List ℕ) where
-  -- the version was tested
-  module _ {b : Bool} (v : b ≡ not (eqb (byte l 0) version)) where
-    -- R83: the version is looked at first
-    pub version_first : b ≡ true → Some 0 ≡ wrong_in n l
-    unfolding wrong_in
-    version_first h = rw (not-true (eqb (byte l 0) version) (sym v ∙ h))
-
-    module _ (h : b ≡ false) {w : Option ℕ} (e : w ≡ slots_wrong n 9 (drop 9 l)) where
-      -- R83: then the slots
-      pub slots_then : (p : ℕ) → w ≡ Some p → w ≡ wrong_in n l
-      unfolding wrong_in
-      slots_then p q = rw (not-false (eqb (byte l 0) version) (sym v ∙ h), sym e, q)
-
-      -- R83: and last the length
-      pub length_last : w ≡ None → {o : Option ℕ} → o ≡ length_wrong (size n) (length l) → o ≡ wrong_in n l
-      unfolding wrong_in
-      length_last q k = k ∙ rw (not-false (eqb (byte l 0) version) (sym v ∙ h), sym e, q)
+  -- R83: the version is looked at first, then the slots, and last the length
+  pub in_turn : {v w o : Option ℕ} → v ≡ version_wrong l → w ≡ or_else v (slots_wrong n 9 (drop 9 l)) → o ≡ or_else w (length_wrong (size n) (length l)) → o ≡ wrong_in n l
+  unfolding wrong_in
+  in_turn a b c =
+      c ∙ ap (λ (x : Option ℕ). or_else x (length_wrong (size n) (length l))) (b ∙ ap (λ (x : Option ℕ). or_else x (slots_wrong n 9 (drop 9 l))) a)
+      ∙ or_assoc (version_wrong l) (slots_wrong n 9 (drop 9 l)) (length_wrong (size n) (length l))
 
   -- what is wrong was looked for
   module _ {w : Option ℕ} (e : w ≡ wrong_in n l) where

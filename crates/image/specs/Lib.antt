@@ -1,4 +1,5 @@
 -- The rules of docs/RULES.md on images, as definitions.
 pub mod Image
 pub mod Loading
+pub mod Kinds
 pub mod Answers

@@ -1,46 +1,23 @@
 // A slot's nine bytes: its kind, and its four numbers as one number of eight bytes.
-ghost use Rattle.std.specs.Prelude.{◌≡◌, ◌∷◌, ◌++◌, ◌%◌, ◌≤◌, length, drop};
+ghost use Rattle.std.specs.Prelude.{◌≡◌, List, ℕ, ◌∷◌, ◌++◌, ◌%◌, ◌≤◌, length, drop, refl};
 ghost use Rattle.line.specs.Slots.{holding};
 ghost use Rattle.card.specs.Bytes.{le};
-ghost use Rattle.image.specs.Image.{run_kind, slot_bytes};
+ghost use Rattle.image.specs.Image.{slot_bytes};
 ghost use Rattle.image.specs.Loading.{held_in};
 
+ghost use Rattle.line.specs.declared.Held.TheVariants.{Nothing, Running, Waiting};
+ghost use Rattle.line.specs.declared.Slot.{Slot};
+
+use crate::kinds::Kind;
 use crate::numbers::{eight_at, put_eight};
-use line::{Follows, Held, Slot};
+use crate::pieces::Piece;
+use line::{Held, Slot};
 
 // The lowest two bytes of a number.
 fn lowest(v: u64) -> u16
     ensures { result ≡ v % 65536 }
 {
     (v % 65536) as u16
-}
-
-// R81: what the slot in front holds. Its numbers are taken before the kind is looked at, so that all four are moved at once: twice as quick.
-pub(crate) fn slot_in(s: &[u8]) -> Slot
-    requires { 9 ≤ length s.now }
-    ensures { result ≡ holding (held_in s.now) }
-{
-    let v = eight_at(s, 1);
-    let first = lowest(v);
-    let second = lowest(v / 65536);
-    let third = lowest(v / 4294967296);
-    let fourth = lowest(v / 281474976710656);
-    let kind = s[0];
-    match kind {
-        1 => {
-            let run = Held::running(first, second, third, fourth, Follows::Renews);
-            Slot::holding(run)
-        }
-        2 => {
-            let wait = Held::waiting(first, second, third);
-            Slot::holding(wait)
-        }
-        3 => {
-            let run = Held::running(first, second, third, fourth, Follows::Leaves);
-            Slot::holding(run)
-        }
-        _ => Slot::empty(),
-    }
 }
 
 // R81: four numbers of two bytes as one of eight, the first lowest.
@@ -50,16 +27,6 @@ fn four(a: u16, b: u16, c: u16, d: u16) -> u64
     let low = a as u64 + b as u64 * 65536;
     let high = c as u64 + d as u64 * 65536;
     low + high * 4294967296
-}
-
-// R81: the kind of a running line.
-fn run_kind(follows: Follows) -> u8
-    ensures { result ≡ run_kind follows }
-{
-    match follows {
-        Follows::Renews => 1,
-        Follows::Leaves => 3,
-    }
 }
 
 // R81: a byte and a number in eight bytes.
@@ -72,17 +39,45 @@ pub(crate) fn put_nine(out: &mut [u8], first: u8, v: u64)
 }
 
 // R81: a slot's nine bytes.
-pub(crate) fn put_slot(out: &mut [u8], s: Slot)
-    requires { 9 ≤ length out.old }
-    ensures { out.new ≡ slot_bytes s.held ++ drop 9 out.old }
-{
-    let h = s.held;
-    match h {
-        Held::Nothing => put_nine(out, 0, 0),
-        Held::Running(r) => {
-            let f = r.follows;
-            put_nine(out, run_kind(f), four(r.need, r.period, r.age, r.remaining))
+impl Piece for Slot {
+    ghost WIDTH = { 9 };
+
+    ghost bytes_of = { λ (s : Slot). slot_bytes s.held };
+
+    ghost found = { λ (l : List ℕ). holding (held_in l) };
+
+    const WIDTH: usize = 9;
+
+    // Its numbers are taken before the kind is looked at, so that all four are moved at once: twice as quick.
+    fn get(s: &[u8]) -> Slot {
+        let v = eight_at(s, 1);
+        let first = lowest(v);
+        let second = lowest(v / 65536);
+        let third = lowest(v / 4294967296);
+        let fourth = lowest(v / 281474976710656);
+        match Kind::try_from(s[0]) {
+            Ok(Kind::Running(follows)) => {
+                Slot::holding(Held::running(first, second, third, fourth, follows))
+            }
+            Ok(Kind::Waiting) => Slot::holding(Held::waiting(first, second, third)),
+            Ok(Kind::Nothing) => Slot::empty(),
+            Err(()) => Slot::empty(),
         }
-        Held::Waiting(w) => put_nine(out, 2, four(w.need, w.period, w.wait, 0)),
     }
+
+    fn put(self, out: &mut [u8]) {
+        match self.held {
+            Held::Nothing => put_nine(out, u8::from(Kind::Nothing), 0),
+            Held::Running(r) => {
+                let numbers = four(r.need, r.period, r.age, r.remaining);
+                put_nine(out, u8::from(Kind::Running(r.follows)), numbers)
+            }
+            Held::Waiting(w) => {
+                let numbers = four(w.need, w.period, w.wait, 0);
+                put_nine(out, u8::from(Kind::Waiting), numbers)
+            }
+        }
+    }
+
+    ghost wide = { λ s. elim s.held as (λ h. length (slot_bytes h) ≡ 9) [ Nothing ↦ refl | Running r ↦ refl | Waiting w ↦ refl ] };
 }

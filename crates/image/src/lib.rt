@@ -7,13 +7,14 @@ ghost use Rattle.image.specs.Loading.{table_in, load_of};
 ghost use Rattle.image.specs.Answers.{handed_out, store_of, stored_in};
 ghost use Rattle.table.specs.Words.{refusal};
 
+use pieces::{pieces_in, put_pieces};
 use table::{Refusal, Table};
 
-mod counts; // the counts in an image
 mod fields; // the numbers in a slot's bytes
 mod judge; // which byte is wrong
+mod kinds; // what a slot holds, as a byte
 mod numbers; // numbers of eight bytes
-mod slots; // the slots in an image
+mod pieces; // the slots and the counts in an image
 
 // R84: what loading hands out. The table stands beside the answer, since R84 hands one out with a refusal too: the empty one.
 #[derive(Clone, Copy)]
@@ -45,8 +46,8 @@ fn table_in(image: &[u8]) -> Table
     requires { 298 ≤ length image.now }
     ensures { result ≡ table_in 16 image.now }
 {
-    let mut t = Table::new(numbers::eight_at(image, 1), slots::slots_in(image));
-    t.had = counts::counts_in(image);
+    let mut t = Table::new(numbers::eight_at(image, 1), pieces_in(&image[9..]));
+    t.had = pieces_in(&image[153..]);
     t.idle = numbers::eight_at(image, 281);
     t.departed = numbers::eight_at(image, 289);
     t.last = image[297];
@@ -75,11 +76,9 @@ fn put_image(t: Table, out: &mut [u8])
     requires { 298 ≤ length out.old }
     ensures { out.new ≡ image_of t ++ drop 298 out.old }
 {
-    let slots = t.slots;
-    let had = t.had;
     fields::put_nine(out, 4, t.clock);
-    slots::put_slots(&mut out[9..], slots);
-    counts::put_counts(&mut out[153..], had);
+    put_pieces(&mut out[9..], t.slots);
+    put_pieces(&mut out[153..], t.had);
     numbers::put_eight(&mut out[281..], t.idle);
     numbers::put_eight(&mut out[289..], t.departed);
     out[297] = t.last;

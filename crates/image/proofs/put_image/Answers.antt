@@ -29,9 +29,9 @@ returns c =
     put_byte a.out.now (front ++ slots ++ counts ++ idle ++ departed) a.t.last 297
     (put_at_lem a.out.now _ (front ++ slots ++ counts ++ idle) departed c.put_eight-2.new.out 289 8
     (put_at_lem a.out.now _ (front ++ slots ++ counts) idle c.put_eight.new.out 281 8
-    (put_at_lem a.out.now _ (front ++ slots) counts c.put_counts.new.out 153 128
-    (put_at_lem a.out.now c.put_nine.new.out front slots c.put_slots.new.out 9 144 c.put_nine.ensures refl ls c.put_slots.ensures)
-    (omega arith) lc c.put_counts.ensures)
+    (put_at_lem a.out.now _ (front ++ slots) counts c.put_pieces-2.new.out 153 128
+    (put_at_lem a.out.now c.put_nine.new.out front slots c.put_pieces.new.out 9 144 c.put_nine.ensures refl ls c.put_pieces.ensures)
+    (omega arith) lc c.put_pieces-2.ensures)
     (omega arith) refl c.put_eight.ensures)
     (omega arith) refl c.put_eight-2.ensures)
     (omega (arith, length-append (slots ++ counts ++ idle) departed)) (omega arith)

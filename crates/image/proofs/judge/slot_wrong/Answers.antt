@@ -1,21 +1,20 @@
+-- `slot_wrong`: the search is the one of `searched`.
+use Prim.Native.Nat.{ℕ}
+use mathlib.Core.Path.{◌≡◌, ap, ◌∙◌}
 use native.Mathlib.Omega.{arith}
-use Rattle.image.proofs.Judging.{pass_start, none_there, pass_on, pass_stop, pass_end, pass_cut}
+use lib.ListN.{get_or}
+use borrow.Author.Rules.{rules}
+use borrow.Author.Tests.{tests}
+use Rattle.std.proofs.lemmas.Iterator.{first_from_Range}
+use Rattle.image.specs.Loading.{byte, blank_from}
+use Rattle.image.proofs.Judging.{no_first, first_is, none_there, searched}
 use Rattle.image.proofs.judge.slot_wrong.Goals as goal
 
-pub returns-then-s-lt1 : goal.returns-then-s-lt1
-returns-then-s-lt1 c = none_there c.args.s.now (omega arith)
-
-pub loop-i-init : goal.loop-i-init
-loop-i-init c = pass_start _ c.blank_from-i.ensures.0 c.blank_from-i.ensures.1
-
-pub returns-then-s-i : goal.returns-then-s-i
-returns-then-s-i c = pass_cut c.loop-i.invariant (omega arith)
-
-pub returns-then-s-i-ne0 : goal.returns-then-s-i-ne0
-returns-then-s-i-ne0 c = pass_stop c.loop-i.invariant (omega arith) (λ e. omega arith)
-
-pub loop-i-preserved : goal.loop-i-preserved
-loop-i-preserved c = pass_on c.loop-i.invariant (omega arith) (omega arith)
+pub returns-in_err-kind : goal.returns-in_err-kind
+returns-in_err-kind c = c.from_residual.ensures ∙ none_there c.args.s.now (no_first c.args.s.now c.in_err-kind.ensures.value)
 
 pub returns : goal.returns
-returns c = pass_end c.loop-i.invariant (omega arith)
+returns c =
+    let l = c.args.s.now in
+    searched l c.find.result (c.blank_from.ensures.0 ∙ ap blank_from (first_is l c.in_ok-kind.ensures.value)) c.min.ensures
+    (first_from_Range _ _ _ c.find.result (λ (i : ℕ). byte l i ≡ 0 → ⊥) (λ (i : ℕ). byte l i ≡ 0) c.find.ensures.ran (λ x q k. search (rules, tests)) (λ x q k. search (rules, tests)))

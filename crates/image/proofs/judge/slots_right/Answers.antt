@@ -1,17 +1,15 @@
-use mathlib.Core.Path.{refl, sym}
-use native.Mathlib.Omega.{arith}
-use Rattle.line.proofs.Search.{true_false}
-use Rattle.image.proofs.Judging.{judge_start, judge_past, judge_end}
+use Prim.Native.Nat.{ℕ, ◌*◌, ◌+◌}
+use mathlib.Core.Path.{◌≡◌, refl}
+use lib.ListN.{drop}
+use borrow.Author.Rules.{rules}
+use Rattle.std.specs.Prelude.{None}
+use Rattle.std.proofs.lemmas.Iterator.{cases_from_all, YieldsList-from_range}
+use Rattle.image.specs.Loading.{slot_wrong}
+use Rattle.image.proofs.Judging.{all_right, right_part}
 use Rattle.image.proofs.judge.slots_right.Goals as goal
 
-pub loop-k-preserved : goal.loop-k-preserved
-loop-k-preserved c = judge_past c.loop-k.invariant (omega arith) (c.right_at.ensures c.if-right_at.true)
-
-pub returns-else-right_at : goal.returns-else-right_at
-returns-else-right_at c t = absurd (true_false t refl)
-
-pub loop-k-init : goal.loop-k-init
-loop-k-init c = judge_start 16 _
-
 pub returns : goal.returns
-returns c t = sym (judge_end c.loop-k.invariant (omega arith))
+returns c t =
+    all_right 16 c.args.image.now _ t
+    (cases_from_all _ _ c.all.result (λ (k : ℕ). slot_wrong (drop (9 + 9 * k) c.args.image.now) ≡ None) (λ (k : ℕ). Unit {0}) c.all.ensures.ran (YieldsList-from_range 0 16 16 refl refl)
+    (λ x q k. (search rules, right_part c.args.image.now (9 + 9 * x) (search rules))) (λ x q k. tt))
