@@ -1,14 +1,13 @@
 -- Sums over the lines, term by term, and what keeps them small.
-use Prim.Native.Nat.{ℕ, zero, suc, ◌+◌, ◌-◌, ◌*◌, ◌/◌, ◌≤◌, ◌<◌}
+use Prim.Native.Nat.{ℕ, zero, suc, ◌+◌, ◌-◌, ◌*◌, ◌≤◌, ◌<◌}
 use mathlib.Core.Path.{◌≡◌, refl, ap, ◌∙◌}
-use mathlib.Core.List.{[]}
-use native.Mathlib.Nat.{le_trans, mul-le-mul}
+use mathlib.Core.List.{List, []}
+use lib.ListN.{length, get_or}
+use Rattle.sums.proofs.Zipped.{line_of_four, zip_four, four_length, four_at}
 use native.Mathlib.Omega.{arith}
-use Rattle.periods.proofs.Whole.{share_le}
-use Rattle.line.specs.declared.Stream.{Stream}
-use Rattle.line.specs.Streams.{stream, share_of, claim_of, full_of}
+use Rattle.line.specs.Streams.{share_of, claim_of, full_of}
 use Rattle.sums.specs.declared.Weights.{Weights}
-use Rattle.sums.specs.Lines.{along, sum_of, most}
+use Rattle.sums.specs.Lines.{along, sum_of, line_at, lines_of, Packed}
 use Rattle.sums.specs.Weighed.{Weighs, AddedUp}
 use Rattle.sums.proofs.Along.{along_step, along_end, along_all}
 
@@ -55,55 +54,41 @@ unfolding along sum_of
 sums_none f a i zero e = refl
 sums_none f a i (suc n) e = omega (arith, e i (omega arith) (omega arith), sums_none f a (suc i) n (λ k p q. e k (omega arith) (omega arith)))
 
--- ---- what keeps them small
-
--- a share is at most the whole frame
-pub share_small : (F n p : ℕ) → F ≤ 1000000 → n ≤ p → n * (F / p) ≤ 1000000
-share_small F n p h l = le_trans (share_le n p F l) h
-
--- at most 65,536 times the longest frame
-pub product_small : (F c : ℕ) → F ≤ 1000000 → c ≤ 65536 → F * c ≤ 65536000000
-product_small F c h l = mul-le-mul {n₂ = 1000000} {m₂ = 65536} h l
-
 -- ---- the shares, claims and needs of the lines
 
-module _ (a : ℕ → Stream) (count F : ℕ) where
-  -- what has been added up of the lines below i with the frame F: shares s, claims c, needs n
-  pub record AddingUp (i s c n : ℕ) : Type 0 where
-    pub shares : Summing (share_of F) a 1000000 count i s
-    pub claims : Summing (claim_of F) a 131072000000 count i c
-    pub needs : Summing (full_of F) a 65536000000 count i n
+module _ (e c n p : List ℕ) (F : ℕ) where
+  -- what has been added up of the first i lines with the frame F
+  pub record AddingUp (i : ℕ) (w : Weights) : Type 0 where
+    pub shares : Summing (share_of F) (line_at e c n p) 1000000 (length e) i w.shares
+    pub claims : Summing (claim_of F) (line_at e c n p) 131072000000 (length e) i w.claims
+    pub needs : Summing (full_of F) (line_at e c n p) 65536000000 (length e) i w.needs
 
   -- no line is passed
-  pub up_start : AddingUp 0 0 0 0
+  pub up_start : AddingUp 0 (record { shares = 0; claims = 0; needs = 0 })
   up_start = record { shares = sum_start _ _ _ _; claims = sum_start _ _ _ _; needs = sum_start _ _ _ _ }
 
-  module _ {i s c n : ℕ} (v : AddingUp i s c n) where
+  module _ (k : Packed e c n p) {i : ℕ} {v : Weights} (u : AddingUp i v) where
     -- line i is passed
-    pub up_on : {w : Weights} → i < count → Weighs F (a i) w → AddingUp (i + 1) (s + w.shares) (c + w.claims) (n + w.needs)
-    up_on h e = record {
-      shares = sum_on v.shares h e.shares e.few;
-      claims = sum_on v.claims h e.claims e.great;
-      needs = sum_on v.needs h e.needs e.more;
-    }
+    pub up_on : {j : ℕ} {q : ((ℕ × ℕ) × ℕ) × ℕ} {w : Weights} → (i < length (zip_four e c n p)) × (q ≡ get_or (zip_four e c n p) i q) → Weighs F (line_of_four q) w
+        → j ≡ i + 1 → AddingUp j (record { shares = v.shares + w.shares; claims = v.claims + w.claims; needs = v.needs + w.needs })
+    up_on {j} {q} {w} t s g =
+        let h : i < length e = omega (arith, t.0, four_length e c n p k.same_c k.same_n k.same_p) in
+        let z : line_of_four q ≡ line_at e c n p i = ap line_of_four t.1 ∙ four_at e c n p i q k.same_c k.same_n k.same_p h in
+        let s' = rw z at s in
+        rw g
+        (record {
+          shares = sum_on u.shares h s'.shares s'.few;
+          claims = sum_on u.claims h s'.claims s'.great;
+          needs = sum_on u.needs h s'.needs s'.more;
+        })
 
     -- all lines are passed
-    pub up_end : count ≤ most → count ≤ i → AddedUp (along a 0 count) F (record { shares = s; claims = c; needs = n })
-    up_end few h = record {
-      shares = sum_end v.shares h;
-      small = omega (arith, v.shares.small, v.shares.upto);
-      claims = sum_end v.claims h;
-      needs = sum_end v.needs h;
-    }
-
--- R28, R29: the weights of a line, over the code's values: its share, what remains, what the age should have brought, and its need, each times the frame
-pub line_weighs : (F e c n p : ℕ) {s x y z : ℕ} → (s ≡ n * (F / p)) × (s ≤ 1000000) → (x ≡ F * c) × (x ≤ 65536000000) → (y ≡ s * (p - e)) × (y ≤ 65536000000)
-    → (z ≡ F * n) × (z ≤ 65536000000) → Weighs F (stream e c n p) (record { shares = s; claims = x + y; needs = z })
-line_weighs F e c n p es ex ey ez = record {
-  shares = es.0;
-  claims = omega (arith, ex.0, ey.0 ∙ ap (λ (w : ℕ). w * (p - e)) es.0);
-  needs = ez.0;
-  few = es.1;
-  great = omega arith;
-  more = ez.1;
-}
+    pub up_end : i ≡ length (zip_four e c n p) → AddedUp (lines_of e c n p) F v
+    up_end g =
+        let h : length e ≤ i = omega (arith, g, four_length e c n p k.same_c k.same_n k.same_p) in
+        record {
+          shares = sum_end u.shares h;
+          small = omega (arith, u.shares.small, u.shares.upto, k.few);
+          claims = sum_end u.claims h;
+          needs = sum_end u.needs h;
+        }

@@ -40,7 +40,7 @@ module _ {A : Type 0} (f : ℕ → A) where
       ap {B = List A} (λ l. f i ∷ l) (along_more (suc i) n ∙ ap (λ (k : ℕ). along f (suc i) n ++ (f k ∷ [])) z)
 
   -- the same, counted from one later
-  along_later : (i n : ℕ) → along f (suc i) n ≡ along (λ k. f (suc k)) i n
+  pub along_later : (i n : ℕ) → along f (suc i) n ≡ along (λ k. f (suc k)) i n
   unfolding along
   along_later i zero = refl
   along_later i (suc n) = ap {B = List A} (λ l. f (suc i) ∷ l) (along_later (suc i) n)

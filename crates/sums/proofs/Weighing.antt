@@ -1,15 +1,15 @@
 -- What it is for lines to be fit, computed, and which case of `weighed` holds, by the tests that the code makes.
-use Prim.Native.Nat.{ℕ, zero, suc, ◌+◌, ◌-◌, ◌*◌, ◌/◌, ◌≤◌, ◌<◌}
+use Prim.Native.Nat.{ℕ, zero, suc, ◌+◌, ◌*◌, ◌/◌, ◌≤◌, ◌<◌}
 use mathlib.Core.Path.{◌≡◌, refl, sym, ap, ◌∙◌}
 use mathlib.Core.Bool.{Bool, true, false, not}
-use mathlib.Core.Logic.{◌⊎◌, inl, inr}
 use mathlib.Core.List.{List, [], ◌∷◌}
 use native.Mathlib.Omega.{arith}
 use native.Mathlib.Decide.{dec_le}
 use lib.Dec.{leb}
 use lib.ListN.{length, get_or}
-use borrow.Author.Tests.{lt-ltb, le-ltb, le-leb, lt-leb, leb-true, eqb-true, not-true, not-false}
-use Rattle.periods.specs.Multiples.{All, frame_of, CappedFrame}
+use Rattle.std.specs.List.{list_all}
+use borrow.Author.Tests.{leb-false, lt-ltb, le-ltb, le-leb, lt-leb, leb-true, eqb-true}
+use Rattle.periods.specs.Multiples.{All, frame_of, capped, CappedFrame}
 use Rattle.line.specs.declared.Stream.{Stream}
 use Rattle.line.specs.Slots.{pick, both}
 use Rattle.line.specs.Streams.{share_of, claim_of, full_of}
@@ -18,7 +18,8 @@ use Rattle.line.proofs.Sound.{both_says}
 use Rattle.sums.specs.declared.Weights.{Weights}
 use Rattle.sums.specs.Lines.{along, sum_of, all_of, line_at, lines_of, alike, most, Fit, Packed}
 use Rattle.sums.specs.Weighed.{is_fit, fitting, AddedUp, periods_of, weighed_fit, weighed, fitting_in, weighed_in}
-use Rattle.sums.proofs.Along.{along_step, along_end, along_all, along_length, along_every, along_map, along_list}
+use Rattle.sums.proofs.Zipped.{line_of_four, zip_four, zipped, list_all_of}
+use Rattle.sums.proofs.Along.{along_length, along_every, along_map, along_list}
 
 -- ---- one line, and all of them
 
@@ -65,15 +66,11 @@ module _ (test : Stream → Bool) (a : ℕ → Stream) where
         | no m ↦ let z : k ≡ i = omega arith in rw z b.0
       ]
 
-  all_step : (i n : ℕ) → i < n → all_of test (along a i (n - i)) ≡ both (test (a i)) (all_of test (along a (i + 1) (n - (i + 1))))
-  unfolding all_of
-  all_step i n h = ap (all_of test) (along_step a i n h)
-
-  all_end : (i n : ℕ) → n ≤ i → all_of test (along a i (n - i)) ≡ true
-  unfolding all_of
-  all_end i n h = ap (all_of test) (along_end a i n h)
-
 -- ---- the lines of four slices
+
+both_not : (a : Bool) → both a false ≡ false
+both_not true = refl
+both_not false = refl
 
 module _ (e c n p : List ℕ) where
   abbrev whole : Bool
@@ -106,67 +103,26 @@ module _ (e c n p : List ℕ) where
         each = λ k h. fit_says _ (all_says is_fit (line_at e c n p) 0 (length e) f.1 k (omega arith) (omega arith));
       }
 
-  -- the lines below i are fit: those left say whether all are
-  pub record FitTo (i : ℕ) : Type 0 where
-    pub known : alike e c n p ≡ true
-    pub same_c : length c ≡ length e
-    pub same_n : length n ≡ length e
-    pub same_p : length p ≡ length e
-    pub few : length e ≤ most
-    pub upto : i ≤ length e
-    pub left : all_of is_fit (along (line_at e c n p) i (length e - i)) ≡ whole
+  -- the slices differ in length
+  pub fit_apart : {b v : Bool} → b ≡ alike e c n p → b ≡ false → v ≡ b → v ≡ fitting_in e c n p
+  fit_apart t m h = rw (h, m, sym t ∙ m)
 
-  module _ {b : Bool} (t : b ≡ alike e c n p) where
-    -- the slices differ in length
-    pub fit_apart : not b ≡ true → false ≡ fitting_in e c n p
-    fit_apart m = rw (sym t ∙ not-true b m)
+  -- there are too many lines
+  pub fit_many : {v : Bool} → v ≡ leb (length e) most → v ≡ false → v ≡ fitting_in e c n p
+  fit_many {v} t m =
+      let few = fitting_many (omega (arith, leb-false (length e) most (sym t ∙ m))) in
+      rw (m, few) (sym (both_not (alike e c n p)))
 
-    module _ (m : not b ≡ false) where
-      -- there are too many lines
-      pub fit_many : most < length e → false ≡ fitting_in e c n p
-      fit_many h = rw (sym t ∙ not-false b m, fitting_many h)
-
-      -- none is passed
-      pub fit_start : length e ≤ most → FitTo 0
-      fit_start h =
-          let a = both_says _ _ (sym t ∙ not-false b m) in
-          let d = both_says _ _ a.1 in
-          record {
-            known = sym t ∙ not-false b m;
-            same_c = eqb-true _ _ a.0;
-            same_n = eqb-true _ _ d.0;
-            same_p = eqb-true _ _ d.1;
-            few = h;
-            upto = omega arith;
-            left = ap (all_of is_fit) (along_all (line_at e c n p) (length e));
-          }
-
-  module _ {i : ℕ} (v : FitTo i) where
-    module _ {b : Bool} (h : i < length e) (t : b ≡ is_fit (line_at e c n p i)) where
-      -- line i is fit too
-      pub fit_on : not b ≡ false → FitTo (i + 1)
-      fit_on m = record {
-        known = v.known;
-        same_c = v.same_c;
-        same_n = v.same_n;
-        same_p = v.same_p;
-        few = v.few;
-        upto = omega arith;
-        left = sym (all_step is_fit (line_at e c n p) i (length e) h ∙ rw (sym t ∙ not-false b m)) ∙ v.left;
-      }
-
-      -- line i is not fit
-      pub fit_stop : not b ≡ true → false ≡ fitting_in e c n p
-      fit_stop m =
-          rw (v.known, fitting_few v.few, sym v.left, all_step is_fit (line_at e c n p) i (length e) h, sym t ∙ not-true b m)
-
-    -- all of them are fit
-    pub fit_end : length e ≤ i → true ≡ fitting_in e c n p
-    fit_end h = rw (v.known, fitting_few v.few, sym v.left, all_end is_fit (line_at e c n p) i (length e) h)
-
-  -- the code's test says fit
-  pub fit_test_says : {b : Bool} → b ≡ fitting_in e c n p → not b ≡ false → Packed e c n p
-  fit_test_says t m = packed_says (sym t ∙ not-false _ m)
+  -- each line is tested
+  pub fit_each : {b v r : Bool} → b ≡ alike e c n p → b ≡ true → v ≡ leb (length e) most → v ≡ true → r ≡ list_all (λ q. is_fit (line_of_four q)) (zip_four e c n p)
+      → r ≡ fitting_in e c n p
+  fit_each t m u k h =
+      let a = both_says _ _ (sym t ∙ m) in
+      let d = both_says _ _ a.1 in
+      rw (sym t ∙ m, fitting_few (leb-true (length e) most (sym u ∙ k)), h)
+      (list_all_of is_fit line_of_four (zip_four e c n p)
+      ∙ ap (all_of is_fit) (zipped e c n p (eqb-true _ _ a.0) (eqb-true _ _ d.0) (eqb-true _ _ d.1))
+      )
 
   -- R24, R25, R3: all lines of slices that are fit
   pub packed_all : Packed e c n p → All Fit (lines_of e c n p)
@@ -178,48 +134,26 @@ module _ (e c n p : List ℕ) where
 
 -- ---- R27 to R29
 
-module _ (l : List Stream) (F Cn Tn : ℕ) (h : F ≤ 1000000) where
-  in_8 : F < sum_of (share_of F) l + Cn * (F / Tn) → 8 ≡ weighed_fit l F Cn Tn
+module _ (l : List Stream) (F Cn Tn : ℕ) where
+  in_7 : 1000000 < F → 7 ≡ weighed_fit l F Cn Tn
   unfolding weighed_fit
-  in_8 k = rw (le-ltb 1000000 F h, lt-ltb F (sum_of (share_of F) l + Cn * (F / Tn)) k)
+  in_7 h = rw (lt-ltb 1000000 F h)
 
-  module _ (k : sum_of (share_of F) l + Cn * (F / Tn) ≤ F) where
-    in_9 : sum_of (full_of F) l < sum_of (claim_of F) l → 9 ≡ weighed_fit l F Cn Tn
+  module _ (h : F ≤ 1000000) where
+    in_8 : F < sum_of (share_of F) l + Cn * (F / Tn) → 8 ≡ weighed_fit l F Cn Tn
     unfolding weighed_fit
-    in_9 j =
-        rw (le-ltb 1000000 F h, le-ltb F (sum_of (share_of F) l + Cn * (F / Tn)) k, lt-ltb (sum_of (full_of F) l) (sum_of (claim_of F) l) j)
+    in_8 k = rw (le-ltb 1000000 F h, lt-ltb F (sum_of (share_of F) l + Cn * (F / Tn)) k)
 
-    in_0 : sum_of (claim_of F) l ≤ sum_of (full_of F) l → 0 ≡ weighed_fit l F Cn Tn
-    unfolding weighed_fit
-    in_0 j =
-        rw (le-ltb 1000000 F h, le-ltb F (sum_of (share_of F) l + Cn * (F / Tn)) k, le-ltb (sum_of (full_of F) l) (sum_of (claim_of F) l) j)
+    module _ (k : sum_of (share_of F) l + Cn * (F / Tn) ≤ F) where
+      in_9 : sum_of (full_of F) l < sum_of (claim_of F) l → 9 ≡ weighed_fit l F Cn Tn
+      unfolding weighed_fit
+      in_9 j =
+          rw (le-ltb 1000000 F h, le-ltb F (sum_of (share_of F) l + Cn * (F / Tn)) k, lt-ltb (sum_of (full_of F) l) (sum_of (claim_of F) l) j)
 
--- the same over the code's values: f is the capped frame, w what the lines add up to, and new the new line's share
-module _ (l : List Stream) (ps : List ℕ) (Cn Tn : ℕ) {f : ℕ} (ef : CappedFrame (Tn ∷ ps) f) where
-  abbrev F : ℕ
-  F = frame_of (Tn ∷ ps)
-
-  -- R27: the frame is too long
-  pub weigh_7 : 1000000 < f → 7 ≡ weighed_fit l F Cn Tn
-  unfolding weighed_fit
-  weigh_7 h = rw (lt-ltb 1000000 F (omega (arith, ef.value)))
-
-  module _ (h : f ≤ 1000000) {w : Weights} {new : ℕ} (a : AddedUp l f w) (en : new ≡ Cn * (f / Tn)) where
-    to_frame : weighed_fit l f Cn Tn ≡ weighed_fit l F Cn Tn
-    to_frame = let z : f ≡ F = omega (arith, ef.value) in ap (λ (x : ℕ). weighed_fit l x Cn Tn) z
-
-    -- R28: the shares are above the whole
-    pub weigh_8 : f < w.shares + new → 8 ≡ weighed_fit l F Cn Tn
-    weigh_8 k = in_8 l f Cn Tn h (omega (arith, a.shares)) ∙ to_frame
-
-    module _ (k : w.shares + new ≤ f) where
-      -- R29: the claims are above the needs
-      pub weigh_9 : w.needs < w.claims → 9 ≡ weighed_fit l F Cn Tn
-      weigh_9 j = in_9 l f Cn Tn h (omega (arith, a.shares)) (omega (arith, a.needs, a.claims)) ∙ to_frame
-
-      -- none of the three holds
-      pub weigh_0 : w.claims ≤ w.needs → 0 ≡ weighed_fit l F Cn Tn
-      weigh_0 j = in_0 l f Cn Tn h (omega (arith, a.shares)) (omega (arith, a.needs, a.claims)) ∙ to_frame
+      in_0 : sum_of (claim_of F) l ≤ sum_of (full_of F) l → 0 ≡ weighed_fit l F Cn Tn
+      unfolding weighed_fit
+      in_0 j =
+          rw (le-ltb 1000000 F h, le-ltb F (sum_of (share_of F) l + Cn * (F / Tn)) k, le-ltb (sum_of (full_of F) l) (sum_of (claim_of F) l) j)
 
 -- ---- the whole ladder
 
@@ -237,28 +171,65 @@ fit_is false f z x e = absurd (true_false e refl)
 
 module _ (e c n p : List ℕ) (Cn Tn : ℕ) {b : Bool} (eb : b ≡ fitting_in e c n p) where
   -- R24: the lines are not fit
-  pub weigh_4 : not b ≡ true → 4 ≡ weighed_in e c n p Cn Tn
+  pub weigh_4 : b ≡ false → 4 ≡ weighed_in e c n p Cn Tn
   unfolding weighed
-  weigh_4 m = unfit_is (alike e c n p) (fitting (lines_of e c n p)) 4 _ (sym eb ∙ not-true b m)
+  weigh_4 m = unfit_is (alike e c n p) (fitting (lines_of e c n p)) 4 _ (sym eb ∙ m)
 
-  module _ (h : not b ≡ false) where
-    past_4 : {r : ℕ} → r ≡ pick (not (both (leb 1 Cn) (leb Cn Tn))) 6 (weighed_fit (lines_of e c n p) (frame_of (Tn ∷ periods_of (lines_of e c n p))) Cn Tn) → r ≡ weighed_in e c n p Cn Tn
+  module _ (m : b ≡ true) where
+    -- R24: what is then known of the lines
+    pub weigh_known : Packed e c n p
+    weigh_known = packed_says e c n p (sym eb ∙ m)
+
+    past_4 : {r : ℕ} → r ≡ pick (not (both (leb 1 Cn) (leb Cn Tn))) 6 (weighed_fit (lines_of e c n p) (frame_of (Tn ∷ periods_of (lines_of e c n p))) Cn Tn)
+        → r ≡ weighed_in e c n p Cn Tn
     unfolding weighed
-    past_4 q = q ∙ fit_is (alike e c n p) (fitting (lines_of e c n p)) 4 _ (sym eb ∙ not-false b h)
+    past_4 q = q ∙ fit_is (alike e c n p) (fitting (lines_of e c n p)) 4 _ (sym eb ∙ m)
 
-    -- R26: the new line does not fit its period
-    pub weigh_6 : ((1 ≤ Cn) × (Tn < Cn)) ⊎ (Cn < 1) → 6 ≡ weighed_in e c n p Cn Tn
-    weigh_6 (inl l) = past_4 (rw (le-leb 1 Cn l.0, lt-leb Cn Tn l.1) refl)
-    weigh_6 (inr l) = past_4 (rw (lt-leb 1 Cn l) refl)
+    module _ {q : Bool} (eq : q ≡ both (leb 1 Cn) (leb Cn Tn)) where
+      -- R26: the new line does not fit its period
+      pub weigh_6 : q ≡ false → 6 ≡ weighed_in e c n p Cn Tn
+      weigh_6 h = past_4 (rw (sym eq ∙ h))
 
-    module _ (k : (1 ≤ Cn) × (Cn ≤ Tn)) where
-      -- R24, R26: what is then known of the lines and of the new one
-      pub weigh_known : Packed e c n p × (1 ≤ Cn) × (Cn ≤ Tn)
-      weigh_known = (fit_test_says e c n p eb h, k.0, k.1)
+      -- the others, over the code's values: x and t for the new line, f the capped frame, w what the lines add up to, and new the new line's share
+      module _ (h : q ≡ true) where
+        -- R26: what is then known of the new line
+        pub weigh_fits : (1 ≤ Cn) × (Cn ≤ Tn)
+        weigh_fits = let s = both_says _ _ (sym eq ∙ h) in (leb-true _ _ s.0, leb-true _ _ s.1)
 
-      -- R18: past both, the first of the others
-      pub weigh_on : {r : ℕ} → r ≡ weighed_fit (lines_of e c n p) (frame_of (Tn ∷ p)) Cn Tn → r ≡ weighed_in e c n p Cn Tn
-      weigh_on q = past_4 (rw (le-leb 1 Cn k.0, le-leb Cn Tn k.1, periods_are e c n p weigh_known.0.same_p) q)
+        module _ {x t f : ℕ} (ex : x ≡ Cn) (et : t ≡ Tn) (ef : CappedFrame (t ∷ p) f) where
+          abbrev F : ℕ
+          F = frame_of (Tn ∷ p)
+
+          -- R18: past both, the first of the others
+          past_6 : {r : ℕ} → r ≡ weighed_fit (lines_of e c n p) F Cn Tn → r ≡ weighed_in e c n p Cn Tn
+          past_6 s = past_4 (rw (sym eq ∙ h, periods_are e c n p weigh_known.same_p) s)
+
+          frame_is : f ≡ capped F
+          frame_is = rw et at ef.value
+
+          -- R27: the frame is too long
+          pub weigh_7 : 1000000 < f → 7 ≡ weighed_in e c n p Cn Tn
+          weigh_7 g = past_6 (in_7 (lines_of e c n p) F Cn Tn (omega (arith, frame_is)))
+
+          module _ (g : f ≤ 1000000) {w : Weights} {new : ℕ} (a : AddedUp (lines_of e c n p) f w) (en : new ≡ x * (f / t)) where
+            within : {r : ℕ} → r ≡ weighed_fit (lines_of e c n p) f Cn Tn → r ≡ weighed_in e c n p Cn Tn
+            within s = let z : f ≡ F = omega (arith, frame_is) in past_6 (rw z at s)
+
+            new_is : new ≡ Cn * (f / Tn)
+            new_is = rw (ex, et) at en
+
+            -- R28: the shares are above the whole
+            pub weigh_8 : f < w.shares + new → 8 ≡ weighed_in e c n p Cn Tn
+            weigh_8 j = within (in_8 (lines_of e c n p) f Cn Tn g (omega (arith, a.shares, new_is)))
+
+            module _ (j : w.shares + new ≤ f) where
+              -- R29: the claims are above the needs
+              pub weigh_9 : w.needs < w.claims → 9 ≡ weighed_in e c n p Cn Tn
+              weigh_9 i = within (in_9 (lines_of e c n p) f Cn Tn g (omega (arith, a.shares, new_is)) (omega (arith, a.needs, a.claims)))
+
+              -- none of them holds
+              pub weigh_0 : w.claims ≤ w.needs → 0 ≡ weighed_in e c n p Cn Tn
+              weigh_0 i = within (in_0 (lines_of e c n p) f Cn Tn g (omega (arith, a.shares, new_is)) (omega (arith, a.needs, a.claims)))
 
 pick_none : (b m : Bool) (n : ℕ) → pick (not b) 4 (pick (not m) 6 n) ≡ 0 → m ≡ true
 pick_none true true n e = refl

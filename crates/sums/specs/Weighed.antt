@@ -1,10 +1,12 @@
 -- Whether lines are fit, computed, and the first of the grounds that their sums decide.
-use Rattle.std.specs.Prelude.{ℕ, ◌+◌, ◌*◌, ◌/◌, ◌≤◌, ◌≡◌, Bool, not, List, ◌∷◌, map, ltb, leb, length}
+use Rattle.std.specs.Prelude.{Result, Ok, Err, ℕ, ◌+◌, ◌*◌, ◌/◌, ◌≤◌, ◌≡◌, Bool, not, List, ◌∷◌, map, ltb, leb, length}
 use Rattle.periods.specs.Multiples.{frame_of}
 use Rattle.line.specs.declared.Stream.{Stream}
 use Rattle.line.specs.Slots.{pick, both}
 use Rattle.line.specs.Streams.{share_of, claim_of, full_of}
 use Rattle.sums.specs.declared.Weights.{Weights}
+use Rattle.sums.specs.declared.Ground.{Ground}
+use Rattle.sums.specs.declared.Ground.TheVariants.{Unfit, Misfit, Wide, Overload, Behind}
 use Rattle.sums.specs.Lines.{sum_of, all_of, lines_of, alike, most, longest}
 
 -- R24, R25, R3: `Fit`, computed
@@ -36,6 +38,19 @@ pub record AddedUp (l : List Stream) (F : ℕ) (w : Weights) : Type 0 where
 -- R8: the periods that the frame is made of, but for Tn
 abbrev pub periods_of : List Stream → List ℕ
 periods_of l = map (λ (x : Stream). x.period) l
+
+-- R17: the number of a ground
+abbrev pub number : Ground → ℕ
+number Unfit = 4
+number Misfit = 6
+number Wide = 7
+number Overload = 8
+number Behind = 9
+
+-- R17: the number of what was found, or 0 where no ground holds
+abbrev pub number_of : Result (Unit {0}) Ground → ℕ
+number_of (Ok x) = 0
+number_of (Err g) = number g
 
 -- R18, R27, R28, R29: the first that holds with the frame F, or 0
 unfoldable pub weighed_fit : List Stream → (F Cn Tn : ℕ) → ℕ

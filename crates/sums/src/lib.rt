@@ -1,12 +1,11 @@
 // Lines gathered as slices of numbers: whether they are fit, their frame (R8), and the grounds that their sums decide, every term taken times the frame (R16).
 #![tactic(auto)]
 
-ghost use Rattle.std.specs.Prelude.{◌≡◌, ◌∷◌, ◌*◌, ◌/◌, ◌≤◌};
-ghost use Rattle.periods.specs.Multiples.{frame_of};
+ghost use Rattle.std.specs.Prelude.{◌≡◌, ◌*◌, ◌/◌, ◌≤◌, leb};
 ghost use Rattle.line.specs.Slots.{both};
 ghost use Rattle.line.specs.Streams.{stream};
 ghost use Rattle.sums.specs.Lines.{alike, lines_of, Fit, Packed};
-ghost use Rattle.sums.specs.Weighed.{is_fit, fitting_in, Weighs, AddedUp, weighed_fit, weighed_in};
+ghost use Rattle.sums.specs.Weighed.{is_fit, fitting_in, number, number_of, Weighs, AddedUp, weighed_in};
 
 // R27: the longest frame allowed
 const LIMIT: u64 = 1_000_000;
@@ -17,6 +16,45 @@ pub const MOST: usize = 16;
 // R3: the longest time from one end of a line to the next: above every period, so that a line's second end can lie behind every first one
 pub const LONGEST: u32 = 65_536;
 
+// R17: the grounds that the lines and their sums decide.
+#[derive(Clone, Copy, Debug, PartialEq, Eq)]
+pub enum Ground {
+    Unfit, // R24: the lines are not fit
+    Misfit, // R26
+    Wide, // R27
+    Overload, // R28
+    Behind, // R29
+}
+
+// R17: a ground's number
+impl From<Ground> for u16 {
+    ghost from_gives = { λ g n. n ≡ number g };
+
+    fn from(g: Ground) -> u16 {
+        match g {
+            Ground::Unfit => 4,
+            Ground::Misfit => 6,
+            Ground::Wide => 7,
+            Ground::Overload => 8,
+            Ground::Behind => 9,
+        }
+    }
+}
+
+// R24, R25, R3: a line's numbers agree with each other
+fn line_fits(end: u32, remaining: u32, need: u32, span: u32) -> bool
+    ensures { result ≡ is_fit (stream end remaining need span) }
+{
+    remaining <= need && end <= span && need <= span && (1..=LONGEST).contains(&span)
+}
+
+// R26: the new line's need lies from 1 to its period
+pub fn fits_period(need: u16, period: u16) -> bool
+    ensures { result ≡ both (leb 1 need) (leb need period) }
+{
+    (1..=period).contains(&need)
+}
+
 // R28, R29: shares, claims and whole needs, of one line or of all, times the frame.
 #[derive(Clone, Copy)]
 struct Weights {
@@ -25,11 +63,44 @@ struct Weights {
     needs: u64,
 }
 
-// R24, R25, R3: a line's numbers agree with each other
-fn line_fits(end: u32, remaining: u32, need: u32, span: u32) -> bool
-    ensures { result ≡ is_fit (stream end remaining need span) }
-{
-    remaining <= need && end <= span && need <= span && 1 <= span && span <= LONGEST
+// R16, R27: the frame, or a share of it: at most the longest frame.
+#[derive(Clone, Copy)]
+struct Part {
+    ticks: u64,
+    ghost within: { ticks ≤ 1000000 },
+}
+
+impl Part {
+    // R16, R28: C/T', times the frame
+    fn share(self, need: u32, period: u32) -> Part
+        requires { (1 ≤ period) × (need ≤ period) }
+        ensures { result.ticks ≡ need * (self.ticks / period) }
+    {
+        Part {
+            ticks: u64::from(need) * (self.ticks / u64::from(period)),
+        }
+    }
+
+    // R16, R29: n ticks, times the frame or a share of it
+    fn times(self, n: u32) -> u64
+        requires { n ≤ 65536 }
+        ensures { (result ≡ self.ticks * n) × (result ≤ 65536000000) }
+    {
+        self.ticks * u64::from(n)
+    }
+
+    // R28, R29: one line's share, claim and need, each times the frame; the age is what the first end leaves of the period.
+    fn line_weights(self, end: u32, remaining: u32, need: u32, period: u32) -> Weights
+        requires { Fit (stream end remaining need period) }
+        ensures { Weighs self.ticks (stream end remaining need period) result }
+    {
+        let share = self.share(need, period);
+        Weights {
+            shares: share.ticks,
+            claims: self.times(remaining) + share.times(period - end),
+            needs: self.times(need),
+        }
+    }
 }
 
 // R9: lines gathered, counted from the clock: line k has the k-th number of each slice: its first end, what remains of its need, its need, and its
@@ -56,132 +127,65 @@ impl<'a> Lines<'a> {
     pub fn fits(self) -> bool
         ensures { result ≡ fitting_in self.entry.ends.now self.entry.remaining.now self.entry.needs.now self.entry.spans.now }
     {
-        if !self.same_length() || self.ends.len() > MOST {
-            return false;
+        self.same_length()
+            && self.ends.len() <= MOST
+            && self
+                .ends
+                .iter()
+                .zip(self.remaining)
+                .zip(self.needs)
+                .zip(self.spans)
+                .all(|(((end, remaining), need), span)| line_fits(*end, *remaining, *need, *span))
+    }
+
+    // R28, R29: the lines' shares, claims and needs, each added up
+    fn add_up(self, frame: Part) -> Weights
+        requires { Packed self.ends.now self.remaining.now self.needs.now self.spans.now }
+        ensures { AddedUp (lines_of self.entry.ends.now self.entry.remaining.now self.entry.needs.now self.entry.spans.now) frame.ticks result }
+    {
+        let mut all = Weights {
+            shares: 0,
+            claims: 0,
+            needs: 0,
+        };
+        for (((end, remaining), need), period) in self
+            .ends
+            .iter()
+            .zip(self.remaining)
+            .zip(self.needs)
+            .zip(self.spans)
+        {
+            let w = frame.line_weights(*end, *remaining, *need, *period);
+            all.shares += w.shares;
+            all.claims += w.claims;
+            all.needs += w.needs;
         }
-        for i in 0..self.ends.len() {
-            if !line_fits(
-                self.ends[i],
-                self.remaining[i],
-                self.needs[i],
-                self.spans[i],
-            ) {
-                return false;
-            }
+        all
+    }
+
+    // R18, R26 to R29: the first ground that holds of the lines and a new one, whose spans are their periods
+    pub fn weigh(self, need: u16, period: u16) -> Result<(), Ground>
+        ensures { number_of result ≡ weighed_in self.entry.ends.now self.entry.remaining.now self.entry.needs.now self.entry.spans.now need period }
+    {
+        if !self.fits() {
+            return Err(Ground::Unfit);
         }
-        true
+        if !fits_period(need, period) {
+            return Err(Ground::Misfit);
+        }
+        let (need, period) = (u32::from(need), u32::from(period));
+        let ticks = periods::frame(period, self.spans);
+        if ticks > LIMIT {
+            return Err(Ground::Wide);
+        }
+        let frame = Part { ticks };
+        let all = self.add_up(frame);
+        if all.shares + frame.share(need, period).ticks > ticks {
+            return Err(Ground::Overload);
+        }
+        if all.claims > all.needs {
+            return Err(Ground::Behind);
+        }
+        Ok(())
     }
-}
-
-// R16, R28: C/T', times the frame.
-fn share(frame: u64, need: u32, period: u32) -> u64
-    requires { (frame ≤ 1000000) × (1 ≤ period) × (need ≤ period) }
-    ensures { (result ≡ need * (frame / period)) × (result ≤ 1000000) }
-{
-    need as u64 * (frame / period as u64)
-}
-
-// R16, R29: n ticks, times the frame or a share of it
-fn times(x: u64, n: u32) -> u64
-    requires { (x ≤ 1000000) × (n ≤ 65536) }
-    ensures { (result ≡ x * n) × (result ≤ 65536000000) }
-{
-    x * n as u64
-}
-
-// R28, R29: one line's share, claim and need, each times the frame; the age is what the first end leaves of the period.
-fn line_weights(frame: u64, end: u32, remaining: u32, need: u32, period: u32) -> Weights
-    requires { (frame ≤ 1000000) × Fit (stream end remaining need period) }
-    ensures { Weighs frame (stream end remaining need period) result }
-{
-    let part = share(frame, need, period);
-    let claim = times(frame, remaining) + times(part, period - end);
-    let full = times(frame, need);
-    Weights {
-        shares: part,
-        claims: claim,
-        needs: full,
-    }
-}
-
-// R28, R29: the lines' shares, claims and needs, each added up
-fn add_up<'a>(
-    frame: u64,
-    ends: &'a [u32],
-    remaining: &'a [u32],
-    needs: &'a [u32],
-    periods: &'a [u32],
-) -> Weights
-    requires { Packed ends.now remaining.now needs.now periods.now × (frame ≤ 1000000) }
-    ensures { AddedUp (lines_of ends.now remaining.now needs.now periods.now) frame result }
-{
-    let mut shares: u64 = 0;
-    let mut claims: u64 = 0;
-    let mut fulls: u64 = 0;
-    let mut i: usize = 0;
-    while i < ends.len() {
-        let w = line_weights(frame, ends[i], remaining[i], needs[i], periods[i]);
-        shares = shares + w.shares;
-        claims = claims + w.claims;
-        fulls = fulls + w.needs;
-        i = i + 1;
-    }
-    Weights {
-        shares: shares,
-        claims: claims,
-        needs: fulls,
-    }
-}
-
-// R27, R28, R29: the first that holds of lines that are fit, and a new line that fits its period; 0 where none does
-fn weigh_fit<'a>(
-    ends: &'a [u32],
-    remaining: &'a [u32],
-    needs: &'a [u32],
-    periods: &'a [u32],
-    need: u16,
-    period: u16,
-) -> u16
-    requires { Packed ends.now remaining.now needs.now periods.now × (1 ≤ need) × (need ≤ period) }
-    ensures { result ≡ weighed_fit (lines_of ends.now remaining.now needs.now periods.now) (frame_of (period ∷ periods.now)) need period }
-{
-    let f = periods::frame(period as u32, periods);
-    if f > LIMIT {
-        return 7;
-    }
-    let w = add_up(f, ends, remaining, needs, periods);
-    let shares = w.shares + share(f, need as u32, period as u32);
-    if shares > f {
-        return 8;
-    }
-    if w.claims > w.needs {
-        return 9;
-    }
-    0
-}
-
-// R18, R26 to R29: the number of the first ground that holds, of 4 (the lines are not fit) and 6 to 9; 0 where none does
-pub fn weigh<'a>(
-    ends: &'a [u32],
-    remaining: &'a [u32],
-    needs: &'a [u32],
-    periods: &'a [u32],
-    need: u16,
-    period: u16,
-) -> u16
-    ensures { result ≡ weighed_in ends.now remaining.now needs.now periods.now need period }
-{
-    let l = Lines {
-        ends,
-        remaining,
-        needs,
-        spans: periods,
-    };
-    if !l.fits() {
-        return 4;
-    }
-    if !(1 <= need && need <= period) {
-        return 6;
-    }
-    weigh_fit(ends, remaining, needs, periods, need, period)
 }
