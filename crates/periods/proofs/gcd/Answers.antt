@@ -1,19 +1,12 @@
 use native.Mathlib.Omega.{arith}
-use native.Mathlib.Nat.{mod-lt}
 use Prim.Native.Nat.{ℕ}
-use mathlib.Core.Path.{◌≡◌, refl, ap, sym, ◌∙◌}
+use mathlib.Core.Path.{◌≡◌, ap, sym, ◌∙◌}
 use Rattle.periods.specs.Multiples.{gcd_of, IsGcd}
 use Rattle.periods.proofs.GcdLcm.{gcd_is, gcd_zero, gcd_turn}
 use Rattle.periods.proofs.gcd.Goals as goal
 
-pub loop-y-init : goal.loop-y-init
-loop-y-init c = refl
-
-pub loop-y-smaller : goal.loop-y-smaller
-loop-y-smaller c = mod-lt c.loop-y.x (omega arith)
-
-pub loop-y-preserved : goal.loop-y-preserved
-loop-y-preserved c = sym (gcd_turn c.loop-y.x c.loop-y.y (omega arith)) ∙ c.loop-y.invariant
+pub loop-b-preserved : goal.loop-b-preserved
+loop-b-preserved c = sym (gcd_turn c.loop-b.a c.loop-b.b (omega arith)) ∙ c.loop-b.invariant
 
 -- what equals gcd_of a b is what it is
 answer : (a b r : ℕ) → r ≡ gcd_of a b → IsGcd a b r × (r ≡ gcd_of a b)
@@ -21,6 +14,6 @@ answer a b r e = (rw e (gcd_is a b), e)
 
 pub returns : goal.returns
 returns c =
-    let x = c.loop-y.x in
+    let x = c.loop-b.a in
     answer c.args.a c.args.b x
-    (sym (gcd_zero x) ∙ ap (gcd_of x) (sym c.loop-y-test.false) ∙ c.loop-y.invariant)
+    (sym (gcd_zero x) ∙ ap (gcd_of x) (sym c.loop-b-test.false) ∙ c.loop-b.invariant)

@@ -3,8 +3,8 @@ use mathlib.Core.Path.{◌≡◌}
 use Rattle.periods.specs.Multiples.{gcd_of}
 use Rattle.periods.proofs.gcd.Given as goal
 
-abbrev pub invariant-loop-y : goal.invariant-loop-y
-invariant-loop-y l = gcd_of l.x l.y ≡ gcd_of l.a l.b
+abbrev pub invariant-loop-b : goal.invariant-loop-b
+invariant-loop-b l = gcd_of l.a l.b ≡ gcd_of l.fn.a l.fn.b
 
-abbrev pub decreases-loop-y : goal.decreases-loop-y
-decreases-loop-y l = l.y
+abbrev pub decreases-loop-b : goal.decreases-loop-b
+decreases-loop-b l = l.b
