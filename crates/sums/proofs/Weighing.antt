@@ -88,7 +88,7 @@ module _ (e c n p : List ℕ) where
   few_says t = omega (arith, leb-true (length (lines_of e c n p)) most t, along_length (line_at e c n p) 0 (length e))
 
   -- R24, R25, R3: what is known where the test says fit
-  packed_says : fitting_in e c n p ≡ true → Packed e c n p
+  pub packed_says : fitting_in e c n p ≡ true → Packed e c n p
   unfolding fitting
   packed_says t =
       let b = both_says _ _ t in
