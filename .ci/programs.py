@@ -166,7 +166,7 @@ def common_calls(script, usage):
         called([script, '--help'], 2, stdout=full)
 
 
-def try_versions(name, crates, run, stated, beside):
+def try_versions(name, run, stated, beside):
     """Every wrong version of a program must be proved and differ; `beside` is done at the same time."""
     def version_differs(path):
         version = os.path.basename(path)[:-5]
@@ -178,7 +178,7 @@ def try_versions(name, crates, run, stated, beside):
             return version, [], built.stderr.decode()
         return version, differences(run + [program(name, folder)], stated), 'does not differ'
 
-    versions = sorted(path for crate in crates for path in glob.glob('crates/%s/must-differ/*.edit' % crate))
+    versions = sorted(glob.glob('crates/%s/must-differ/*.edit' % name))
     if not versions:
         wrong.append('there is no wrong version to try')
     with concurrent.futures.ThreadPoolExecutor(os.cpu_count()) as pool:
