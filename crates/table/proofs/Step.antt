@@ -6,7 +6,7 @@ use mathlib.Core.Bool.{Bool, true, false}
 use mathlib.Core.List.{List, [], ◌∷◌, map}
 use native.Mathlib.Omega.{arith}
 use native.Mathlib.Nat.{suc_inj}
-use borrow.Author.Tests.{le-leb, lt-leb, eqb-true, eqb-false, eq-eqb, ne_eqb}
+use borrow.Author.Tests.{eqb-true, eqb-false}
 use lib.Dec.{leb, eqb}
 use lib.ListN.{length, get_or, set, length-set}
 use lib.Seq.{get_or-set_same, get_or-set_other}
@@ -57,16 +57,6 @@ clocked k t = record { clock = k; slots = t.slots; had = t.had; idle = t.idle; d
 pub length_serve : (o : Option ℕ) (l : List Slot) → length (serve o l) ≡ length l
 length_serve None l = refl
 length_serve (Some k) l = length-set l k (served_slot (slot_at l k))
-
--- slot i, which holds s, and the slot that the code names
-module _ {w : Option ℕ} {k i : ℕ} (s : Slot) (e : w ≡ Some k) where
-  -- R45: it is named
-  pub served_here : k ≡ i → served_slot s ≡ served_at w i s
-  served_here z = rw (e, eq-eqb k i z)
-
-  -- R45: another is named
-  pub served_other : (k ≡ i → ⊥) → s ≡ served_at w i s
-  served_other n = rw (e, ne_eqb k i n)
 
 -- R45: slot i of those among which one is served
 at_serve : (o : Option ℕ) (l : List Slot) (i : ℕ) → i < length l → slot_at (serve o l) i ≡ served_at o i (slot_at l i)
@@ -179,25 +169,6 @@ module _ (t : Table) (w : Option ℕ) where
   pub advance_fine : {next : Table} → (lowest_of short (serve w t.slots) ≡ None) × (next ≡ (ticked w t).table)
       → ◌≡◌ {A = Stepped} (record { table = next; outcome = Ok w }) (advance w t)
   advance_fine e = ap (λ (x : Table). let s : Stepped = record { table = x; outcome = Ok w } in s) e.1 ∙ advance_by None e.0
-
-module _ (t : Table) where
-  -- R35: at the last tick the step is refused with 15
-  pub step_late : 2 ^ 48 ≤ t.clock → refused_step t 15 0 ≡ step_of t
-  unfolding step_of
-  step_late h = rw (le-leb (2 ^ 48) t.clock h)
-
-  module _ (early : t.clock < 2 ^ 48) where
-    step_by : (o : Option ℕ) → fault t ≡ o → step_unless o 4 t (advance (choose t) t) ≡ step_of t
-    unfolding step_of
-    step_by o e = rw (lt-leb (2 ^ 48) t.clock early) (ap (λ (p : Option ℕ). step_unless p 4 t (advance (choose t) t)) (sym e))
-
-    -- R24: with an unsound line, or too many counts, it is refused with 4 there
-    pub step_faulty : {k : ℕ} → fault t ≡ Some k → refused_step t 4 k ≡ step_of t
-    step_faulty {k} e = step_by (Some k) e
-
-    -- R44: else the tick goes to the choice
-    pub step_fine : (w : Option ℕ) → fault t ≡ None → w ≡ choose t → advance w t ≡ step_of t
-    step_fine w e g = ap (λ (o : Option ℕ). advance o t) g ∙ step_by None e
 
 module _ (t : Table) (x : Refusal) where
   abbrev Keeps : Stepped → Type 0

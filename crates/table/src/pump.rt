@@ -23,43 +23,35 @@ impl Table {
         ensures { Turns self result }
     {
         let last = self.last as usize;
-        let mut going: u32 = 65536;
-        if last < 16 {
-            let s = self.slots[last];
-            going = s.key();
-        }
-        let mut best: usize = 16;
-        let mut least: u32 = 65536;
-        let mut i: usize = 0;
-        while i < 16 {
-            let s = self.slots[i];
+        let going = match self.slots.get(last) {
+            Some(s) => s.key(),
+            None => 65536,
+        };
+        let mut best = None;
+        let mut least = 65536;
+        for (i, &s) in self.slots.iter().enumerate() {
             if !s.sound() {
                 return Err(i);
             }
             let key = s.key();
             if key < least {
                 least = key;
-                best = i;
+                best = Some(i);
             }
-            i = i + 1;
         }
-        if best < 16 {
-            if going <= least {
-                return Ok(Some(last));
-            }
-            return Ok(Some(best));
+        match best {
+            Some(_) if going <= least => Ok(Some(last)),
+            _ => Ok(best),
         }
-        Ok(None)
     }
 
     // R48, R17: the table as it was, and no slot ran.
     fn refused(self, number: u16, place: usize) -> Stepped
         ensures { result ≡ refused_step self number place }
     {
-        let refusal = Refusal::new(number, place as u64);
         Stepped {
             table: self,
-            outcome: Err(refusal),
+            outcome: Err(Refusal::new(number, place as u64)),
         }
     }
 
@@ -70,19 +62,15 @@ impl Table {
         ensures { result ≡ advance w self }
     {
         let mut next = self.counting(w);
-        let mut i: usize = 0;
-        while i < 16 {
-            let old = self.slots[i];
+        for (i, &old) in self.slots.iter().enumerate() {
             let s = served(w, i, old);
             if s.short() {
                 return self.refused(14, i);
             }
-            let later = s.passed();
-            next.slots[i] = later;
+            next.slots[i] = s.passed();
             if s.departs() {
                 next = next.settled(i);
             }
-            i = i + 1;
         }
         next.clock = self.clock + 1;
         Stepped {
@@ -92,6 +80,7 @@ impl Table {
     }
 
     // R48: 15, then 4, the lines before the counts, then 14.
+    #[tactic(auto, unfolding(crate::specs::Step::step_of))]
     pub fn step(self) -> Stepped
         ensures { result ≡ step_of self }
     {

@@ -20,8 +20,8 @@ settled-next-requires c =
 pub loop-i-preserved : goal.loop-i-preserved
 loop-i-preserved c =
     elim c.if-departs.branch [
-      | then-departs w ↦ rw w.next-is (tick_off c.loop-i.invariant _ c.loop-i-test.true c.served-s.ensures c.short.ensures c.if-short.false c.passed-later.ensures c.departs.ensures w.if-departs.true w.settled-next.ensures)
-      | else-departs w ↦ rw w.next-is (tick_on c.loop-i.invariant _ c.loop-i-test.true c.served-s.ensures c.short.ensures c.if-short.false c.passed-later.ensures c.departs.ensures w.if-departs.false)
+      | then-departs w ↦ rw w.next-is (tick_off c.loop-i.invariant _ c.loop-i-test.true c.served-s.ensures c.short.ensures c.if-short.false c.passed.ensures c.departs.ensures w.if-departs.true w.settled-next.ensures)
+      | else-departs w ↦ rw w.next-is (tick_on c.loop-i.invariant _ c.loop-i-test.true c.served-s.ensures c.short.ensures c.if-short.false c.passed.ensures c.departs.ensures w.if-departs.false)
     ]
 
 pub returns : goal.returns

@@ -1,10 +1,7 @@
--- `Table::overcounted` meets its contract: the loop cites the laws of `Taking`.
-use Prim.Native.Nat.{◌-◌}
-use Rattle.table.proofs.Counts.{Taking}
+-- `Table::overcounted` meets its contract: what is left, and the counts that are taken, are the clock.
+use Rattle.std.proofs.Common.{◌≡◌, ◌+◌, take}
+use Rattle.std.specs.List.{sum}
 use Rattle.table.proofs.Table.overcounted.Given as goal
 
-abbrev pub invariant-loop-i : goal.invariant-loop-i
-invariant-loop-i l = Taking l.self.clock l.self.had l.left l.i
-
-abbrev pub decreases-loop-i : goal.decreases-loop-i
-decreases-loop-i l = 16 - l.i
+abbrev pub invariant-loop-n : goal.invariant-loop-n
+invariant-loop-n l = l.left + sum (take l.n-index l.n-items) ≡ l.self.clock

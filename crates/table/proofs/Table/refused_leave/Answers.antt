@@ -1,5 +1,0 @@
--- `Table::refused_leave` meets its contract: the refusal is the one that `Refusal::new` makes.
-use Rattle.table.proofs.Table.refused_leave.Goals as goal
-
-pub returns : goal.returns
-returns c = simp c.new-refusal.ensures
