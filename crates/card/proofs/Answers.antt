@@ -8,7 +8,7 @@ use Rattle.table.specs.declared.Table.{Table}
 use Rattle.table.specs.declared.Request.{Request}
 use Rattle.table.specs.Words.{Said}
 use Rattle.card.specs.declared.ReadCard.{ReadCard}
-use Rattle.card.specs.Card.{Card}
+use Rattle.card.specs.declared.Card.{Card}
 use Rattle.card.specs.Reading.{read_of}
 use Rattle.card.specs.Twin.{turned_of}
 use Rattle.card.specs.Answers.{handed, said_read, write_of, buffer_of}

@@ -15,7 +15,8 @@ use Rattle.line.proofs.Search.{true_false}
 use Rattle.table.specs.Words.{request_with, refusal, Said}
 use Rattle.table.specs.Cases.{running, parting, waiting, table_of}
 use Rattle.card.specs.Bytes.{marked}
-use Rattle.card.specs.Card.{card_of, Card, carrying, cleared}
+use Rattle.card.specs.declared.Card.{Card}
+use Rattle.card.specs.Card.{card_of, carrying, cleared}
 use Rattle.card.specs.Reading.{record_of, records_of, read_with, read_of}
 use Rattle.card.specs.Answers.{handed, said_read, length_of, write_of, buffer_of}
 

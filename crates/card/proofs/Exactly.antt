@@ -7,7 +7,8 @@ use Rattle.table.specs.declared.Table.{Table}
 use Rattle.table.specs.declared.Request.{Request}
 use Rattle.table.specs.Words.{unbooked, Said}
 use Rattle.card.specs.Bytes.{Bytes}
-use Rattle.card.specs.Card.{Card, carrying, card_of, cleared, Fits}
+use Rattle.card.specs.declared.Card.{Card}
+use Rattle.card.specs.Card.{carrying, card_of, cleared, Fits}
 use Rattle.card.specs.Reading.{read_with}
 use Rattle.card.specs.Twin.{turned_with, twin_with}
 use Rattle.card.proofs.ReadsBack.{reads_back, no_old}

@@ -12,7 +12,8 @@ use Rattle.line.specs.Slots.{pick, at, is_waiting, lowest_of}
 use Rattle.table.specs.Words.{refusal, Said}
 use Rattle.line.proofs.Search.{none_found}
 use Rattle.card.specs.Bytes.{Bytes}
-use Rattle.card.specs.Card.{Card, card_of, AllCarried}
+use Rattle.card.specs.declared.Card.{Card}
+use Rattle.card.specs.Card.{card_of, AllCarried}
 use Rattle.card.specs.Reading.{read_with}
 use Rattle.card.specs.Twin.{twin_with}
 use Rattle.card.specs.Answers.{length_of, unless_waiting, write_of, filled, buffer_of}

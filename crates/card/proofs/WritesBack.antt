@@ -20,7 +20,8 @@ use Rattle.card.specs.declared.Record.TheVariants.{Slot, Last}
 use Rattle.card.specs.Bytes.{Bytes, value, marked}
 use Rattle.card.specs.Layout.{CK, is_free, clock_at, need_at, period_at, clock_length, last_length, record_length}
 use Rattle.card.specs.Marked.{free, record_bytes, held_under, slot_for, entry_for, twin, recorded_bytes, Records}
-use Rattle.card.specs.Card.{clock_record, request_record, slot_record, slot_records, one_more, used_from, used, card_of, Card, AllCarried, Fits}
+use Rattle.card.specs.declared.Card.{Card}
+use Rattle.card.specs.Card.{clock_record, request_record, slot_record, slot_records, one_more, used_from, used, card_of, AllCarried, Fits}
 use Rattle.card.specs.Reading.{put_in_front, ending, broken, closing, step, record_of, records_of, records_with, card_for, meaning, read_with}
 use Rattle.card.specs.Twin.{word_of, is_old, turned_in, turned_with, twin_step, twin_from, twin_with}
 use Rattle.card.proofs.Turned.{word_none}

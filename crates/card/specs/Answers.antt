@@ -7,7 +7,8 @@ use Rattle.table.specs.Words.{request_with, empty_table, refusal, Said}
 use Rattle.card.specs.declared.Reading.{Reading}
 use Rattle.card.specs.declared.ReadCard.{ReadCard}
 use Rattle.card.specs.Marked.{Records}
-use Rattle.card.specs.Card.{Card, carrying, card_of}
+use Rattle.card.specs.declared.Card.{Card}
+use Rattle.card.specs.Card.{carrying, card_of}
 use Rattle.card.specs.Reading.{meaning}
 use Rattle.card.specs.Twin.{turned_in}
 
@@ -30,8 +31,8 @@ abbrev pub handed : (turned : ℕ) → Said Card → ReadCard
 handed w s = handed_out (reading_with w s)
 
 -- R56, R58: the same of a card's records
-abbrev pub handed_of : Said Records → ReadCard
-handed_of s = handed (turned_in s) (meaning s)
+abbrev pub reading_of : Said Records → Said Reading
+reading_of s = reading_with (turned_in s) (meaning s)
 
 -- what the reader's answer says: the table and the request beside it, or the refusal's number and place
 abbrev pub said_with : Table → Request → Said (Unit {0}) → Said Card

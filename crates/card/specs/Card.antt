@@ -6,7 +6,7 @@ use Rattle.line.specs.Slots.{pick, is_nothing}
 use Rattle.table.specs.declared.Table.{Table}
 use Rattle.table.specs.declared.Request.{Request}
 use Rattle.table.specs.Words.{request_with}
-pub use Rattle.card.specs.declared.Card.{Card}
+use Rattle.card.specs.declared.Card.{Card}
 use Rattle.card.specs.Bytes.{le}
 use Rattle.card.specs.Layout.{CK, RQ}
 use Rattle.card.specs.Marked.{record_for, recorded_bytes, CarriedAs}

@@ -9,7 +9,8 @@ use Rattle.card.specs.declared.Record.TheVariants.{Slot, Last}
 use Rattle.card.specs.Bytes.{value, marked}
 use Rattle.card.specs.Layout.{CK, TB, TL, TF, TA, RQ, is_free, clock_at, need_at, period_at, stretched_at, fourth_at, fifth_at, clock_length, line_length, last_length, record_length}
 use Rattle.card.specs.Marked.{record_with, free, slot_for, entry_for, Records, saying}
-use Rattle.card.specs.Card.{Card, carrying}
+use Rattle.card.specs.declared.Card.{Card}
+use Rattle.card.specs.Card.{carrying}
 
 -- ---- one record
 

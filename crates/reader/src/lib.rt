@@ -1,34 +1,24 @@
 // The card reader: any bytes of any length in, a table and a request or a refusal out.
 #![tactic(auto)]
 
-ghost use Rattle.std.specs.Prelude.{Err, ◌≡◌, false, ◌+◌, ◌-◌, ◌*◌, ◌^◌, ◌≤◌, ◌<◌, length, drop};
+ghost use Rattle.std.specs.Prelude.{MatchResult, ◌≡◌, ◌+◌, ◌-◌, ◌≤◌, ◌<◌, length, drop, false};
 ghost use Rattle.table.specs.Words.{refusal};
-ghost use Rattle.card.specs.Bytes.{value, mark_of, marked};
-ghost use Rattle.line.specs.Slots.{pick};
+ghost use Rattle.card.specs.Bytes.{value, marked};
 ghost use Rattle.card.specs.Layout.{clock_at, clock_length, last_length};
-ghost use Rattle.card.specs.Card.{carrying};
 ghost use Rattle.card.specs.Reading.{line_record_of, last_of, slot_record_of, record_of, closing, records_of, read_of};
-ghost use Rattle.card.specs.Twin.{is_old, turned_of};
-ghost use Rattle.card.specs.Answers.{handed, handed_of};
+ghost use Rattle.card.specs.Twin.{turned_of};
+ghost use Rattle.card.specs.Answers.{reading_with, reading_of, handed};
 
-use card::{Mark, ReadCard, Record, SlotRecord, layout};
+use card::{Card, Mark, ReadCard, Reading, Record, SlotRecord, layout};
 use line::Slot;
 use table::{Refusal, Request, Table};
-
-fn wide(b: u8) -> u16
-    ensures { (result ≡ b) × (result < 256) }
-{
-    b as u16
-}
 
 // R52: the lower byte comes first.
 fn get16(s: &[u8], at: usize) -> u16
     requires { at + 1 < length s.now }
     ensures { result ≡ value 2 s.now at }
 {
-    let low = wide(s[at]);
-    let high = wide(s[at + 1]);
-    low + high * 256
+    u16::from_le_bytes([s[at], s[at + 1]])
 }
 
 // R53: CK, and the clock after it.
@@ -36,178 +26,155 @@ fn clock(s: &[u8]) -> u64
     requires { clock_length ≤ length s.now }
     ensures { result ≡ value 8 s.now clock_at }
 {
-    let a = get16(s, layout::CLOCK_AT) as u64;
-    let b = get16(s, layout::CLOCK_AT + 2) as u64;
-    let c = get16(s, layout::CLOCK_AT + 4) as u64;
-    let d = get16(s, layout::CLOCK_AT + 6) as u64;
-    a + b * 65536 + c * 4294967296 + d * 281474976710656
+    let mut bytes = [0; 8];
+    bytes.copy_from_slice(&s[layout::CLOCK_AT..layout::CLOCK_LENGTH]);
+    u64::from_le_bytes(bytes)
 }
 
 // R52: the two bytes of a mark.
+#[tactic(auto, using(card::proofs::Marks::starts_marked))]
 fn opens(s: &[u8], mark: &[u8; 2]) -> bool
-    ensures { result ≡ marked (mark_of mark.now) s.now }
+    ensures { result ≡ marked mark.now s.now }
 {
-    if s.len() < 2 {
-        return false;
-    }
-    if s[0] != mark[0] {
-        return false;
-    }
-    s[1] == mark[1]
+    s.starts_with(mark)
 }
 
 // R53, R57: a slot's record with the numbers of a line, under its mark.
-fn line(s: &[u8], mark: Mark) -> Record
+fn line(s: &[u8], mark: Mark) -> Option<Record>
     ensures { result ≡ line_record_of mark s.now }
 {
     if s.len() < layout::LINE_LENGTH {
-        return Record::Refused(11);
+        return None;
     }
     let need = get16(s, layout::NEED_AT);
     let period = get16(s, layout::PERIOD_AT);
     let stretched = get16(s, layout::STRETCHED_AT);
     let fourth = get16(s, layout::FOURTH_AT);
     let fifth = get16(s, layout::FIFTH_AT);
-    Record::Slot(SlotRecord::new(mark, need, period, stretched, fourth, fifth))
+    Some(Record::Slot(SlotRecord::new(mark, need, period, stretched, fourth, fifth)))
 }
 
 // R53, R57: RQ, and what follows it.
-fn last(s: &[u8]) -> Record
+fn last(s: &[u8]) -> Option<Record>
     ensures { result ≡ last_of s.now }
 {
     if s.len() < layout::LAST_LENGTH {
-        return Record::Refused(11);
+        return None;
     }
-    Record::Last(get16(s, layout::NEED_AT), get16(s, layout::PERIOD_AT))
+    Some(Record::Last {
+        need: get16(s, layout::NEED_AT),
+        period: get16(s, layout::PERIOD_AT),
+    })
 }
 
 // R57, R58: a slot's record at the front of `s`.
-fn slot_record(s: &[u8]) -> Record
+fn slot_record(s: &[u8]) -> Option<Record>
     ensures { result ≡ slot_record_of s.now }
 {
     if opens(s, &layout::TB) {
-        return line(s, Mark::TB);
+        line(s, Mark::TB)
+    } else if opens(s, &layout::TL) {
+        line(s, Mark::TL)
+    } else if opens(s, &layout::TF) {
+        Some(Record::Slot(SlotRecord::free()))
+    } else if opens(s, &layout::TA) {
+        line(s, Mark::TA)
+    } else {
+        None
     }
-    if opens(s, &layout::TL) {
-        return line(s, Mark::TL);
-    }
-    if opens(s, &layout::TF) {
-        return Record::Slot(SlotRecord::free());
-    }
-    if opens(s, &layout::TA) {
-        return line(s, Mark::TA);
-    }
-    Record::Refused(11)
 }
 
 // R57: the record at the front of `s`, where `left` slots have none yet.
-fn front(s: &[u8], left: usize) -> Record
+#[tactic(auto, unfolding(card::specs::Reading::record_of))]
+fn front(s: &[u8], left: usize) -> Option<Record>
     ensures { result ≡ record_of left s.now }
 {
     if opens(s, &layout::RQ) {
-        return last(s);
+        last(s)
+    } else if left == 0 {
+        None
+    } else {
+        slot_record(s)
     }
-    if left == 0 {
-        return Record::Refused(11);
-    }
-    slot_record(s)
 }
 
-// The record at an offset.
-fn record_at(card: &[u8], at: usize, left: usize) -> Record
-    requires { at ≤ length card.now }
-    ensures { result ≡ record_of left (drop at card.now) }
+// R31, R57: refused as broken, at a byte offset.
+fn broken(at: usize) -> Refusal
+    ensures { result ≡ refusal 11 at }
 {
-    front(&card[at..], left)
+    Refusal::new(11, at as u64)
 }
 
-// R56: what is handed out beside a refusal.
-fn refused(number: u16, at: usize) -> ReadCard
-    ensures { result ≡ handed 0 (Err (refusal number at)) }
+// R57: the record at an offset, where `left` slots have none yet.
+fn record_at(bytes: &[u8], at: usize, left: usize) -> Result<Record, Refusal>
+    requires { at ≤ length bytes.now }
+    ensures { let seen = record_of left (drop at bytes.now) in MatchResult result (λ r. seen ≡ Some r) (λ x. (seen ≡ None) × (x ≡ refusal 11 at)) }
 {
-    let refusal = Refusal::new(number, at as u64);
-    ReadCard {
-        table: Table::empty(),
-        request: Request::new([0u16; 16], 0, 0),
-        turned: 0,
-        answer: Err(refusal),
-    }
+    front(&bytes[at..], left).ok_or(broken(at))
 }
 
 // R57: RQ at `at`, on a card of `len` bytes: no TF stands before it, and no byte after it.
-fn closed(len: usize, at: usize, gap: bool, table: Table, request: Request, turned: u16) -> ReadCard
+fn close(len: usize, at: usize, gap: bool) -> Result<(), Refusal>
     requires { at + last_length ≤ len }
-    ensures { result ≡ handed turned (closing gap at (len - at) (carrying table request)) }
+    ensures { result ≡ closing gap at (len - at) tt }
 {
     if gap {
-        return refused(11, at);
+        return Err(broken(at));
     }
-    if len != at + layout::LAST_LENGTH {
-        return refused(11, at + layout::LAST_LENGTH);
+    let end = at + layout::LAST_LENGTH;
+    if len != end {
+        return Err(broken(end));
     }
-    ReadCard {
-        table: table,
-        request: request,
-        turned: turned,
-        answer: Ok(()),
-    }
-}
-
-// R58: the word with slot i's bit, where its record is TA.
-fn with_turned(turned: u16, i: usize, r: SlotRecord) -> u16
-    requires { (i < 16) × (turned < 2 ^ i) }
-    ensures { result ≡ pick (is_old r) 1 0 * 2 ^ i + turned }
-{
-    if r.is_turned() {
-        return turned | (1 << i);
-    }
-    turned
+    Ok(())
 }
 
 // R53, R54, R55: the records after the clock's, each made a slot and its entry at once; a slot without one is as one marked TF.
-fn records(card: &[u8]) -> ReadCard
-    requires { clock_length ≤ length card.now }
-    ensures { result ≡ handed_of (records_of (value 8 card.now clock_at) 16 false clock_length (drop clock_length card.now)) }
+fn records(bytes: &[u8]) -> Result<Reading, Refusal>
+    requires { clock_length ≤ length bytes.now }
+    ensures { result ≡ reading_of (records_of (value 8 bytes.now clock_at) 16 false clock_length (drop clock_length bytes.now)) }
 {
-    let none = Slot::empty();
-    let mut table = Table::new(clock(card), [none; 16]);
-    let mut request = Request::new([0u16; 16], 0, 0);
-    let mut at: usize = layout::CLOCK_LENGTH;
-    let mut i: usize = 0;
+    let mut table = Table::new(clock(bytes), [Slot::empty(); 16]);
+    let mut request = Request::new([0; 16], 0, 0);
+    let mut turned = 0;
+    let mut at = layout::CLOCK_LENGTH;
     let mut gap = false;
-    let mut turned: u16 = 0;
-    loop {
-        let r = record_at(card, at, 16 - i);
-        match r {
-            Record::Slot(x) => {
-                gap = x.is_free();
-                at = at + x.length();
-                turned = with_turned(turned, i, x);
-                request.stretched[i] = x.stretched;
-                table.slots[i] = x.slot();
-                i = i + 1;
+    for i in 0..=16 {
+        match record_at(bytes, at, 16 - i)? {
+            Record::Slot(r) => {
+                gap = r.is_free();
+                at += r.length();
+                turned |= u16::from(r.is_turned()) << i;
+                request.stretched[i] = r.stretched;
+                table.slots[i] = r.slot();
             }
-            Record::Last(need, period) => {
+            Record::Last { need, period } => {
+                close(bytes.len(), at, gap)?;
                 request.need = need;
                 request.period = period;
-                return closed(card.len(), at, gap, table, request, turned);
-            }
-            Record::Refused(number) => {
-                return refused(number, at);
+                return Ok(Reading {
+                    card: Card { table, request },
+                    turned,
+                });
             }
         }
     }
+    // Where no slot is left a record is RQ.
+    unreachable!()
+}
+
+// R31, R56, R57: any bytes of any length: the card and the slots that were TA, or the refusal.
+pub fn card(bytes: &[u8]) -> Result<Reading, Refusal>
+    ensures { result ≡ reading_with (turned_of bytes.now) (read_of bytes.now) }
+{
+    if bytes.len() < layout::CLOCK_LENGTH || !opens(bytes, &layout::CK) {
+        return Err(broken(0));
+    }
+    records(bytes)
 }
 
 // R31, R56, R57: any bytes of any length. The contract is an equation: it settles all that is handed out.
 pub fn read(card: &[u8]) -> ReadCard
     ensures { result ≡ handed (turned_of card.now) (read_of card.now) }
 {
-    if card.len() < layout::CLOCK_LENGTH {
-        return refused(11, 0);
-    }
-    if !opens(card, &layout::CK) {
-        return refused(11, 0);
-    }
-    records(card)
+    self::card(card).into()
 }

@@ -1,57 +1,44 @@
-use mathlib.Core.Path.{sym, ap, ◌∙◌}
-use native.Mathlib.Omega.{arith}
-use Rattle.card.specs.Answers.{handed_of}
-use Rattle.reader.proofs.Loop.{slot_room, last_room, mid_refused, kept_start, kept_room, kept_slot, kept_last}
+-- `records`: each way through the loop is one law.
+use Rattle.std.proofs.Common.{Some, sym, ap, ◌∙◌}
+use Rattle.std.proofs.lemmas.Result.{err_from_is_err_and}
+use Rattle.card.specs.Answers.{reading_of}
+use Rattle.reader.proofs.Loop.{bit_set, slot_room, last_room, mid_refused, kept_start, kept_room, kept_slot, kept_last}
 use Rattle.reader.proofs.records.Goals as goal
 
-pub loop-x-init : goal.loop-x-init
-loop-x-init c =
-    rw (c.new-request.ensures, c.new-table.ensures, c.clock.ensures, c.empty-none.ensures)
-    (kept_start c.args.card.now (omega arith))
+pub loop-i-init : goal.loop-i-init
+loop-i-init c = rw (c.new-request.ensures, c.new-table.ensures, c.clock.ensures, c.empty.ensures) (kept_start c.args.bytes.now c.requires)
+
+pub returns-in_err-r : goal.returns-in_err-r
+returns-in_err-r c =
+    let p = err_from_is_err_and c.from_residual.result c.from_residual.ensures.1 in
+    rw (p.1, p.2, c.in_err-r.ensures.1) (ap reading_of (sym (mid_refused c.loop-i.invariant.mid c.in_err-r.ensures.0)))
+
+pub overflow_shl-turned : goal.overflow_shl-turned
+overflow_shl-turned c = (slot_room c.loop-i.invariant.mid (c.in_ok-r.ensures ∙ ap Some c.in-Slot.is)).0
 
 pub bounds-request-i : goal.bounds-request-i
-bounds-request-i c =
-    (slot_room c.loop-x.invariant.mid c.record_at-r.ensures c.in-Slot.is).0
+bounds-request-i c = (slot_room c.loop-i.invariant.mid (c.in_ok-r.ensures ∙ ap Some c.in-Slot.is)).0
 
-pub with_turned-turned-requires : goal.with_turned-turned-requires
-with_turned-turned-requires c =
-    ((slot_room c.loop-x.invariant.mid c.record_at-r.ensures c.in-Slot.is).0, kept_room c.loop-x.invariant c.record_at-r.ensures)
+pub bounds-table-i : goal.bounds-table-i
+bounds-table-i c = (slot_room c.loop-i.invariant.mid (c.in_ok-r.ensures ∙ ap Some c.in-Slot.is)).0
 
-pub overflow_add-at : goal.overflow_add-at
-overflow_add-at c =
-    omega (arith, slot_room c.loop-x.invariant.mid c.record_at-r.ensures c.in-Slot.is, c.length-at.ensures.0)
+pub close-requires : goal.close-requires
+close-requires c = last_room c.loop-i.invariant.mid (c.in_ok-r.ensures ∙ ap Some c.in-Last.is)
 
-pub loop-x-smaller : goal.loop-x-smaller
-loop-x-smaller c = omega (arith, slot_room c.loop-x.invariant.mid c.record_at-r.ensures c.in-Slot.is)
-
-pub loop-x-preserved : goal.loop-x-preserved
-loop-x-preserved c =
-    rw (c.slot.ensures, c.with_turned-turned.ensures, c.length-at.ensures.0, c.is_free-gap.ensures)
-    (kept_slot c.loop-x.invariant c.record_at-r.ensures _ c.in-Slot.is)
-
-pub closed-requires : goal.closed-requires
-closed-requires c =
-    last_room c.loop-x.invariant.mid c.record_at-r.ensures c.in-Last.is
+pub returns-in_err-close-in-Last : goal.returns-in_err-close-in-Last
+returns-in_err-close-in-Last c =
+    let q = c.from_residual-in_err-close-in-Last in
+    let p = err_from_is_err_and q.result q.ensures.1 in
+    rw (p.1, p.2)
+    (kept_last c.loop-i.invariant _ _ (c.in_ok-r.ensures ∙ ap Some c.in-Last.is) (sym c.in_err-close-in-Last.was ∙ c.close.ensures))
 
 pub returns-in-Last : goal.returns-in-Last
 returns-in-Last c =
-    rw c.closed.ensures (sym (kept_last c.loop-x.invariant c.record_at-r.ensures _ _ c.in-Last.is))
+    kept_last c.loop-i.invariant _ _ (c.in_ok-r.ensures ∙ ap Some c.in-Last.is) (sym c.in_ok-close-in-Last.was ∙ c.close.ensures)
 
-pub returns-in-Refused : goal.returns-in-Refused
-returns-in-Refused c =
-    c.refused.ensures ∙ ap handed_of (sym (mid_refused c.loop-x.invariant.mid c.record_at-r.ensures _ c.in-Refused.is))
-
-pub record_at-r-requires : goal.record_at-r-requires
-record_at-r-requires c = omega (arith, c.loop-x.invariant.mid.room)
-
-pub offset_bounds-request-i : goal.offset_bounds-request-i
-offset_bounds-request-i c = omega (arith, slot_room c.loop-x.invariant.mid c.record_at-r.ensures c.in-Slot.is)
-
-pub offset_bounds-table-i : goal.offset_bounds-table-i
-offset_bounds-table-i c = omega (arith, slot_room c.loop-x.invariant.mid c.record_at-r.ensures c.in-Slot.is)
-
-pub bounds-table-i : goal.bounds-table-i
-bounds-table-i c = (slot_room c.loop-x.invariant.mid c.record_at-r.ensures c.in-Slot.is).0
-
-pub overflow_add-i : goal.overflow_add-i
-overflow_add-i c = omega (arith, slot_room c.loop-x.invariant.mid c.record_at-r.ensures c.in-Slot.is)
+pub loop-i-preserved : goal.loop-i-preserved
+loop-i-preserved c =
+    let v = c.loop-i.invariant in
+    let e = c.in_ok-r.ensures ∙ ap Some c.in-Slot.is in
+    rw (c.slot.ensures, c.length-at.ensures.0, c.is_free-gap.ensures, c.from.ensures, c.is_turned.ensures, bit_set _ _ _ (slot_room v.mid e).0 (kept_room v))
+    (kept_slot v c.in-Slot.r e)
