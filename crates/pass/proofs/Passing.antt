@@ -1,21 +1,21 @@
 -- What the pass says: the soonest short end, else the greatest bound; and of lines that are not fit.
 use Prim.Native.Nat.{ℕ, ◌-◌, ◌/◌, ◌≤◌, ◌<◌}
-use mathlib.Core.Path.{◌≡◌, refl, ap, sym, ◌∙◌}
+use mathlib.Core.Path.{◌≡◌, refl, sym, ◌∙◌}
 use mathlib.Core.Bool.{Bool, true, false, not}
 use mathlib.Core.List.{List, [], ◌∷◌}
 use Rattle.std.specs.Prelude.{Option, None, Some, Result, Ok, Err}
 use native.Mathlib.Nat.{le-add_left, mul-le-mul_right}
 use native.Mathlib.Omega.{arith}
 use lib.Dec.{ltb}
-use borrow.Author.Tests.{lt-ltb, le-ltb, not-true}
+use borrow.Author.Tests.{lt-ltb, le-ltb}
 use Rattle.periods.specs.Multiples.{All}
 use Rattle.line.specs.Slots.{pick}
 use Rattle.line.specs.declared.Stream.{Stream}
 use Rattle.line.specs.Ends.{bound, soonest_of, greatest}
 use Rattle.line.proofs.Ends.{greatest_least}
-use Rattle.sums.specs.Lines.{lines_of, alike, Packed}
+use Rattle.sums.specs.Lines.{lines_of, alike}
 use Rattle.sums.specs.Weighed.{fitting, fitting_in}
-use Rattle.sums.proofs.Weighing.{fitting_says, fit_test_says, unfit_is, fit_is}
+use Rattle.sums.proofs.Weighing.{fitting_says, unfit_is, fit_is}
 use Rattle.pass.specs.declared.NoPass.{NoPass}
 use Rattle.pass.specs.declared.NoPass.TheVariants.{Unfit}
 use Rattle.pass.specs.Pass.{demand_of, last_by, ends_by, pass_by, pass_over, short_by, bound_by, pass_in, pass_of, passed_in}
@@ -62,29 +62,24 @@ pub start_near : (l : List Stream) (Cn Tn r : ℕ) → 1 ≤ Tn → pass_of l Cn
 unfolding pass_of
 start_near l Cn Tn r h e = let w = near_one (fitting l) (ltb Cn 1) (pass_in l Cn Tn) r e in in_near l Cn Tn r w.0 h w.1
 
-module _ (e c n p : List ℕ) {b : Bool} (t : b ≡ fitting_in e c n p) where
-  -- R24: what is then known of the lines
-  pub ends_packed : b ≡ true → Packed e c n p
-  ends_packed m = fit_test_says e c n p t (ap not m)
+module _ (e c n p : List ℕ) (Cn Tn : ℕ) {b : Bool} (t : b ≡ fitting_in e c n p) where
+  -- the slices differ in length, or the lines are not fit
+  pub ends_unfit : b ≡ false → Err Unfit ≡ passed_in e c n p Cn Tn
+  unfolding pass_of
+  ends_unfit m = unfit_is (alike e c n p) (fitting (lines_of e c n p)) (Err Unfit) _ (sym t ∙ m)
 
-  module _ (Cn Tn : ℕ) where
-    -- the slices differ in length, or the lines are not fit
-    pub ends_unfit : not b ≡ true → Err Unfit ≡ passed_in e c n p Cn Tn
+  module _ (m : b ≡ true) where
+    fit_ends : pick (ltb Cn 1) (Err Unfit) (pass_in (lines_of e c n p) Cn Tn) ≡ passed_in e c n p Cn Tn
     unfolding pass_of
-    ends_unfit m = unfit_is (alike e c n p) (fitting (lines_of e c n p)) (Err Unfit) _ (sym t ∙ not-true b m)
+    fit_ends = fit_is (alike e c n p) (fitting (lines_of e c n p)) (Err Unfit) _ (sym t ∙ m)
 
-    module _ (m : b ≡ true) where
-      fit_ends : pick (ltb Cn 1) (Err Unfit) (pass_in (lines_of e c n p) Cn Tn) ≡ passed_in e c n p Cn Tn
-      unfolding pass_of
-      fit_ends = fit_is (alike e c n p) (fitting (lines_of e c n p)) (Err Unfit) _ (sym t ∙ m)
+    -- the need is 0
+    pub ends_needless : Cn < 1 → Err Unfit ≡ passed_in e c n p Cn Tn
+    ends_needless h = rw (lt-ltb Cn 1 h) at fit_ends
 
-      -- the need is 0
-      pub ends_needless : Cn < 1 → Err Unfit ≡ passed_in e c n p Cn Tn
-      ends_needless h = rw (lt-ltb Cn 1 h) at fit_ends
-
-      -- neither
-      pub ends_passed : {r : Result ℕ NoPass} → 1 ≤ Cn → r ≡ pass_in (lines_of e c n p) Cn Tn → r ≡ passed_in e c n p Cn Tn
-      ends_passed h q = q ∙ rw (le-ltb Cn 1 h) at fit_ends
+    -- neither
+    pub ends_passed : {r : Result ℕ NoPass} → 1 ≤ Cn → r ≡ pass_in (lines_of e c n p) Cn Tn → r ≡ passed_in e c n p Cn Tn
+    ends_passed h q = q ∙ rw (le-ltb Cn 1 h) at fit_ends
 
 -- R30, R14: of fit lines and a need above 0 it is the pass
 pub pass_fit : (l : List Stream) (Cn Tn : ℕ) → fitting l ≡ true → 1 ≤ Cn → pass_of l Cn Tn ≡ pass_in l Cn Tn

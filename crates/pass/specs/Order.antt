@@ -36,7 +36,7 @@ pub record Soonest (end : ℕ → ℕ) (n last r : ℕ) : Type 0 where
   pub below : (k : ℕ) → k < n → r ≤ end k
   pub there : (r ≡ last) ⊎ ((k : ℕ) × (k < n) × (end k ≡ r))
 
--- x where line k ends at d, else y
+-- x where a line that has this next ends at d, else y
 abbrev pub if_ends : {A : Type 0} (d : ℕ) (now : Due) (x y : A) → A
 if_ends d now x y = pick (eqb now.at d) x y
 

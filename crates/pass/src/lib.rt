@@ -148,8 +148,8 @@ pub fn over_ends(lines: Lines, need: u16, period: u16) -> Result<u32, NoPass>
         return Err(NoPass::Unfit);
     }
     let new = New {
-        need: need as u32,
-        period: period as u32,
+        need: u32::from(need),
+        period: u32::from(period),
         last: last_end(lines.ends),
     };
     let mut dues = [Due { at: 0, owed: 0 }; sums::MOST];
