@@ -1,6 +1,6 @@
 -- The decimal digits of a number. The steps of the definition fall away first: `digits_below` and `digits_more` hold for every number, and `by_digits` is the
 -- induction that goes with them. Everything else cites these three.
-use Prim.Native.Nat.{ℕ, zero, suc, ◌+◌, ◌-◌, ◌*◌, ◌/◌, ◌%◌, ◌^◌, ◌≤◌, ◌<◌}
+use Prim.Native.Nat.{ℕ, zero, suc, ◌+◌, ◌-◌, ◌*◌, ◌/◌, ◌%◌, ◌^◌, ◌≤◌, ◌<◌, max}
 use mathlib.Core.Path.{◌≡◌, refl, ap, sym, ◌∙◌}
 use mathlib.Core.List.{List, [], ◌∷◌, ◌++◌}
 use native.Mathlib.Decide.{dec_lt}
@@ -9,6 +9,9 @@ use native.Mathlib.Omega.{arith}
 use borrow.Author.Tests.{lt-ltb, le-ltb}
 use lib.Dec.{ltb}
 use lib.ListN.{length, get_or, length-append, get_or-append}
+use Rattle.std.specs.Fmt.{decimal}
+use Rattle.std.proofs.lemmas.Fmt.{decimal_by_steps}
+use Rattle.std.proofs.lemmas.Grind.{common_steps}
 use Rattle.reply.specs.Line.{glyph, in_decimal, digits_in, digits, value_from, value_of, AllDigits}
 
 -- a number is one digit, or more
@@ -135,3 +138,34 @@ digits_short (suc k) n h =
     below_ten_or_not n
     (λ b. omega (arith, length_below n b))
     (λ m. omega (arith, length_more n m, digits_short k (n / 10) (omega arith)))
+
+-- R61: what std prints of a number
+pub digits_decimal : (n : ℕ) → n < 2 ^ 64 → decimal n ≡ digits n
+digits_decimal = decimal_by_steps (λ n ds. ds ≡ digits n) (λ n h. sym (digits_below n h)) (λ n ds h e. rw e (sym (digits_more n h)))
+
+-- R61: a number of 16 bits has at most 5 digits, one of 32 at most 10, and one of 64 at most 20
+pub digits_16 : (n : ℕ) → n < 2 ^ 16 → length (digits n) ≤ 5
+digits_16 n h = digits_short 4 n (omega arith)
+
+pub digits_32 : (n : ℕ) → n < 2 ^ 32 → length (digits n) ≤ 10
+digits_32 n h = digits_short 9 n (omega arith)
+
+pub digits_64 : (n : ℕ) → n < 2 ^ 64 → length (digits n) ≤ 20
+digits_64 n h = digits_short 19 n (omega arith)
+
+-- R61: how many digits a number has, by its logarithm
+digits_log : (k n : ℕ) → 10 ^ k ≤ n → n < 10 * 10 ^ k → length (digits n) ≡ k + 1
+digits_log zero n l h = length_below n (omega arith)
+digits_log (suc k) n l h =
+    let p : 10 ^ suc k ≡ 10 ^ k * 10 = pow-suc 10 k in
+    omega (arith, length_more n (omega (arith, p)), digits_log k (n / 10) (omega (arith, p)) (omega (arith, p)))
+
+-- R61: 0 has one, as 1 has
+pub places_log : (n m k : ℕ) → m ≡ max n 1 → 10 ^ k ≤ m → m < 10 * 10 ^ k → k + 1 ≡ length (digits n)
+places_log n m k e l h =
+    below_ten_or_not n
+    (λ b. omega (arith, length_below n b, length_below m (omega arith), digits_log k m l h))
+    (λ g. let i : m ≡ n = omega arith in rw i at (sym (digits_log k m l h)))
+
+-- R61: how many digits a number has at most, by its width, and that std prints them
+pub ruleset printed = (digits_16, digits_32, digits_64, digits_decimal, common_steps)

@@ -119,7 +119,7 @@ pub widest : AnswerWidths (Ok 18446744073709551615)
 widest = (omega arith, (omega arith, omega arith, omega arith, omega arith))
 
 -- R61: a line in an array of 72 bytes, and zeros after it
-pub replied_edge : Replied start_line (record { bytes = start_line ++ replicate 61 0x00; len = 11 })
+pub replied_edge : Replied start_line (record { bytes = start_line ++ replicate 61 0x00; len = 11; within = omega arith })
 replied_edge = record { within = omega arith; long = refl; first = refl; rest = refl }
 
 -- an answer, a lent buffer, what putting the answer's line into it says, and what it then holds

@@ -1,20 +1,21 @@
 -- The line as a whole. A byte below `0` ends a number, so the digits can be taken off the front of a line in one way only: a line says which answer it is.
 use Rattle.std.specs.Prelude.{Option, Ok, Err}
 use Prim.Native.Nat.{ℕ, ◌+◌, ◌≤◌, ◌<◌}
-use mathlib.Core.Path.{◌≡◌, refl, ap, sym, ◌∙◌}
-use mathlib.Core.Bool.{Bool, true, false, not}
-use mathlib.Core.List.{List, [], ◌∷◌, ◌++◌, append_assoc}
+use mathlib.Core.Path.{◌≡◌, refl, ap, sym, subst, ◌∙◌}
+use mathlib.Core.Bool.{Bool, true, false}
+use mathlib.Core.List.{List, [], ◌∷◌, ◌++◌, append_assoc, append-nil}
 use native.Mathlib.Omega.{arith}
+use Rattle.std.proofs.Math.Bridge.{le_prop}
 use lib.Dec.{ltb}
 use lib.ListN.{length, take, drop, get_or, length-append, take-append-drop}
-use borrow.Author.Tests.{ltb-false, not-true, not-false}
+use borrow.Author.Tests.{ltb-false}
 use Rattle.line.specs.Slots.{pick}
 use Rattle.line.proofs.Search.{true_false}
 use Rattle.table.specs.declared.Refusal.{Refusal}
 use Rattle.table.specs.Words.{refusal, short_refusal, Said}
-use Rattle.reply.specs.declared.Reply.{Reply}
-use Rattle.reply.specs.Line.{length_for, held_after, digits_in, digits, AllDigits, carries, lateness, lateness_of, answer_line, AnswerWidths, Replied, line_feed, space}
-use Rattle.reply.proofs.Digits.{digits_one, digits_are_digits, digits_short}
+use Rattle.reply.specs.declared.array.Reply.{Reply}
+use Rattle.reply.specs.Line.{length_for, held_after, digits_in, digits, AllDigits, carries, lateness, lateness_of, answer_line, AnswerWidths, Replied, line_feed, space, release, refused}
+use Rattle.reply.proofs.Digits.{digits_one, digits_are_digits, digits_short, printed}
 
 -- R61: case A's line
 pub line_of_case_a : answer_line ((Ok 13)) ≡ 114 ∷ 101 ∷ 108 ∷ 101 ∷ 97 ∷ 115 ∷ 101 ∷ 32 ∷ 49 ∷ 51 ∷ 10 ∷ []
@@ -120,6 +121,31 @@ line_unique (Ok r) (Err x) e = absurd (differ r x e)
 line_unique (Err x) (Ok r) e = absurd (differ r x (sym e))
 line_unique (Err x) (Err y) e = ap Err (refuses_one x y e)
 
+-- ---- the pieces of a line, as the code puts them
+
+-- R61: of a start
+pub start_pieces : (r : ℕ) → answer_line (Ok r) ≡ release ++ digits r ++ line_feed
+unfolding answer_line
+start_pieces r = refl
+
+-- R61: of a refusal up to its place
+abbrev pub to_place : Refusal → List ℕ
+to_place x = refused ++ digits x.number ++ space ++ digits x.place
+
+-- R61, R103: of one that says no tick and no excess
+pub short_pieces : (x : Refusal) → carries x ≡ false → answer_line (Err x) ≡ to_place x ++ line_feed
+unfolding answer_line
+short_pieces x e = ap (λ (b : Bool). to_place x ++ lateness b x.tick x.excess ++ line_feed) e ∙ ap (λ (l : List ℕ). l ++ line_feed) (append-nil (to_place x))
+
+regroup : (l d x : List ℕ) → l ++ (space ++ d ++ space ++ x) ≡ l ++ space ++ d ++ space ++ x
+regroup l d x = simp append_assoc
+
+-- R61, R103: and of one that says them
+pub long_pieces : (x : Refusal) → carries x ≡ true → answer_line (Err x) ≡ to_place x ++ space ++ digits x.tick ++ space ++ digits x.excess ++ line_feed
+unfolding answer_line
+long_pieces x e =
+    ap (λ (b : Bool). to_place x ++ lateness b x.tick x.excess ++ line_feed) e ∙ ap (λ (l : List ℕ). l ++ line_feed) (regroup (to_place x) (digits x.tick) (digits x.excess))
+
 -- ---- how long a line is
 
 -- R61: how long a start's line is
@@ -132,26 +158,17 @@ pub lateness_length : (b : Bool) (d x : ℕ) → length (lateness b d x) ≡ pic
 lateness_length true d x = simp length-append (omega arith)
 lateness_length false d x = refl
 
--- R103: a refusal that the test finds to say no tick and no excess, and one that it finds to say them
-pub none_said : {b : Bool} (x : Refusal) → b ≡ carries x → not b ≡ true → lateness_of x ≡ []
-none_said {b} x e h = ap (λ (c : Bool). lateness c x.tick x.excess) (sym e ∙ not-true b h)
-
-pub some_said : {b : Bool} (x : Refusal) → b ≡ carries x → not b ≡ false → lateness_of x ≡ lateness true x.tick x.excess
-some_said {b} x e h = ap (λ (c : Bool). lateness c x.tick x.excess) (sym e ∙ not-false b h)
-
 -- R61: how long a refusal's line is
 pub refuses_length : (x : Refusal) → length (answer_line (Err x)) ≡ 10 + length (digits x.number) + length (digits x.place) + length (lateness_of x)
 unfolding answer_line
 refuses_length x = simp length-append (omega arith)
 
--- the length of a line by the numbers of digits in it
-pub start_length : {a : Said ℕ} (r k : ℕ) → a ≡ Ok r → k ≡ length (digits r) → 9 + k ≡ length (answer_line a)
-start_length r k e h = rw e (omega (arith, gives_length r))
+-- R103: how many bytes they take of a refusal, by the test
+pub late_length : (x : Refusal) (b : Bool) → b ≡ carries x → length (lateness_of x) ≡ pick b (2 + length (digits x.tick) + length (digits x.excess)) 0
+late_length x b e = rw (sym e) (lateness_length b x.tick x.excess)
 
--- the same of the code's refusal, its digits counted
-pub refused_length : {a : Said ℕ} (x : Refusal) (n m k j : ℕ) → a ≡ Err x → n ≡ x.number → m ≡ length (digits n) → k ≡ length (digits x.place) → j ≡ length (lateness_of x)
-    → 10 + m + k + j ≡ length (answer_line a)
-refused_length x n m k j e f g h i = rw e (omega (arith, refuses_length x, ap (λ (y : ℕ). length (digits y)) f))
+-- R61: how long a line and its pieces are
+pub ruleset lengths = (gives_length, refuses_length, late_length, printed)
 
 -- R61: 72 bytes are enough: a number of 64 bits has at most 20 digits, one of 32 at most 10, and one of 16 at most 5
 pub line_length_lem : (s : Said ℕ) → AnswerWidths s → length (answer_line s) ≤ 72
@@ -171,6 +188,17 @@ line_length_lem (Err x) h =
     go true = omega (arith, lateness_length true x.tick x.excess)
     go false = omega arith
 
+-- the fact that a reply carries has one proof
+module _ (b : List ℕ) (m : ℕ) (w : m ≤ 72) where
+  abbrev SameAs : List ℕ → ℕ → Type 0
+  SameAs c n = (x : n ≤ 72) → ◌≡◌ {A = Reply} (record { bytes = b; len = m; within = w }) (record { bytes = c; len = n; within = x })
+
+  one_proof : SameAs b m
+  one_proof x i = record { bytes = b; len = m; within = le_prop w x i }
+
+  same_reply : (c : List ℕ) (n : ℕ) → b ≡ c → m ≡ n → SameAs c n
+  same_reply c n e f = subst (λ (n : ℕ). SameAs c n) f (subst (λ (c : List ℕ). SameAs c m) e one_proof)
+
 -- R71: what a reply may be is one thing
 pub reply_settled : (line : List ℕ) (r s : Reply) → Replied line r → Replied line s → r ≡ s
 reply_settled line r s v w =
@@ -179,7 +207,7 @@ reply_settled line r s v w =
     let g : drop r.len r.bytes ≡ drop s.len s.bytes = rw (v.rest, w.rest, n) in
     let b : r.bytes ≡ s.bytes =
     sym (take-append-drop r.len r.bytes) ∙ rw (f, g) (take-append-drop s.len s.bytes) in
-    rw (n, b)
+    same_reply r.bytes r.len r.within s.bytes s.len b n s.within
 
 -- R71: and so are what putting a line into a buffer may answer and what the buffer may then hold
 pub put_reply_settled : (line buffer : List ℕ) (r s : Option ℕ) (m n : List ℕ)

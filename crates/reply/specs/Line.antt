@@ -3,7 +3,8 @@ use Rattle.std.specs.Prelude.{Ok, Err, ℕ, zero, suc, ◌+◌, ◌-◌, ◌*◌
 use Rattle.line.specs.Slots.{pick}
 use Rattle.table.specs.declared.Refusal.{Refusal}
 use Rattle.table.specs.Words.{Said}
-use Rattle.reply.specs.declared.Reply.{Reply}
+use Rattle.reply.specs.declared.array.Reply.{Reply}
+use Rattle.reply.specs.declared.text.Line.{Line}
 
 -- R61: the digit d in ASCII
 abbrev pub glyph : ℕ → ℕ
@@ -80,6 +81,10 @@ AnswerWidths (Err x) = (x.number < 2 ^ 16) × (x.place < 2 ^ 64) × (x.tick < 2 
 abbrev pub zeros : ℕ → List ℕ
 zeros n = replicate n 0
 
+-- R61: the line that a reply holds
+abbrev pub line_of : Reply → List ℕ
+line_of r = take r.len r.bytes
+
 -- R61: the line in the reply's array, which has room for every line, and 0 in every byte after it
 pub record Replied (line : List ℕ) (r : Reply) : Type 0 where
   pub within : r.len ≤ 72
@@ -106,3 +111,10 @@ length_for line buffer = pick (fits line buffer) (Some (length line)) None
 -- R17, R62: what the buffer then holds: the line and after it the bytes that were there, or every byte as it was
 abbrev pub held_after : (line buffer : List ℕ) → List ℕ
 held_after line buffer = pick (fits line buffer) (laid line buffer) buffer
+
+-- the line l has grown by bs in the same buffer, and is m
+pub record Grown (bs : List ℕ) (l m : Line) : Type 0 where
+  pub same_buffer : m.out.ghost_name ≡ l.out.ghost_name
+  pub size : length m.out.now ≡ length l.out.now
+  pub end : m.at ≡ l.at + length bs
+  pub same : m.out.now ≡ laid_from l.at bs l.out.now
