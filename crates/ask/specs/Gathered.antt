@@ -1,5 +1,6 @@
 -- What is gathered of a table and a request for the decision, and what was decided, as an answer.
-use Rattle.std.specs.Prelude.{Ok, Err, ℕ, ◌+◌, ◌≤◌, ◌<◌, ◌≡◌, true, false, not, List, leb, length}
+use Rattle.std.specs.Prelude.{Result, Option, None, Some, Ok, Err, ℕ, ◌+◌, ◌≤◌, ◌<◌, ◌≡◌, true, false, not, List, leb, length}
+use Rattle.table.specs.declared.Refusal.{Refusal}
 use Rattle.table.specs.Words.{Said}
 use Rattle.line.specs.declared.Held.{Held}
 use Rattle.line.specs.Slots.{both, at, is_waiting}
@@ -52,3 +53,8 @@ abbrev pub answer_from : (clock : ℕ) → Decision → Said ℕ
 answer_from clock (decision.Start d) = Ok (clock + d)
 answer_from clock (decision.Refused n) = Err (refusal n 0)
 answer_from clock (decision.Short x) = Err (short_refusal (clock + x.after) x.excess)
+
+-- R17, R18: one test: refusal n at the slot found, if one was
+abbrev pub unless_found : Option ℕ → ℕ → Result (Unit {0}) Refusal
+unless_found None n = Ok tt
+unless_found (Some k) n = Err (refusal n k)

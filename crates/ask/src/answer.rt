@@ -7,34 +7,22 @@ ghost use Rattle.table.specs.Grounds.{entry};
 ghost use Rattle.table.specs.Ask.{ask_of};
 ghost use Rattle.decide.specs.Decided.{decided};
 ghost use Rattle.ask.specs.Asked.{Within};
-ghost use Rattle.ask.specs.Gathered.{gathered_lines, Room, answer_from};
+ghost use Rattle.ask.specs.Gathered.{gathered_lines, Room, answer_from, unless_found};
 
 use crate::gather::Gathered;
+use table::{Refusal, Request, Table};
 
 // R7, R21: the last clock that may ask, 2^48 − 65,536
 const LATEST: u64 = 281_474_976_645_120;
 
-// R17: a refusal is made of its number and its place
-fn refused(number: u16, place: u64) -> Result<u64, table::Refusal>
-    ensures { result ≡ Err (refusal number place) }
+// R17, R18: one test: the refusal of this number at the slot found, if one was
+fn none_found(slot: Option<usize>, number: u16) -> Result<(), Refusal>
+    ensures { result ≡ unless_found slot number }
 {
-    Err(table::Refusal::new(number, place))
-}
-
-// R25, R19: the lowest slot of a line that may not have its T'
-fn lowest_barred(t: table::Table, q: table::Request) -> Option<usize>
-    ensures { result ≡ lowest (λ i. barred (entry q i) (at t.slots i)) (length t.slots) }
-{
-    let mut i: usize = 0;
-    while i < 16 {
-        let s = t.slots[i];
-        let p = q.stretched[i];
-        if s.bars(p) {
-            return Some(i);
-        }
-        i = i + 1;
+    match slot {
+        Some(k) => Err(Refusal::new(number, k as u64)),
+        None => Ok(()),
     }
-    None
 }
 
 // R26: the new line's need lies from 1 to its period
@@ -48,21 +36,21 @@ fn fits_period(need: u16, period: u16) -> bool
 }
 
 // R17, R41, R103: what was decided, as an answer: a start and a short tick are counted from the clock on, and these grounds have place 0
-fn answered(clock: u64, d: decide::Decision) -> Result<u64, table::Refusal>
+fn answered(clock: u64, d: decide::Decision) -> Result<u64, Refusal>
     requires { clock ≤ 2 ^ 48 - 65536 }
     ensures { result ≡ answer_from clock d }
 {
     match d {
         decide::Decision::Start(after) => Ok(clock + after as u64),
-        decide::Decision::Refused(n) => refused(n, 0),
+        decide::Decision::Refused(n) => Err(Refusal::new(n, 0)),
         decide::Decision::Short(x) => {
-            Err(table::Refusal::short(clock + x.after as u64, x.excess))
+            Err(Refusal::short(clock + x.after as u64, x.excess))
         }
     }
 }
 
 // R26 to R30, R14: what is decided of the lines gathered
-fn by_lines(clock: u64, g: Gathered, need: u16, period: u16) -> Result<u64, table::Refusal>
+fn by_lines(clock: u64, g: Gathered, need: u16, period: u16) -> Result<u64, Refusal>
     requires { Room g × (clock ≤ 2 ^ 48 - 65536) }
     ensures { (result ≡ answer_from clock (decided (gathered_lines g) need period)) × Within clock result }
 {
@@ -85,30 +73,20 @@ fn by_lines(clock: u64, g: Gathered, need: u16, period: u16) -> Result<u64, tabl
 }
 
 // R18, R41: the first ground that holds, or the start. R21 to R26 are tested here, before the lines are gathered.
-pub(crate) fn answer(t: table::Table, q: table::Request) -> Result<u64, table::Refusal>
+pub(crate) fn answer(t: Table, q: Request) -> Result<u64, Refusal>
     ensures { (result ≡ ask_of t q) × Within t.clock result }
 {
     if t.clock > LATEST {
-        return refused(1, 0);
+        return Err(Refusal::new(1, 0));
     }
-    match t.lowest(line::Kind::Free) {
-        None => return refused(2, 0),
-        Some(_) => {}
+    if t.lowest(|_, s| s.is_empty()).is_none() {
+        return Err(Refusal::new(2, 0));
     }
-    match t.lowest(line::Kind::Unstarted) {
-        Some(k) => return refused(3, k as u64),
-        None => {}
-    }
-    match t.fault() {
-        Some(k) => return refused(4, k as u64),
-        None => {}
-    }
-    match lowest_barred(t, q) {
-        Some(k) => return refused(5, k as u64),
-        None => {}
-    }
+    none_found(t.lowest(|_, s| s.waits()), 3)?;
+    none_found(t.fault(), 4)?;
+    none_found(t.lowest(|i, s| s.bars(q.stretched[i])), 5)?;
     if !fits_period(q.need, q.period) {
-        return refused(6, 0);
+        return Err(Refusal::new(6, 0));
     }
     let g = crate::gather::gather(t, q);
     by_lines(t.clock, g, q.need, q.period)

@@ -1,10 +1,10 @@
-// What a call over the boundary answers, R63, and the work of each call on a table or a card that has been read: what it answers, and what it leaves
+// What a call over the boundary returns, R63, and the work of each call on a table or a card that has been read: what it answers, and what it leaves
 // in what is lent. `house` exports the calls.
 #![tactic(auto)]
 
-ghost use Rattle.std.specs.Prelude.{◌≡◌};
+ghost use Rattle.std.specs.Prelude.{Option, ◌≡◌, ◌++◌};
 ghost use Rattle.table.specs.Words.{slot_number};
-ghost use Rattle.calls.specs.Results.{granted_as, refused_as, result_at};
+ghost use Rattle.calls.specs.Results.{granted_as, result_at};
 
 use table::Refusal;
 
@@ -12,7 +12,7 @@ pub mod cards; // a card's answer and its line, and the run of its table
 pub mod moves; // a card's table and request, into lent bytes and numbers
 pub mod tables; // a table asked, admitted to and stepped
 
-// R63: what a call answers. Number 0: what was asked for is granted, and is the value. R103: refusal 10 has a tick and an excess, all else 0 for both.
+// R63: what a call returns. Number 0: what was asked for is granted, and is the value. R103: refusal 10 has a tick and an excess, all else 0 for both.
 #[repr(C)]
 #[derive(Clone, Copy)]
 pub struct Returned {
@@ -30,43 +30,63 @@ impl Returned {
     {
         Returned {
             number: 0,
-            place: place,
-            value: value,
+            place,
+            value,
             tick: 0,
             excess: 0,
         }
     }
 
-    // R63: a refusal.
-    pub fn refused(x: Refusal) -> Returned
-        ensures { result ≡ refused_as x }
+    // R63: what was asked for, with the place that a grant has, or the refusal.
+    pub fn at(place: u64, said: Result<u64, Refusal>) -> Returned
+        ensures { result ≡ result_at place said }
     {
-        Returned {
-            number: x.number as u64,
-            place: x.place,
-            value: 0,
-            tick: x.tick,
-            excess: x.excess as u64,
+        match said {
+            Ok(value) => Returned::granted(place, value),
+            Err(x) => Returned::from(x),
         }
     }
 }
 
-// R63: a slot is its number, and none is 255.
-fn slot_number(w: Option<usize>) -> u64
-    ensures { result ≡ slot_number (w) }
-{
-    match w {
-        None => 255,
-        Some(k) => k as u64,
+// R63: a refusal.
+impl From<Refusal> for Returned {
+    ghost use Rattle.std.specs.Prelude.{◌≡◌};
+    ghost use Rattle.calls.specs.Results.{refused_as};
+
+    ghost from_gives = { λ x r. r ≡ refused_as x };
+
+    fn from(x: Refusal) -> Returned {
+        Returned {
+            number: u64::from(x.number),
+            place: x.place,
+            value: 0,
+            tick: x.tick,
+            excess: u64::from(x.excess),
+        }
     }
 }
 
-// R59, R84: what was written, by a writer's answer, with the place that a grant has.
-pub fn written(place: u64, w: Result<usize, Refusal>) -> Returned
-    ensures { result ≡ result_at place (w) }
+// R63: a slot is its number, and none is 255: C has no Option.
+fn slot_number(slot: Option<usize>) -> u64
+    ensures { result ≡ slot_number slot }
 {
-    match w {
-        Ok(n) => Returned::granted(place, n as u64),
-        Err(x) => Returned::refused(x),
+    match slot {
+        Some(k) => k as u64,
+        None => 255,
     }
+}
+
+// R59, R84: the length that was written, with the place that a grant has, or the refusal.
+pub fn written(place: u64, said: Result<usize, Refusal>) -> Returned
+    ensures { result ≡ result_at place said }
+{
+    Returned::at(place, said.map(|n| n as u64))
+}
+
+// R92, R98: sixteen numbers, one for each slot, and the two that follow them.
+fn fill<T: Copy>(out: &mut [T; 18], slots: &[T; 16], rest: &[T; 2])
+    ensures { out.new ≡ slots.now ++ rest.now }
+{
+    out[..16].copy_from_slice(slots);
+    out[16..].copy_from_slice(rest);
 }

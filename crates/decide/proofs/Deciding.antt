@@ -10,18 +10,20 @@ use borrow.Author.Tests.{lt-ltb, eq-eqb, ne_eqb}
 use Rattle.line.specs.declared.Stream.{Stream}
 use Rattle.line.specs.Slots.{pick, both}
 use Rattle.sums.specs.Lines.{lines_of, alike}
-use Rattle.sums.specs.Weighed.{weighed, weighed_in}
+use Rattle.sums.specs.Weighed.{number, weighed, weighed_in}
 use Rattle.sums.proofs.Along.{along_map}
 use Rattle.sums.proofs.Weighing.{none_weighs}
-use Rattle.pass.specs.declared.FirstExcess.{FirstExcess}
-use Rattle.pass.specs.declared.Pass.{Pass}
-use Rattle.pass.specs.declared.Pass.TheVariants as pass
+use Rattle.std.specs.Prelude.{Result, Ok, Err}
+use Rattle.sums.specs.declared.Ground.{Ground}
+use Rattle.sums.specs.declared.Ground.TheVariants as sum
+use Rattle.pass.specs.declared.NoPass.{NoPass}
+use Rattle.pass.specs.declared.NoPass.TheVariants as pass
 use Rattle.pass.specs.Pass.{pass_of, passed_in}
 use Rattle.pass.proofs.Passing.{start_near}
-use Rattle.decide.specs.declared.Decision.{Decision}
-use Rattle.decide.specs.declared.Decision.TheVariants.{Start, Refused, Short}
+use Rattle.decide.specs.declared.NoStart.{NoStart}
+use Rattle.decide.specs.declared.NoStart.TheVariants as no
 use Rattle.decide.specs.Lines.{by_period, by_gap, gathered_at, gathered, all_alike}
-use Rattle.decide.specs.Decided.{refused_by, decided_by, decided, decided_in}
+use Rattle.decide.specs.Decided.{Decision, Start, Refused, said, no_start, refused_by, decided_by, decided, decided_in, Near}
 
 both_not : (a : Bool) → both a false ≡ false
 both_not true = refl
@@ -39,6 +41,25 @@ some_number : (a : Bool) (s n : ℕ) (x : Decision) → n ≡ pick a s 4 → 0 <
 some_number true s n x e h = rw (sym e, lt-ltb 0 n h)
 some_number false s n x e h = ap Refused e
 
+a_number : (r : Ground) → 0 < number r
+a_number sum.Unfit = omega arith
+a_number sum.Misfit = omega arith
+a_number sum.Wide = omega arith
+a_number sum.Overload = omega arith
+a_number sum.Behind = omega arith
+
+said_no_start : (q : NoPass) → said (Err (no_start q)) ≡ decided_by (Err q)
+said_no_start (pass.Short x) = refl
+said_no_start pass.Unfit = refl
+
+-- a refusal has no distance
+pub refused_near : {x y : NoStart} → x ≡ y → Near (said (Err x))
+refused_near {x} {y} e = go x
+  where
+    go : (z : NoStart) → Near (said (Err z))
+    go (no.Ground r) = tt
+    go (no.Short w) = tt
+
 no_number : (a : Bool) (s n : ℕ) → n ≡ pick a s 4 → n ≤ 0 → (a ≡ true) × (s ≡ 0)
 no_number true s n e h = (refl, omega arith)
 no_number false s n e h = absurd (omega arith)
@@ -49,57 +70,53 @@ module _ (e c n p g : List ℕ) (Cn Tn : ℕ) where
   unfolding decided_in
   decide_apart m = rw (ne_eqb (length g) (length e) m, both_not (alike e c n p))
 
-  module _ (same : length g ≡ length e) {s : ℕ} (es : s ≡ weighed_in e c n p Cn Tn) where
+  module _ (same : length g ≡ length e) where
     abbrev sums : ℕ
     sums = weighed (map by_period (gathered e c n p g)) Cn Tn
 
-    weighed_is : s ≡ pick (alike e c n p) sums 4
-    weighed_is =
+    weighed_is : {s : ℕ} → s ≡ weighed_in e c n p Cn Tn → s ≡ pick (alike e c n p) sums 4
+    weighed_is es =
         es ∙ ap (λ (l : List Stream). pick (alike e c n p) (weighed l Cn Tn) 4) (sym (along_map (gathered_at e c n p g) by_period 0 (length e)))
 
     -- R24, R26 to R29: the sums refuse
-    pub decide_weighed : 0 < s → Refused s ≡ decided_in e c n p g Cn Tn
+    pub decide_weighed : {r : Ground} {x : NoStart} → number r ≡ weighed_in e c n p Cn Tn → x ≡ no.Ground r → said (Err x) ≡ decided_in e c n p g Cn Tn
     unfolding decided_in decided
-    decide_weighed k =
-        rw (eq-eqb (length g) (length e) same) (some_number (alike e c n p) sums s _ weighed_is k)
+    decide_weighed {r} {x} es ex =
+        rw (ex, eq-eqb (length g) (length e) same) (some_number (alike e c n p) sums (number r) _ (weighed_is es) (a_number r))
 
-    module _ (k : s ≤ 0) where
+    module _ (es : 0 ≡ weighed_in e c n p Cn Tn) where
+      none_is : (alike e c n p ≡ true) × (sums ≡ 0)
+      none_is = no_number (alike e c n p) sums 0 (weighed_is es) (omega arith)
+
       alike_all : all_alike e c n p g ≡ true
-      alike_all = both_true (no_number (alike e c n p) sums s weighed_is k).0 (eq-eqb (length g) (length e) same)
-
-      sums_none : sums ≡ 0
-      sums_none = (no_number (alike e c n p) sums s weighed_is k).1
+      alike_all = both_true none_is.0 (eq-eqb (length g) (length e) same)
 
       alike_gaps : alike e c n g ≡ true
       alike_gaps =
-          last_other (eqb (length c) (length e)) (eqb (length n) (length e)) (eqb (length p) (length e)) (eqb (length g) (length e))
-          (no_number (alike e c n p) sums s weighed_is k).0 (eq-eqb (length g) (length e) same)
+          last_other (eqb (length c) (length e)) (eqb (length n) (length e)) (eqb (length p) (length e)) (eqb (length g) (length e)) none_is.0
+          (eq-eqb (length g) (length e) same)
 
-      module _ {x : Pass} (ex : x ≡ passed_in e c n g Cn Tn) where
+      module _ {x : Result ℕ NoPass} (ex : x ≡ passed_in e c n g Cn Tn) where
         passed_is : x ≡ pass_of (map by_gap (gathered e c n p g)) Cn Tn
         passed_is =
             ex
-            ∙ ap (λ (b : Bool). pick b (pass_of (lines_of e c n g) Cn Tn) pass.Unfit) alike_gaps
+            ∙ ap (λ (b : Bool). pick b (pass_of (lines_of e c n g) Cn Tn) (Err pass.Unfit)) alike_gaps
             ∙ ap (λ (l : List Stream). pass_of l Cn Tn) (sym (along_map (gathered_at e c n p g) by_gap 0 (length e)))
 
         past_sums : decided_by x ≡ decided_in e c n p g Cn Tn
         unfolding decided_in decided
-        past_sums = rw (alike_all, sums_none, ← passed_is)
+        past_sums = rw (alike_all, none_is.1, ← passed_is)
 
-        -- R14, R18: no ground holds, and the start is given
-        pub decide_starts : {r : ℕ} → x ≡ pass.Start r → Start r ≡ decided_in e c n p g Cn Tn
-        decide_starts b = rw b at past_sums
+      -- R14, R18: no ground holds, and the start is given
+      pub decide_starts : {r : ℕ} → Ok r ≡ passed_in e c n g Cn Tn → Start r ≡ decided_in e c n p g Cn Tn
+      decide_starts b = past_sums b
 
-        -- R30, R103: an end is short without the new line, and the first is named
-        pub decide_short : {y : FirstExcess} → x ≡ pass.Short y → Short y ≡ decided_in e c n p g Cn Tn
-        decide_short b = rw b at past_sums
+      -- R14, R3: a start is not farther than 65,535 ticks
+      pub start_within : {r : ℕ} → Ok r ≡ passed_in e c n g Cn Tn → r ≤ 65535
+      start_within {r} b =
+          let f = none_weighs (map by_period (gathered e c n p g)) Cn Tn none_is.1 in
+          start_near (map by_gap (gathered e c n p g)) Cn Tn r (omega arith) (sym (passed_is b))
 
-        -- R24: the gaps are not fit
-        pub decide_unfit : x ≡ pass.Unfit → Refused 4 ≡ decided_in e c n p g Cn Tn
-        decide_unfit b = rw b at past_sums
-
-        -- R14, R3: a start is not farther than 65,535 ticks
-        pub start_within : {r : ℕ} → x ≡ pass.Start r → r ≤ 65535
-        start_within {r} b =
-            let f = none_weighs (map by_period (gathered e c n p g)) Cn Tn sums_none in
-            start_near (map by_gap (gathered e c n p g)) Cn Tn r (omega arith) (sym passed_is ∙ b)
+      -- R30, R103, R24: an end is short without the new line, and the first is named; or the gaps are not fit
+      pub decide_not : {q : NoPass} {x : NoStart} → Err q ≡ passed_in e c n g Cn Tn → x ≡ no_start q → said (Err x) ≡ decided_in e c n p g Cn Tn
+      decide_not {q} {x} b ex = rw ex (said_no_start q ∙ past_sums b)

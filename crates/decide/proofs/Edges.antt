@@ -8,10 +8,8 @@ use Rattle.line.specs.Ends.{bound, greatest, soonest_of}
 use Rattle.sums.specs.Lines.{along, sum_of, all_of}
 use Rattle.sums.specs.Weighed.{fitting, weighed_fit, weighed}
 use Rattle.pass.specs.Pass.{greatest_end, ends_by, pass_over, pass_of}
-use Rattle.decide.specs.declared.Decision.{Decision}
-use Rattle.decide.specs.declared.Decision.TheVariants.{Start, Refused, Short}
 use Rattle.decide.specs.Lines.{Line, line_with}
-use Rattle.decide.specs.Decided.{decided, decided_in}
+use Rattle.decide.specs.Decided.{Decision, Start, Refused, Short, decided, decided_in}
 
 -- lines with a new line, and what is to be decided
 pub record Edge : Type 0 where

@@ -1,13 +1,32 @@
 -- What is decided of the lines gathered, R26 to R30 and R14, and how far a start may be.
-use Rattle.std.specs.Prelude.{ℕ, ◌≤◌, Bool, true, false, List, map, ltb}
+use Rattle.std.specs.Prelude.{ℕ, ◌≤◌, Bool, true, false, List, map, ltb, Result, Ok, Err}
 use Rattle.line.specs.Slots.{pick}
-use Rattle.sums.specs.Weighed.{weighed}
-use Rattle.pass.specs.declared.Pass.{Pass}
-use Rattle.pass.specs.declared.Pass.TheVariants as pass
+use Rattle.sums.specs.declared.Ground.TheVariants as sum
+use Rattle.sums.specs.Weighed.{number, weighed}
+use Rattle.pass.specs.declared.FirstExcess.{FirstExcess}
+use Rattle.pass.specs.declared.NoPass.{NoPass}
+use Rattle.pass.specs.declared.NoPass.TheVariants as pass
 use Rattle.pass.specs.Pass.{pass_of}
-use Rattle.decide.specs.declared.Decision.{Decision}
-use Rattle.decide.specs.declared.Decision.TheVariants.{Start, Refused, Short}
+use Rattle.decide.specs.declared.NoStart.{NoStart}
+use Rattle.decide.specs.declared.NoStart.TheVariants as no
 use Rattle.decide.specs.Lines.{Line, by_period, by_gap, gathered, all_alike}
+
+-- R14, R17: the start, counted from the clock, or the number of the ground; R103: of ground 10 the first tick that is short, and its excess
+pub data Decision : Type 0 where
+  Start : ℕ → Decision
+  Refused : ℕ → Decision
+  Short : FirstExcess → Decision
+
+-- R17: what the code's answer says
+abbrev pub said : Result ℕ NoStart → Decision
+said (Ok r) = Start r
+said (Err (no.Ground g)) = Refused (number g)
+said (Err (no.Short x)) = Short x
+
+-- R30, R24: why the pass gives no start
+abbrev pub no_start : NoPass → NoStart
+no_start (pass.Short x) = no.Short x
+no_start pass.Unfit = no.Ground sum.Unfit
 
 -- one test: refusal n, or else what comes after
 abbrev pub refused_by : Bool → ℕ → Decision → Decision
@@ -15,10 +34,10 @@ refused_by true n d = Refused n
 refused_by false n d = d
 
 -- R30, R103, R14, R24: what the pass says: the start, the first short tick, or that the lines are not fit
-abbrev pub decided_by : Pass → Decision
-decided_by (pass.Start r) = Start r
-decided_by (pass.Short x) = Short x
-decided_by pass.Unfit = Refused 4
+abbrev pub decided_by : Result ℕ NoPass → Decision
+decided_by (Ok r) = Start r
+decided_by (Err (pass.Short x)) = Short x
+decided_by (Err pass.Unfit) = Refused 4
 
 -- R18, R24, R26 to R30, R14: what the sums and the pass say of the lines
 unfoldable pub decided : List Line → (Cn Tn : ℕ) → Decision

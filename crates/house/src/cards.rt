@@ -27,10 +27,8 @@ pub extern "C" fn trimthuel_rewrite(card: &[u8], out: &mut [u8]) -> Returned
 pub extern "C" fn trimthuel_run(card: &[u8], ticks: u16) -> Returned
     ensures { result ≡ result_of (run_of card.now ticks) }
 {
-    let c = reader::read(card);
-    let said = c.answer;
-    match said {
-        Ok(()) => calls::cards::run(c.table, c.request, ticks),
-        Err(x) => Returned::refused(x),
+    match reader::card(card) {
+        Ok(read) => calls::cards::run(read.card.table, read.card.request, ticks),
+        Err(x) => Returned::from(x),
     }
 }

@@ -10,10 +10,8 @@ use calls::Returned;
 pub extern "C" fn trimthuel_counts(table: &[u8], counts: &mut [u64; 18]) -> Returned
     ensures { (result ≡ counts_for (load_of table.now)) × (counts.new ≡ counts_after (load_of table.now) counts.old) }
 {
-    let i = image::load(table);
-    let said = i.answer;
-    match said {
-        Ok(()) => calls::tables::counts(i.table, counts),
-        Err(x) => Returned::refused(x),
+    match image::try_load(table) {
+        Ok(t) => calls::tables::counts(t, counts),
+        Err(x) => Returned::from(x),
     }
 }

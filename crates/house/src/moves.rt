@@ -20,14 +20,12 @@ pub extern "C" fn trimthuel_write_card(
 ) -> Returned
     ensures { (result ≡ result_of (write_card_for (load_of table.now) (request_of need period stretched.now) (length card.old))) × (card.new ≡ card_after (load_of table.now) (request_of need period stretched.now) card.old) }
 {
-    let i = image::load(table);
-    let said = i.answer;
-    match said {
-        Ok(()) => {
+    match image::try_load(table) {
+        Ok(t) => {
             let q = Request::new(*stretched, need, period);
-            calls::written(0, writer::write(i.table, q, card))
+            calls::written(0, writer::write(t, q, card))
         }
-        Err(x) => Returned::refused(x),
+        Err(x) => Returned::from(x),
     }
 }
 
@@ -40,10 +38,8 @@ pub extern "C" fn trimthuel_read_card(
 ) -> Returned
     ensures { (result ≡ result_of (read_card_for (read_of card.now) (length table.old))) × (table.new ≡ image_after (read_of card.now) table.old) × (numbers.new ≡ numbers_after (read_of card.now) (length table.old) numbers.old) }
 {
-    let c = reader::read(card);
-    let said = c.answer;
-    match said {
-        Ok(()) => calls::moves::move_in(c.table, c.request, table, numbers),
-        Err(x) => Returned::refused(x),
+    match reader::card(card) {
+        Ok(read) => calls::moves::move_in(read.card.table, read.card.request, table, numbers),
+        Err(x) => Returned::from(x),
     }
 }

@@ -27,11 +27,9 @@ pub extern "C" fn trimthuel_ask(
 ) -> Returned
     ensures { result ≡ ask_for (load_of table.now) (request_of need period stretched.now) }
 {
-    let i = image::load(table);
-    let said = i.answer;
-    match said {
-        Ok(()) => { calls::tables::ask(i.table, Request::new(*stretched, need, period)) }
-        Err(x) => Returned::refused(x),
+    match image::try_load(table) {
+        Ok(t) => calls::tables::ask(t, Request::new(*stretched, need, period)),
+        Err(x) => Returned::from(x),
     }
 }
 
@@ -45,13 +43,11 @@ pub extern "C" fn trimthuel_admit(
 ) -> Returned
     ensures { (result ≡ ask_for (load_of table.old) (request_of need period stretched.now)) × (table.new ≡ after_admit (load_of table.old) (request_of need period stretched.now) table.old) }
 {
-    let i = image::load(table);
-    let said = i.answer;
-    match said {
-        Ok(()) => {
-            calls::tables::admit(i.table, Request::new(*stretched, need, period), table)
+    match image::try_load(table) {
+        Ok(t) => {
+            calls::tables::admit(t, Request::new(*stretched, need, period), table)
         }
-        Err(x) => Returned::refused(x),
+        Err(x) => Returned::from(x),
     }
 }
 
@@ -60,11 +56,9 @@ pub extern "C" fn trimthuel_admit(
 pub extern "C" fn trimthuel_step(table: &mut [u8]) -> Returned
     ensures { (result ≡ step_for (load_of table.old)) × (table.new ≡ after_step (load_of table.old) table.old) }
 {
-    let i = image::load(table);
-    let said = i.answer;
-    match said {
-        Ok(()) => calls::tables::step(i.table, table),
-        Err(x) => Returned::refused(x),
+    match image::try_load(table) {
+        Ok(t) => calls::tables::step(t, table),
+        Err(x) => Returned::from(x),
     }
 }
 
@@ -73,11 +67,9 @@ pub extern "C" fn trimthuel_step(table: &mut [u8]) -> Returned
 pub extern "C" fn trimthuel_leave(table: &mut [u8], number: u64) -> Returned
     ensures { (result ≡ leave_for (load_of table.old) number) × (table.new ≡ after_leave (load_of table.old) number table.old) }
 {
-    let i = image::load(table);
-    let said = i.answer;
-    match said {
-        Ok(()) => calls::tables::leave(i.table, number, table),
-        Err(x) => Returned::refused(x),
+    match image::try_load(table) {
+        Ok(t) => calls::tables::leave(t, number, table),
+        Err(x) => Returned::from(x),
     }
 }
 
@@ -86,10 +78,8 @@ pub extern "C" fn trimthuel_leave(table: &mut [u8], number: u64) -> Returned
 pub extern "C" fn trimthuel_ready(table: &[u8]) -> Returned
     ensures { ReadyFor (load_of table.now) result }
 {
-    let i = image::load(table);
-    let said = i.answer;
-    match said {
-        Ok(()) => calls::tables::ready(i.table),
-        Err(x) => Returned::refused(x),
+    match image::try_load(table) {
+        Ok(t) => calls::tables::ready(t),
+        Err(x) => Returned::from(x),
     }
 }
