@@ -3,32 +3,18 @@
 
 mod place; // the table with the new line in it
 
-ghost use Rattle.std.specs.Prelude.{Ok, Err, ◌≡◌};
 ghost use Rattle.admit.specs.Admits.{Admits};
 
-// R17: with a refusal the table is handed back as it came
-fn untouched(t: table::Table, x: table::Refusal) -> table::Admitted
-    ensures { result ≡ record { table = t; answer = Err x } }
-{
-    table::Admitted {
-        table: t,
-        answer: Err(x),
-    }
-}
+use table::{Acted, Request, Table};
 
-// R42: ask's answer, and with a start the table that it leads to
-pub fn admit(t: table::Table, q: table::Request) -> table::Admitted
+// R42: ask's answer, and with a start the table that it leads to; R17: with a refusal the table as it came
+pub fn admit(t: Table, q: Request) -> Acted<u64>
     ensures { Admits t q result }
 {
-    let a = ask::ask(t, q);
-    match a {
-        Ok(r) => {
-            let next = place::admitted(t, q, r);
-            table::Admitted {
-                table: next,
-                answer: Ok(r),
-            }
-        }
-        Err(x) => untouched(t, x),
-    }
+    let answer = ask::ask(t, q);
+    let table = match answer {
+        Ok(start) => place::admitted(t, q, start),
+        Err(_) => t,
+    };
+    Acted { table, answer }
 }

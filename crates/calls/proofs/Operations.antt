@@ -7,9 +7,7 @@ use Prim.Native.Nat.{ℕ}
 use Rattle.table.specs.declared.Table.{Table}
 use Rattle.table.specs.declared.Request.{Request}
 use Rattle.table.specs.declared.Refusal.{Refusal}
-use Rattle.table.specs.declared.Admitted.{Admitted}
-use Rattle.table.specs.declared.Stepped.{Stepped}
-use Rattle.table.specs.declared.Left.{Left}
+use Rattle.table.specs.declared.Acted.{Acted}
 use Rattle.table.specs.Words.{slot_number}
 use Rattle.table.specs.Ask.{ask_of}
 use Rattle.table.specs.Admit.{admit_of}
@@ -26,15 +24,15 @@ use Rattle.calls.specs.Tables.{changed, asked_as, admitted_in, ran_as, stepped_a
 pub ready_granted : (t : Table) {r : Returned} {w : ℕ} → r ≡ granted_as 0 w → ReadyWord t.slots w → ReadyFor (Ok t) r
 ready_granted t e h = rw e (refl, h)
 
-module _ (t : Table) (q : Request) {m : Admitted} (e : m ≡ admit_of t q) where
+module _ (t : Table) (q : Request) {m : Acted ℕ} (e : m ≡ admit_of t q) where
   -- R42: admit answers what ask answers
   pub admit_answer : m.answer ≡ ask_of t q
-  admit_answer = ap (λ (x : Admitted). x.answer) e ∙ admitted_answer t q (ask_of t q)
+  admit_answer = ap (λ (x : Acted ℕ). x.answer) e ∙ admitted_answer t q (ask_of t q)
 
   -- R87: with a start the admitted table was stored
   pub admit_granted : {r : ℕ} {o : List ℕ} (l : List ℕ) → m.answer ≡ Ok r → o ≡ stored_in m.table l → o ≡ admitted_in t q l
   admit_granted l h s =
-      s ∙ ap (λ (x : Admitted). stored_in x.table l) e
+      s ∙ ap (λ (x : Acted ℕ). stored_in x.table l) e
       ∙ ap (λ (a : Said ℕ). changed a (stored_in (admit_of t q).table l) l) (sym h ∙ admit_answer)
 
   -- R17, R87: a refusal stores nothing
@@ -45,41 +43,41 @@ module _ (t : Table) (q : Request) {m : Admitted} (e : m ≡ admit_of t q) where
     ap (λ (a : Said ℕ). changed a (stored_in (admit_of t q).table l) l) (sym h ∙ admit_answer),
   )
 
-module _ (t : Table) {s : Stepped} (e : s ≡ step_of t) where
-  outcome_is : s.outcome ≡ (step_of t).outcome
-  outcome_is = ap (λ (x : Stepped). x.outcome) e
+module _ (t : Table) {s : Acted (Option ℕ)} (e : s ≡ step_of t) where
+  outcome_is : s.answer ≡ (step_of t).answer
+  outcome_is = ap (λ (x : Acted (Option ℕ)). x.answer) e
 
   -- R88: the slot that ran is answered, and the new table was stored
-  pub step_ran : {w : Option ℕ} {k : ℕ} {r : Returned} (l o : List ℕ) → s.outcome ≡ Ok w → k ≡ slot_number w → r ≡ granted_as 0 k
+  pub step_ran : {w : Option ℕ} {k : ℕ} {r : Returned} (l o : List ℕ) → s.answer ≡ Ok w → k ≡ slot_number w → r ≡ granted_as 0 k
       → o ≡ stored_in s.table l → (r ≡ stepped_as t) × (o ≡ stepped_in t l)
   step_ran l o h n g p = (
     g ∙ ap (granted_as 0) n ∙ ap (λ (x : Said (Option ℕ)). ran_as x) (sym h ∙ outcome_is),
-    p ∙ ap (λ (x : Stepped). stored_in x.table l) e
+    p ∙ ap (λ (x : Acted (Option ℕ)). stored_in x.table l) e
         ∙ ap (λ (x : Said (Option ℕ)). changed x (stored_in (step_of t).table l) l) (sym h ∙ outcome_is),
   )
 
   -- R17, R88: a refused step stores nothing
-  pub step_refused : {x : Refusal} {r : Returned} (l : List ℕ) → s.outcome ≡ Err x → r ≡ refused_as x
+  pub step_refused : {x : Refusal} {r : Returned} (l : List ℕ) → s.answer ≡ Err x → r ≡ refused_as x
       → (r ≡ stepped_as t) × (l ≡ stepped_in t l)
   step_refused l h g = (
     g ∙ ap (λ (x : Said (Option ℕ)). ran_as x) (sym h ∙ outcome_is),
     ap (λ (x : Said (Option ℕ)). changed x (stored_in (step_of t).table l) l) (sym h ∙ outcome_is),
   )
 
-module _ (t : Table) (n : ℕ) {s : Left} (e : s ≡ leave_of t n) where
-  leaving_is : s.leaving ≡ (leave_of t n).leaving
-  leaving_is = ap (λ (x : Left). x.leaving) e
+module _ (t : Table) (n : ℕ) {s : Acted ℕ} (e : s ≡ leave_of t n) where
+  leaving_is : s.answer ≡ (leave_of t n).answer
+  leaving_is = ap (λ (x : Acted ℕ). x.answer) e
 
   -- R102: the ticks are answered, and the new table was stored
-  pub leave_granted : {k : ℕ} {r : Returned} (l o : List ℕ) → s.leaving ≡ Ok k → r ≡ granted_as 0 k → o ≡ stored_in s.table l → (r ≡ left_as t n) × (o ≡ left_in t n l)
+  pub leave_granted : {k : ℕ} {r : Returned} (l o : List ℕ) → s.answer ≡ Ok k → r ≡ granted_as 0 k → o ≡ stored_in s.table l → (r ≡ left_as t n) × (o ≡ left_in t n l)
   leave_granted l o h g p = (
     g ∙ ap (λ (x : Said ℕ). result_of x) (sym h ∙ leaving_is),
-    p ∙ ap (λ (x : Left). stored_in x.table l) e
+    p ∙ ap (λ (x : Acted ℕ). stored_in x.table l) e
         ∙ ap (λ (x : Said ℕ). changed x (stored_in (leave_of t n).table l) l) (sym h ∙ leaving_is),
   )
 
   -- R17, R102: a refused leave stores nothing
-  pub leave_refused : {x : Refusal} {r : Returned} (l : List ℕ) → s.leaving ≡ Err x → r ≡ refused_as x → (r ≡ left_as t n) × (l ≡ left_in t n l)
+  pub leave_refused : {x : Refusal} {r : Returned} (l : List ℕ) → s.answer ≡ Err x → r ≡ refused_as x → (r ≡ left_as t n) × (l ≡ left_in t n l)
   leave_refused l h g = (
     g ∙ ap (λ (x : Said ℕ). result_of x) (sym h ∙ leaving_is),
     ap (λ (x : Said ℕ). changed x (stored_in (leave_of t n).table l) l) (sym h ∙ leaving_is),

@@ -5,7 +5,7 @@ use Prim.Native.Nat.{ℕ, suc, ◌+◌, ◌-◌, ◌≤◌, ◌<◌}
 use native.Mathlib.Omega.{arith}
 use Rattle.table.specs.declared.Table.{Table}
 use Rattle.table.specs.declared.Refusal.{Refusal}
-use Rattle.table.specs.declared.Stepped.{Stepped}
+use Rattle.table.specs.declared.Acted.{Acted}
 use Rattle.table.specs.Words.{Said}
 use Rattle.table.specs.Step.{step_of}
 use Rattle.calls.specs.Cards.{counted, more, and_then, ticks_run}
@@ -31,18 +31,18 @@ run_end ticks i ran t h =
     left : ticks - i ≡ 0
     left = omega arith
 
-one_tick : (n : ℕ) (t : Table) → ticks_run (suc n) t ≡ and_then ((step_of t).outcome) (ticks_run n (step_of t).table)
+one_tick : (n : ℕ) (t : Table) → ticks_run (suc n) t ≡ and_then ((step_of t).answer) (ticks_run n (step_of t).table)
 unfolding ticks_run
 one_tick n t = refl
 
-module _ (ticks i ran : ℕ) (t : Table) (h : i < ticks) {s : Stepped} (e : s ≡ step_of t) where
-  next : ticks_run (ticks - i) t ≡ and_then s.outcome (ticks_run (ticks - (i + 1)) s.table)
+module _ (ticks i ran : ℕ) (t : Table) (h : i < ticks) {s : Acted (Option ℕ)} (e : s ≡ step_of t) where
+  next : ticks_run (ticks - i) t ≡ and_then s.answer (ticks_run (ticks - (i + 1)) s.table)
   next =
       ap (λ (n : ℕ). ticks_run n t) (omega arith) ∙ one_tick (ticks - (i + 1)) t
-      ∙ ap (λ (x : Stepped). and_then x.outcome (ticks_run (ticks - (i + 1)) x.table)) (sym e)
+      ∙ ap (λ (x : Acted (Option ℕ)). and_then x.answer (ticks_run (ticks - (i + 1)) x.table)) (sym e)
 
   -- R66: a step that ran moves its tick from what is left to what was counted
-  pub run_on : (w : Option ℕ) → s.outcome ≡ Ok w → (k : ℕ) → k ≡ counted w
+  pub run_on : (w : Option ℕ) → s.answer ≡ Ok w → (k : ℕ) → k ≡ counted w
       → more (ran + k) (ticks_run (ticks - (i + 1)) s.table) ≡ more ran (ticks_run (ticks - i) t)
   run_on w o k n =
       let rest = ticks_run (ticks - (i + 1)) s.table in
@@ -50,7 +50,7 @@ module _ (ticks i ran : ℕ) (t : Table) (h : i < ticks) {s : Stepped} (e : s �
       ∙ ap (λ (x : Said (Option ℕ)). more ran (and_then x rest)) (sym o) ∙ ap (more ran) (sym next)
 
   -- R66: a refused step settles what all ticks say
-  pub run_stop : (x : Refusal) → s.outcome ≡ Err x → Err x ≡ more ran (ticks_run (ticks - i) t)
+  pub run_stop : (x : Refusal) → s.answer ≡ Err x → Err x ≡ more ran (ticks_run (ticks - i) t)
   run_stop x o =
       ap (λ (y : Said (Option ℕ)). more ran (and_then y (ticks_run (ticks - (i + 1)) s.table))) (sym o)
       ∙ ap (more ran) (sym next)

@@ -93,7 +93,7 @@ stored_image l t u e =
 -- bytes that load as a table
 module _ (l : List ℕ) (t : Table) (e : load_of l ≡ Ok t) where
   -- R88: where a step is not refused they are the stepped table's image
-  pub step_leaves : (o : Option ℕ) → (step_of t).outcome ≡ Ok o → after_step (load_of l) l ≡ image_of (step_of t).table
+  pub step_leaves : (o : Option ℕ) → (step_of t).answer ≡ Ok o → after_step (load_of l) l ≡ image_of (step_of t).table
   step_leaves o h =
       ap (λ (s : Said Table). after_step s l) e ∙ ap (λ (s : Said (Option ℕ)). changed s (stored_in (step_of t).table l) l) h
       ∙ stored_image l t (step_of t).table e
@@ -105,7 +105,7 @@ module _ (l : List ℕ) (t : Table) (e : load_of l ≡ Ok t) where
       ∙ stored_image l t (admit_of t q).table e
 
   -- R102: where a line is let go they are the image of the table that this leaves
-  pub leave_leaves : (n k : ℕ) → (leave_of t n).leaving ≡ Ok k → after_leave (load_of l) n l ≡ image_of (leave_of t n).table
+  pub leave_leaves : (n k : ℕ) → (leave_of t n).answer ≡ Ok k → after_leave (load_of l) n l ≡ image_of (leave_of t n).table
   leave_leaves n k h =
       ap (λ (s : Said Table). after_leave s n l) e ∙ ap (λ (s : Said ℕ). changed s (stored_in (leave_of t n).table l) l) h
       ∙ stored_image l t (leave_of t n).table e

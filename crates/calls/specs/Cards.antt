@@ -1,7 +1,7 @@
 -- Whole cards: what each function says of a card's bytes, and what the lent buffer holds then.
 use Rattle.std.specs.Prelude.{Ok, Err, ℕ, zero, suc, ◌+◌, List, Option, None, Some}
 use Rattle.table.specs.declared.Table.{Table}
-use Rattle.table.specs.declared.Admitted.{Admitted}
+use Rattle.table.specs.declared.Acted.{Acted}
 use Rattle.table.specs.Words.{refusal, Said}
 use Rattle.table.specs.Ask.{ask_of}
 use Rattle.table.specs.Admit.{admit_of}
@@ -76,7 +76,7 @@ and_then (Err x) s = Err x
 -- R66: so many steps of a table: the number of ticks in which a line ran, or the first refusal
 unfoldable pub ticks_run : (ticks : ℕ) → Table → Said ℕ
 ticks_run zero t = Ok 0
-ticks_run (suc n) t = and_then ((step_of t).outcome) (ticks_run n (step_of t).table)
+ticks_run (suc n) t = and_then ((step_of t).answer) (ticks_run n (step_of t).table)
 
 -- R66: ask's refusal, or the steps of the admitted table
 abbrev pub unless_refused : Said ℕ → Said ℕ → Said ℕ
@@ -84,7 +84,7 @@ unless_refused (Ok start) s = s
 unless_refused (Err x) s = Err x
 
 -- R66: what an admission and so many steps after it say
-abbrev pub run_admitted : (ticks : ℕ) → Admitted → Said ℕ
+abbrev pub run_admitted : (ticks : ℕ) → Acted ℕ → Said ℕ
 run_admitted n a = unless_refused a.answer (ticks_run n a.table)
 
 -- R66: the reader's refusal, or the run of the card's table with its request admitted

@@ -47,11 +47,11 @@ ran_as (Err x) = refused_as x
 
 -- R88: a step of a table
 abbrev pub stepped_as : Table → Returned
-stepped_as t = ran_as ((step_of t).outcome)
+stepped_as t = ran_as ((step_of t).answer)
 
 -- R88: the image of the stepped table
 abbrev pub stepped_in : Table → List ℕ → List ℕ
-stepped_in t l = changed ((step_of t).outcome) (stored_in (step_of t).table l) l
+stepped_in t l = changed ((step_of t).answer) (stored_in (step_of t).table l) l
 
 -- R88: the image's refusal, or the step's answer
 abbrev pub step_for : Said Table → Returned
@@ -65,11 +65,11 @@ after_step (Err x) l = l
 
 -- R102: a line of a table let go: in how many ticks its slot holds nothing
 abbrev pub left_as : Table → (number : ℕ) → Returned
-left_as t n = result_of ((leave_of t n).leaving)
+left_as t n = result_of ((leave_of t n).answer)
 
 -- R102: the image of the table with that line let go
 abbrev pub left_in : Table → (number : ℕ) → List ℕ → List ℕ
-left_in t n l = changed ((leave_of t n).leaving) (stored_in (leave_of t n).table l) l
+left_in t n l = changed ((leave_of t n).answer) (stored_in (leave_of t n).table l) l
 
 -- R102: the image's refusal, or the leave's answer
 abbrev pub leave_for : Said Table → (number : ℕ) → Returned

@@ -25,11 +25,11 @@ unfolding lowest chosen settling advance step_of
 new_table_is_kept = refl
 
 -- R48: slot 0 runs, and in the step after it none
-pub answer_is_of_this_step : ((step_of (owing 7)).outcome ≡ Ok (Some 0)) × ((step_of (driven_of (owing 7))).outcome ≡ Ok None)
+pub answer_is_of_this_step : ((step_of (owing 7)).answer ≡ Ok (Some 0)) × ((step_of (driven_of (owing 7))).answer ≡ Ok None)
 unfolding lowest chosen settling advance step_of
 answer_is_of_this_step = (refl, refl)
 
 -- R35, R51: at the clock's last tick the step is refused, and the driver keeps what it had, clock and line
-pub refused_table_is_kept : ((step_of (owing (2 ^ 48))).outcome ≡ Err (refusal 15 0)) × (driven_of (owing (2 ^ 48)) ≡ owing (2 ^ 48))
+pub refused_table_is_kept : ((step_of (owing (2 ^ 48))).answer ≡ Err (refusal 15 0)) × (driven_of (owing (2 ^ 48)) ≡ owing (2 ^ 48))
 unfolding lowest chosen settling advance step_of
 refused_table_is_kept = (refl, refl)

@@ -6,4 +6,4 @@ use Rattle.table.specs.Step.{step_of}
 
 -- R48, R51: the new table, or the old one where the step was refused
 abbrev pub driven_of : Table → Table
-driven_of t = pick (is_ok (step_of t).outcome) (step_of t).table t
+driven_of t = pick (is_ok (step_of t).answer) (step_of t).table t

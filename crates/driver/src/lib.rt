@@ -5,24 +5,24 @@ ghost use Rattle.std.specs.Prelude.{◌≡◌};
 ghost use Rattle.table.specs.Step.{step_of};
 ghost use Rattle.driver.specs.Driven.{driven_of};
 
-use table::{Refusal, Stepped, Table};
+use table::{Acted, Refusal, Table};
 
 // R51, R48: the table is stepped by value and kept, or left as it is where the step was refused.
 pub fn drive(t: &mut Table) -> Result<Option<usize>, Refusal>
-    ensures { (result ≡ (step_of t.old).outcome) × (t.new ≡ driven_of t.old) }
+    ensures { (result ≡ (step_of t.old).answer) × (t.new ≡ driven_of t.old) }
 {
     let s = t.step();
-    if s.outcome.is_ok() {
+    if s.answer.is_ok() {
         *t = s.table;
     }
-    s.outcome
+    s.answer
 }
 
 // R51: the owner of a table: lends it to `drive`, and hands back what it then holds with the answer.
 #[tactic(auto, using(crate::proofs::Keeps::driven_is_stepped))]
-pub fn driven(mut table: Table) -> Stepped
+pub fn driven(mut table: Table) -> Acted<Option<usize>>
     ensures { result ≡ step_of table }
 {
-    let outcome = drive(&mut table);
-    Stepped { table, outcome }
+    let answer = drive(&mut table);
+    Acted { table, answer }
 }

@@ -22,7 +22,7 @@ use Rattle.line.proofs.Search.{true_false, lowest_is}
 use Rattle.line.proofs.Stretched.{at_stretched}
 use Rattle.table.specs.declared.Table.{Table}
 use Rattle.table.specs.declared.Request.{Request}
-use Rattle.table.specs.declared.Stepped.{Stepped}
+use Rattle.table.specs.declared.Acted.{Acted}
 use Rattle.table.specs.Words.{empty_table}
 use Rattle.table.specs.Counts.{Inside, had_by, sum, accounted, counting, settle}
 use Rattle.table.specs.Grounds.{entry, asked}
@@ -206,8 +206,8 @@ booked_after (admitting q) t g b = go (ask_of t q) refl
     go (Err x) e = b
 booked_after stepping t g b =
     split (2 ^ 48) t.clock
-    (λ l. subst (λ (s : Stepped). Booked s.table) (sym (at_last t l)) b)
-    (λ l. subst (λ (s : Stepped). Booked s.table) (sym (step_table t g l)) (booked_ticked t b))
+    (λ l. subst (λ (s : Acted (Option ℕ)). Booked s.table) (sym (at_last t l)) b)
+    (λ l. subst (λ (s : Acted (Option ℕ)). Booked s.table) (sym (step_table t g l)) (booked_ticked t b))
 booked_after (leaving n) t g b = left_is Booked t n b (λ f m. booked_let_go n t m b)
 
 booked_run : (acts : List Act) (t : Table) → Good t → Booked t → Booked (run acts t)

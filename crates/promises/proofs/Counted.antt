@@ -17,7 +17,7 @@ use Rattle.line.specs.Leave.{let_go}
 use Rattle.line.proofs.Streams.{nothing_passed}
 use Rattle.line.proofs.Search.{true_false, lowest_is}
 use Rattle.table.specs.declared.Table.{Table}
-use Rattle.table.specs.declared.Stepped.{Stepped}
+use Rattle.table.specs.declared.Acted.{Acted}
 use Rattle.table.specs.Words.{empty_table}
 use Rattle.table.specs.Counts.{had_by, counting, settle}
 use Rattle.table.specs.Ask.{ask_of}
@@ -67,10 +67,10 @@ act_had (admitting q) t k g h = λ f. go (ask_of t q)
     go (Err x) = omega arith
 act_had stepping t k g h =
     split (2 ^ 48) t.clock
-    (λ l. subst (λ (s : Stepped). is_nothing (at s.table.slots k) ≡ false → had_by s.table k ≡ had_by t k + times k (ran_in s.outcome)) (sym (at_last t l)) (λ f. omega arith))
+    (λ l. subst (λ (s : Acted (Option ℕ)). is_nothing (at s.table.slots k) ≡ false → had_by s.table k ≡ had_by t k + times k (ran_in s.answer)) (sym (at_last t l)) (λ f. omega arith))
     (λ l. let o = choose t in
-    let e : times k (ran_in (ticked o t).outcome) ≡ is_slot k o + 0 = ap (λ (p : Option ℕ). is_slot k p + 0) (slot_of_which o) in
-    subst (λ (s : Stepped). is_nothing (at s.table.slots k) ≡ false → had_by s.table k ≡ had_by t k + times k (ran_in s.outcome)) (sym (step_table t g l))
+    let e : times k (ran_in (ticked o t).answer) ≡ is_slot k o + 0 = ap (λ (p : Option ℕ). is_slot k p + 0) (slot_of_which o) in
+    subst (λ (s : Acted (Option ℕ)). is_nothing (at s.table.slots k) ≡ false → had_by s.table k ≡ had_by t k + times k (ran_in s.answer)) (sym (step_table t g l))
     (λ f. omega (arith, tick_had o t k h (stayed o t.slots k f), e)))
 act_had (leaving n) t k g h =
     left_is (λ u. is_nothing (at u.slots k) ≡ false → had_by u k ≡ had_by t k + 0) t n (λ f. omega arith) (λ g m f. omega (arith, let_go_had n t k m f))
@@ -81,8 +81,8 @@ act_length (asking q) t g = refl
 act_length (admitting q) t g = admit_counts t q
 act_length stepping t g =
     split (2 ^ 48) t.clock
-    (λ l. ap (λ (s : Stepped). length s.table.had) (at_last t l))
-    (λ l. ap (λ (s : Stepped). length s.table.had) (step_table t g l) ∙ tick_length (choose t) t)
+    (λ l. ap (λ (s : Acted (Option ℕ)). length s.table.had) (at_last t l))
+    (λ l. ap (λ (s : Acted (Option ℕ)). length s.table.had) (step_table t g l) ∙ tick_length (choose t) t)
 act_length (leaving n) t g = leave_counts t n
 
 -- ---- since the present line was admitted
@@ -151,10 +151,10 @@ act_idle (admitting q) t g = go (ask_of t q)
     go (Err x) = omega arith
 act_idle stepping t g =
     split (2 ^ 48) t.clock
-    (λ l. subst (λ (s : Stepped). s.table.idle ≡ t.idle + idles (ran_in s.outcome)) (sym (at_last t l)) (omega arith))
+    (λ l. subst (λ (s : Acted (Option ℕ)). s.table.idle ≡ t.idle + idles (ran_in s.answer)) (sym (at_last t l)) (omega arith))
     (λ l. let o = choose t in
-    let e : idles (ran_in (ticked o t).outcome) ≡ is_idle o + 0 = ap (λ (p : Option ℕ). is_idle p + 0) (slot_of_which o) in
-    subst (λ (s : Stepped). s.table.idle ≡ t.idle + idles (ran_in s.outcome)) (sym (step_table t g l)) (omega (arith, settling_idle (departs_in o t.slots) (length t.slots) (counting o t), idle_after_lem o t.idle, e)))
+    let e : idles (ran_in (ticked o t).answer) ≡ is_idle o + 0 = ap (λ (p : Option ℕ). is_idle p + 0) (slot_of_which o) in
+    subst (λ (s : Acted (Option ℕ)). s.table.idle ≡ t.idle + idles (ran_in s.answer)) (sym (step_table t g l)) (omega (arith, settling_idle (departs_in o t.slots) (length t.slots) (counting o t), idle_after_lem o t.idle, e)))
 act_idle (leaving n) t g = left_is (λ u. u.idle ≡ t.idle + 0) t n (omega arith) (λ f m. go (is_nothing (let_go (at t.slots n))))
   where
     go : (b : Bool) → (pick b (settle n t) t).idle ≡ t.idle + 0
@@ -217,8 +217,8 @@ nothing_unplaced (admitting q) t k g n e = go (ask_of t q) refl n
     go (Err x) f m = e
 nothing_unplaced stepping t k g n e =
     split (2 ^ 48) t.clock
-    (λ l. subst (λ (s : Stepped). is_nothing (at s.table.slots k) ≡ true) (sym (at_last t l)) e)
-    (λ l. subst (λ (s : Stepped). is_nothing (at s.table.slots k) ≡ true) (sym (step_table t g l)) (still_empty t k e))
+    (λ l. subst (λ (s : Acted (Option ℕ)). is_nothing (at s.table.slots k) ≡ true) (sym (at_last t l)) e)
+    (λ l. subst (λ (s : Acted (Option ℕ)). is_nothing (at s.table.slots k) ≡ true) (sym (step_table t g l)) (still_empty t k e))
 nothing_unplaced (leaving n) t k g m e = leave_at_lem (λ h. is_nothing h ≡ true) t n k e (λ z. nothing_let_go (at t.slots k) e)
 
 still_nothing : (acts : List Act) (t : Table) (k : ℕ) → Good t → Unplaced k acts t → is_nothing (at t.slots k) ≡ true → is_nothing (at (run acts t).slots k) ≡ true

@@ -9,9 +9,7 @@ use lib.ListN.{length}
 use Rattle.table.specs.declared.Table.{Table}
 use Rattle.table.specs.declared.Request.{Request}
 use Rattle.table.specs.declared.Refusal.{Refusal}
-use Rattle.table.specs.declared.Admitted.{Admitted}
-use Rattle.table.specs.declared.Stepped.{Stepped}
-use Rattle.table.specs.declared.Left.{Left}
+use Rattle.table.specs.declared.Acted.{Acted}
 use Rattle.line.specs.Slots.{pick}
 use Rattle.table.specs.Words.{empty_table, Said}
 use Rattle.table.specs.Grounds.{grounds, FirstOf, Answers}
@@ -100,8 +98,8 @@ fixed_answer = record {
 first_refused : (t : Table) (q : Request) (a : Said ℕ) (x : Refusal) → Answers t q a → a ≡ Err x → FirstOf grounds t q x
 first_refused t q a x h e = subst (Answers t q) e h
 
-admit_keeps : (t : Table) (q : Request) (m : Admitted) (x : Refusal) → m ≡ admit_of t q → m.answer ≡ Err x → m.table ≡ t
-admit_keeps t q m x e f = ap (λ (n : Admitted). n.table) e ∙ go (ask_of t q) (ap (λ (n : Admitted). n.answer) (sym e) ∙ f)
+admit_keeps : (t : Table) (q : Request) (m : Acted ℕ) (x : Refusal) → m ≡ admit_of t q → m.answer ≡ Err x → m.table ≡ t
+admit_keeps t q m x e f = ap (λ (n : Acted ℕ). n.table) e ∙ go (ask_of t q) (ap (λ (n : Acted ℕ). n.answer) (sym e) ∙ f)
   where
     go : (a : Said ℕ) → (admit_with t q a).answer ≡ Err x → (admit_with t q a).table ≡ t
     go (Ok r) h = let z : ◌≡◌ {A = ℕ} 0 1 = cc in absurd (omega arith)
@@ -112,21 +110,21 @@ step_refused : (o : Said (Option ℕ)) (x : Refusal) → o ≡ Err x → o ≡ E
 step_refused (Ok w) x e = let z : ◌≡◌ {A = ℕ} 0 1 = cc in absurd (omega arith)
 step_refused (Err y) x e = let z : y ≡ x = cc in ap Err z
 
-step_keeps : (t : Table) (s : Stepped) (x : Refusal) → s ≡ step_of t → s.outcome ≡ Err x → s.table ≡ t
+step_keeps : (t : Table) (s : Acted (Option ℕ)) (x : Refusal) → s ≡ step_of t → s.answer ≡ Err x → s.table ≡ t
 step_keeps t s x e f =
-    ap (λ (r : Stepped). r.table) e ∙ refused_keeps t x (step_refused (step_of t).outcome x (ap (λ (r : Stepped). r.outcome) (sym e) ∙ f))
+    ap (λ (r : Acted (Option ℕ)). r.table) e ∙ refused_keeps t x (step_refused (step_of t).answer x (ap (λ (r : Acted (Option ℕ)). r.answer) (sym e) ∙ f))
 
 -- a leave's answer that says a refusal is that refusal
 leave_refused : (a : Said ℕ) (x : Refusal) → a ≡ Err x → a ≡ Err x
 leave_refused (Ok k) x e = let z : ◌≡◌ {A = ℕ} 0 1 = cc in absurd (omega arith)
 leave_refused (Err y) x e = let z : y ≡ x = cc in ap Err z
 
-left_keeps : (t : Table) (n : ℕ) (r : Left) (x : Refusal) → r ≡ leave_of t n → r.leaving ≡ Err x → r.table ≡ t
+left_keeps : (t : Table) (n : ℕ) (r : Acted ℕ) (x : Refusal) → r ≡ leave_of t n → r.answer ≡ Err x → r.table ≡ t
 left_keeps t n r x e f =
-    ap (λ (s : Left). s.table) e ∙ leave_keeps t x n (leave_refused (leave_of t n).leaving x (ap (λ (s : Left). s.leaving) (sym e) ∙ f))
+    ap (λ (s : Acted ℕ). s.table) e ∙ leave_keeps t x n (leave_refused (leave_of t n).answer x (ap (λ (s : Acted ℕ). s.answer) (sym e) ∙ f))
 
 drive_keeps : (t : Table) (o : Said (Option ℕ)) (u : Table) (x : Refusal) → Drives t o u → o ≡ Err x → u ≡ t
-drive_keeps t o u x h e = h.1 ∙ refused_drive_keeps t x (step_refused (step_of t).outcome x ((sym h.0) ∙ e))
+drive_keeps t o u x h e = h.1 ∙ refused_drive_keeps t x (step_refused (step_of t).answer x ((sym h.0) ∙ e))
 
 -- whether the line fits, a number that is not 0 or the missing length says that it does not
 put_kept : (b : Bool) (line l : List ℕ) → pick b (Some (length line)) None ≡ None → pick b (laid line l) l ≡ l
@@ -170,7 +168,7 @@ admit_kept (Ok t) q l h = go ((ask_of t q)) h
 
 step_kept : (s : Said Table) (l : List ℕ) → ((step_for s).number ≡ 0 → ⊥) → after_step s l ≡ l
 step_kept (Err x) l h = refl
-step_kept (Ok t) l h = go ((step_of t).outcome) h
+step_kept (Ok t) l h = go ((step_of t).answer) h
   where
     go : (w : Said (Option ℕ)) → ((ran_as w).number ≡ 0 → ⊥) → changed w (stored_in (step_of t).table l) l ≡ l
     go (Ok o) h = absurd (h refl)
@@ -178,7 +176,7 @@ step_kept (Ok t) l h = go ((step_of t).outcome) h
 
 leave_kept : (s : Said Table) (n : ℕ) (l : List ℕ) → ((leave_for s n).number ≡ 0 → ⊥) → after_leave s n l ≡ l
 leave_kept (Err x) n l h = refl
-leave_kept (Ok t) n l h = changed_kept ((leave_of t n).leaving) (stored_in (leave_of t n).table l) l h
+leave_kept (Ok t) n l h = changed_kept ((leave_of t n).answer) (stored_in (leave_of t n).table l) l h
 
 counts_kept : (s : Said Table) (ns : List ℕ) → ((counts_for s).number ≡ 0 → ⊥) → counts_after s ns ≡ ns
 counts_kept (Err x) ns h = refl

@@ -12,9 +12,9 @@ use Rattle.line.specs.declared.Held.{Held}
 use Rattle.line.specs.declared.Held.TheVariants.{Nothing, Running, Waiting}
 use Rattle.table.specs.declared.Table.{Table}
 use Rattle.table.specs.declared.Request.{Request}
-use Rattle.table.specs.declared.Stepped.{Stepped}
+use Rattle.table.specs.declared.Acted.{Acted}
 use Rattle.line.specs.Slots.{at, Each, is_nothing, Waits, lowest_of}
-use Rattle.table.specs.Words.{refusal}
+use Rattle.table.specs.Words.{refused_act, refusal}
 use Rattle.line.specs.Sound.{Sound}
 use Rattle.line.specs.Demand.{demands, new_demand, end_of, last_end, Smooth}
 use Rattle.table.specs.Grounds.{entry, asked}
@@ -23,7 +23,7 @@ use Rattle.line.specs.Shares.{frame}
 use Rattle.table.specs.Counts.{accounted}
 use Rattle.table.specs.Ask.{ask_of}
 use Rattle.table.specs.Admit.{admitted_at}
-use Rattle.table.specs.Step.{choose, serve, refused_step, ticked, advance, step_of}
+use Rattle.table.specs.Step.{choose, serve, ticked, advance, step_of}
 use Rattle.table.proofs.Counts.{booked_within, put_within}
 use Rattle.table.proofs.Step.{slot_of_which}
 use Rattle.line.specs.Tick.{short}
@@ -48,7 +48,7 @@ unfolding step_of
 sound_step t s w h = rw (lt-leb (2 ^ 48) t.clock h, sound_faultless t s w)
 
 short_step : (t : Table) (i : ℕ) → Each Sound t.slots → accounted t ≤ t.clock → t.clock < 2 ^ 48 → lowest_of short (serve (choose t) t.slots) ≡ Some i
-    → step_of t ≡ refused_step t 14 i
+    → step_of t ≡ refused_act t 14 i
 unfolding advance
 short_step t i s w h e = sound_step t s w h ∙ rw e
 
@@ -71,14 +71,14 @@ runs_short (suc n) last t s within b l x = go (lowest_of short (serve o t.slots)
       steps = suc w.steps;
       slot = w.slot;
       goes = goes;
-      misses = subst (λ (s : Stepped). (step_of (stepped w.steps s.table)).outcome ≡ Err (refusal 14 w.slot)) (sym e) w.misses;
+      misses = subst (λ (s : Acted (Option ℕ)). (step_of (stepped w.steps s.table)).answer ≡ Err (refusal 14 w.slot)) (sym e) w.misses;
       before = omega (arith, w.before);
     }
       where
-        goes : (m : ℕ) → m < suc w.steps → (p : Option ℕ) × ((step_of (stepped m t)).outcome ≡ Ok p)
-        goes zero h = (o, ap (λ (s : Stepped). s.outcome) e ∙ ap Ok (slot_of_which o))
+        goes : (m : ℕ) → m < suc w.steps → (p : Option ℕ) × ((step_of (stepped m t)).answer ≡ Ok p)
+        goes zero h = (o, ap (λ (s : Acted (Option ℕ)). s.answer) e ∙ ap Ok (slot_of_which o))
         goes (suc m) h =
-            subst (λ (s : Stepped). (p : Option ℕ) × ((step_of (stepped m s.table)).outcome ≡ Ok p)) (sym e) (w.goes m (omega arith))
+            subst (λ (s : Acted (Option ℕ)). (p : Option ℕ) × ((step_of (stepped m s.table)).answer ≡ Ok p)) (sym e) (w.goes m (omega arith))
 
     go : (p : Option ℕ) → lowest_of short (serve o t.slots) ≡ p
         → (Each Sound next.slots → accounted next ≤ next.clock → next.clock + n < last → last ≤ 2 ^ 48 → n < demands next.clock next.slots (next.clock + n) → Misses next last)
@@ -87,7 +87,7 @@ runs_short (suc n) last t s within b l x = go (lowest_of short (serve o t.slots)
       steps = 0;
       slot = i;
       goes = λ m h. absurd (not-suc-le-zero h);
-      misses = ap (λ (s : Stepped). s.outcome) (short_step t i s within (omega arith) e);
+      misses = ap (λ (s : Acted (Option ℕ)). s.answer) (short_step t i s within (omega arith) e);
       before = omega arith;
     }
     go None e rest =

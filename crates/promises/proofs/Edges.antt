@@ -49,7 +49,7 @@ unfolding euclid gcd_of lcm_of frame_from total lowest due last_end map_at perio
 goes_on_met = (record { ran = refl; there = refl }, refl, choose_earliest (run (asking (half (2 ∷ 2 ∷ [])) ∷ leaving 1 ∷ []) (ran_table halves)), omega arith)
 
 -- R106: so that tick is promised to it, with an ask and a leave between the two
-pub goes_on_held : (step_of (run (asking (half (2 ∷ 2 ∷ [])) ∷ leaving 1 ∷ []) (ran_table halves))).outcome ≡ Ok (Some 1)
+pub goes_on_held : (step_of (run (asking (half (2 ∷ 2 ∷ [])) ∷ leaving 1 ∷ []) (ran_table halves))).answer ≡ Ok (Some 1)
 goes_on_held = who_ran_goes_on halves 1 goes_on_met.0 (asking (half (2 ∷ 2 ∷ [])) ∷ leaving 1 ∷ []) goes_on_met.1 goes_on_met.2 goes_on_met.3
 
 -- R106: so the third tick is slot 1's; where its line is gone with the second, and another is admitted in its place, it is slot 0's

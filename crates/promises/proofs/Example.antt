@@ -61,12 +61,12 @@ unfolding euclid gcd_of lcm_of frame_from total lowest due last_end map_at perio
 case_a_unplaced = (refl, (refl, (refl, (refl, (refl, (refl, (refl, (refl, (refl, (refl, tt))))))))))
 
 -- R80: in the table of case A slot 1 runs, and may leave in eight ticks
-pub case_a_parts : ((leave_of (run to_case_a empty_table) 1).leaving ≡ Ok 8) × RunsAs 8 16 8 8 (at (run to_case_a empty_table).slots 1)
+pub case_a_parts : ((leave_of (run to_case_a empty_table) 1).answer ≡ Ok 8) × RunsAs 8 16 8 8 (at (run to_case_a empty_table).slots 1)
 unfolding euclid gcd_of lcm_of frame_from total lowest due last_end map_at periods_in every ends_before ends_of slack bound greatest soonest_of first_short start ask_in ask_of chosen settling advance step_of leave_of
 case_a_parts = (refl, (run_with 8 16 8 8, refl, refl, refl, refl, refl))
 
 -- R100: with the new line admitted slot 2 waits, and may be removed at once
-pub case_a_removed : ((leave_of (admitted_table to_case_a case_a.request) 2).leaving ≡ Ok 0) × Waits (at (admitted_table to_case_a case_a.request).slots 2)
+pub case_a_removed : ((leave_of (admitted_table to_case_a case_a.request) 2).answer ≡ Ok 0) × Waits (at (admitted_table to_case_a case_a.request).slots 2)
 unfolding euclid gcd_of lcm_of frame_from total lowest due last_end map_at periods_in every ends_before ends_of slack bound greatest soonest_of first_short start ask_in ask_of chosen settling advance step_of leave_of
 case_a_removed = (refl, refl)
 
@@ -97,7 +97,7 @@ unfolding cases
 case_j_tells = (ten_tells case_j.table case_j.request (short_refusal 3 2) sixteen_j cases_answer.1.1.1.1.1.1.1.1.1.0 refl).2
 
 -- R104: two steps go, and the third, which ends at 3 and not before, reports 14 for slot 0
-pub case_j_misses : (map (λ (n : ℕ). (step_of (stepped n case_j.table)).outcome) (0 ∷ 1 ∷ 2 ∷ []) ≡ Ok (Some 0) ∷ Ok (Some 0) ∷ Err (refusal 14 0) ∷ [])
+pub case_j_misses : (map (λ (n : ℕ). (step_of (stepped n case_j.table)).answer) (0 ∷ 1 ∷ 2 ∷ []) ≡ Ok (Some 0) ∷ Ok (Some 0) ∷ Err (refusal 14 0) ∷ [])
     × (case_j.table.clock + 2 + 1 ≡ 3)
 unfolding lowest chosen settling advance step_of
 case_j_misses = (refl, refl)

@@ -1,4 +1,5 @@
 -- What the contracts rule out: no function that meets one is such a wrong program.
+use Rattle.std.specs.Prelude.{Option}
 use Rattle.std.specs.Prelude.{Ok}
 use Prim.Native.Nat.{ℕ, ◌≤◌}
 use mathlib.Core.Path.{◌≡◌, refl, sym, ap, ◌∙◌}
@@ -9,8 +10,7 @@ use lib.ListN.{get_or, replicate}
 use Rattle.line.specs.declared.Held.{Held}
 use Rattle.table.specs.declared.Table.{Table}
 use Rattle.table.specs.declared.Request.{Request}
-use Rattle.table.specs.declared.Stepped.{Stepped}
-use Rattle.table.specs.declared.Left.{Left}
+use Rattle.table.specs.declared.Acted.{Acted}
 use Rattle.table.specs.Words.{empty_table, Said}
 use Rattle.line.specs.Slots.{run_with, if_runs, at, lowest}
 use Rattle.table.specs.Grounds.{asked, Answers}
@@ -87,10 +87,10 @@ unfolding lowest chosen settling advance step_of
 empty_steps = refl
 
 -- R45: the clock moves
-pub no_step_leaves_the_table : (f : Table → Stepped) → MeetsStep f → LeavesTheTable f → ⊥
+pub no_step_leaves_the_table : (f : Table → Acted (Option ℕ)) → MeetsStep f → LeavesTheTable f → ⊥
 no_step_leaves_the_table f m r =
     let x : (f empty_table).table.clock ≡ 0 = ap (λ (t : Table). t.clock) (r empty_table) in
-    let y : (f empty_table).table.clock ≡ 1 = ap (λ (s : Stepped). s.table.clock) (m empty_table) ∙ empty_steps in
+    let y : (f empty_table).table.clock ≡ 1 = ap (λ (s : Acted (Option ℕ)). s.table.clock) (m empty_table) ∙ empty_steps in
     omega arith
 
 abbrev remaining : Held → ℕ
@@ -102,30 +102,30 @@ unfolding lowest chosen settling advance step_of
 case_a_serves e = let z : ◌≡◌ {A = ℕ} 7 8 = ap remaining e in omega arith
 
 -- R45: every tick is served
-pub no_step_only_moves_the_clock : (f : Table → Stepped) → MeetsStep f → OnlyMovesTheClock f → ⊥
+pub no_step_only_moves_the_clock : (f : Table → Acted (Option ℕ)) → MeetsStep f → OnlyMovesTheClock f → ⊥
 no_step_only_moves_the_clock f m r =
     let x = ap (λ (t : Table). at t.slots 1) (r case_a.table (omega arith)) in
-    let y = ap (λ (s : Stepped). at s.table.slots 1) (m case_a.table) in
+    let y = ap (λ (s : Acted (Option ℕ)). at s.table.slots 1) (m case_a.table) in
     case_a_serves (sym y ∙ x)
 
 -- in case A slot 1 is let go: it runs on, and no other period follows
-case_a_left : ((leave_of case_a.table 1).leaving ≡ Ok 8) × (is_parting (at (leave_of case_a.table 1).table.slots 1) ≡ true)
+case_a_left : ((leave_of case_a.table 1).answer ≡ Ok 8) × (is_parting (at (leave_of case_a.table 1).table.slots 1) ≡ true)
 unfolding lowest leave_of
 case_a_left = (refl, refl)
 
 -- R99: a leave that is granted is kept to
-pub no_leave_only_says_so : (f : Table → ℕ → Left) → MeetsLeave f → OnlySaysSo f → ⊥
+pub no_leave_only_says_so : (f : Table → ℕ → Acted ℕ) → MeetsLeave f → OnlySaysSo f → ⊥
 no_leave_only_says_so f m r =
     let e = m case_a.table 1 in
-    let x = r case_a.table 1 8 (ap (λ (s : Left). s.leaving) e ∙ case_a_left.0) in
-    true_false case_a_left.1 (ap (λ (s : Left). is_parting (at s.table.slots 1)) (sym e) ∙ ap (λ (t : Table). is_parting (at t.slots 1)) x)
+    let x = r case_a.table 1 8 (ap (λ (s : Acted ℕ). s.answer) e ∙ case_a_left.0) in
+    true_false case_a_left.1 (ap (λ (s : Acted ℕ). is_parting (at s.table.slots 1)) (sym e) ∙ ap (λ (t : Table). is_parting (at t.slots 1)) x)
 
 -- R100: who runs finishes his period
-pub no_leave_drops_at_once : (f : Table → ℕ → Left) → MeetsLeave f → DropsAtOnce f → ⊥
+pub no_leave_drops_at_once : (f : Table → ℕ → Acted ℕ) → MeetsLeave f → DropsAtOnce f → ⊥
 no_leave_drops_at_once f m r =
     let e = m case_a.table 1 in
-    let x = r case_a.table 1 8 (ap (λ (s : Left). s.leaving) e ∙ case_a_left.0) in
-    true_false case_a_left.1 (ap (λ (s : Left). is_parting (at s.table.slots 1)) (sym e) ∙ ap is_parting x)
+    let x = r case_a.table 1 8 (ap (λ (s : Acted ℕ). s.answer) e ∙ case_a_left.0) in
+    true_false case_a_left.1 (ap (λ (s : Acted ℕ). is_parting (at s.table.slots 1)) (sym e) ∙ ap is_parting x)
 
 -- the cards of cases A and C read as their tables and requests
 reads_a : read_of (card_of case_a.table case_a.request) ≡ Ok (carrying case_a.table case_a.request)

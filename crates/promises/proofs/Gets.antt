@@ -9,7 +9,7 @@ use Rattle.line.specs.declared.Held.{Held}
 use Rattle.line.specs.declared.Held.TheVariants.{Running}
 use Rattle.table.specs.declared.Table.{Table}
 use Rattle.table.specs.declared.Request.{Request}
-use Rattle.table.specs.declared.Stepped.{Stepped}
+use Rattle.table.specs.declared.Acted.{Acted}
 use Rattle.line.specs.Slots.{run_with, RunsAs, at}
 use Rattle.line.specs.Tick.{Owed, passed}
 use Rattle.table.specs.Admit.{new_line}
@@ -35,13 +35,13 @@ pub by_tick : (Q : Table → List (Option ℕ) → Type 0) (rest : List Act) (t 
     → Q (ticked (choose t) t).table (choose t ∷ trace rest (ticked (choose t) t).table)
     → Q (step_of t).table (trace (stepping ∷ rest) t)
 by_tick Q rest t g h q =
-    subst (λ (s : Stepped). Q s.table (ran_in s.outcome ++ trace rest s.table)) (sym (step_table t g h))
+    subst (λ (s : Acted (Option ℕ)). Q s.table (ran_in s.answer ++ trace rest s.table)) (sym (step_table t g h))
     (subst (λ (o : Option ℕ). Q (ticked (choose t) t).table (o ∷ trace rest (ticked (choose t) t).table)) (sym (slot_of_which (choose t))) q)
 
 -- what holds of the table and the rest of the run holds after a step at the last tick, which changes nothing
 pub by_last : (Q : Table → List (Option ℕ) → Type 0) (rest : List Act) (t : Table) → 2 ^ 48 ≤ t.clock
     → Q t (trace rest t) → Q (step_of t).table (trace (stepping ∷ rest) t)
-by_last Q rest t h q = subst (λ (s : Stepped). Q s.table (ran_in s.outcome ++ trace rest s.table)) (sym (at_last t h)) q
+by_last Q rest t h q = subst (λ (s : Acted (Option ℕ)). Q s.table (ran_in s.answer ++ trace rest s.table)) (sym (at_last t h)) q
 
 -- ---- the rest of a period
 
@@ -55,7 +55,7 @@ next t = (ticked (choose t) t).table
 
 -- is good
 pub good_next : (t : Table) → Good t → t.clock < 2 ^ 48 → Good (next t)
-good_next t g h = subst (λ (s : Stepped). Good s.table) (step_table t g h) (good_after stepping t g)
+good_next t g h = subst (λ (s : Acted (Option ℕ)). Good s.table) (step_table t g h) (good_after stepping t g)
 
 -- what a running line has left after it, and how old it is then
 pub one_tick : (t : Table) (k C P a x : ℕ) → Good t → k < length t.slots → RunsAs C P a x (at t.slots k) → a < P
@@ -180,8 +180,8 @@ at_once (admitting q ∷ rest) t k C P g b e h =
 at_once (stepping ∷ rest) t k C P g b e h =
     split (2 ^ 48) t.clock
     (λ l. one_more_lem k C P (t.clock + 1) stepping rest t
-    (subst (λ (s : Stepped). (run rest s.table).clock ≡ t.clock → Started k C P (t.clock + 1) rest s.table) (sym (at_last t l)) (at_once rest t k C P g b e) h))
-    (λ l. let c : (step_of t).table.clock ≡ t.clock + 1 = ap (λ (s : Stepped). s.table.clock) (step_table t g l) in
+    (subst (λ (s : Acted (Option ℕ)). (run rest s.table).clock ≡ t.clock → Started k C P (t.clock + 1) rest s.table) (sym (at_last t l)) (at_once rest t k C P g b e) h))
+    (λ l. let c : (step_of t).table.clock ≡ t.clock + 1 = ap (λ (s : Acted (Option ℕ)). s.table.clock) (step_table t g l) in
     absurd (omega (arith, clock_run rest (step_of t).table (good_after stepping t g))))
 at_once (leaving n ∷ rest) t k C P g b e h =
     let c = leave_clock t n in
@@ -202,9 +202,9 @@ at_start (admitting q ∷ rest) t k C P (suc w) g b e = λ v h.
 at_start (stepping ∷ rest) t k C P (suc w) g b e = λ v h.
     split (2 ^ 48) t.clock
     (λ l. one_more_lem k C P (t.clock + suc w + 1) stepping rest t
-    (subst (λ (s : Stepped). Starts k C P (t.clock + suc w) rest s.table) (sym (at_last t l)) (at_start rest t k C P (suc w) g b e) v.1 h))
+    (subst (λ (s : Acted (Option ℕ)). Starts k C P (t.clock + suc w) rest s.table) (sym (at_last t l)) (at_start rest t k C P (suc w) g b e) v.1 h))
     (λ l. let z : t.clock + 1 + w ≡ t.clock + suc w = omega arith in
-    one_more_lem k C P (t.clock + suc w + 1) stepping rest t (subst (λ (s : Stepped). Starts k C P (t.clock + suc w) rest s.table) (sym (step_table t g l))
+    one_more_lem k C P (t.clock + suc w + 1) stepping rest t (subst (λ (s : Acted (Option ℕ)). Starts k C P (t.clock + suc w) rest s.table) (sym (step_table t g l))
     (subst (λ (n : ℕ). Starts k C P n rest (next t)) z
     (at_start rest (next t) k C P w (good_next t g l) (rw (length_tick (choose t) t.slots) b) (waits_on t k C P w e))) v.1 h))
 at_start (leaving n ∷ rest) t k C P (suc w) g b e = λ v h.

@@ -1,6 +1,6 @@
 -- What every act keeps: the table is fine for some common multiple, accounts for no more than its clock, and the clock is within its limit.
 use Rattle.std.specs.Prelude.{Ok, Err, Option, Some}
-use Rattle.table.specs.Words.{Said}
+use Rattle.table.specs.Words.{refused_act, Said}
 use mathlib.Core.Path.{◌≡◌, refl, sym, ap, ◌∙◌, subst}
 use mathlib.Core.List.{List, [], ◌∷◌}
 use Prim.Native.Nat.{ℕ, ◌+◌, ◌-◌, ◌^◌, ◌≤◌, ◌<◌}
@@ -10,7 +10,7 @@ use lib.ListN.{length}
 use Rattle.line.specs.declared.Held.TheVariants.{Nothing}
 use Rattle.table.specs.declared.Table.{Table}
 use Rattle.table.specs.declared.Request.{Request}
-use Rattle.table.specs.declared.Stepped.{Stepped}
+use Rattle.table.specs.declared.Acted.{Acted}
 use Rattle.table.specs.Words.{empty_table}
 use Rattle.line.specs.Slots.{holding, at, is_nothing, lowest_of}
 use Rattle.table.specs.Grounds.{entry, asked}
@@ -19,7 +19,7 @@ use Rattle.line.specs.Shares.{frame}
 use Rattle.table.specs.Ask.{ask_of}
 use Rattle.table.specs.Admit.{new_line, put_at, admitted_at, admit_with}
 use Rattle.table.specs.Counts.{accounted}
-use Rattle.table.specs.Step.{choose, refused_step, step_of}
+use Rattle.table.specs.Step.{choose, step_of}
 use Rattle.table.specs.Runs.{Act, asking, admitting, stepping, leaving, after, run}
 use Rattle.line.proofs.Search.{lowest_is}
 use Rattle.table.proofs.Counts.{booked_within, put_within}
@@ -78,7 +78,7 @@ good_admitted t q r g =
 -- ---- each act
 
 -- at the last tick a step is refused with 15
-pub at_last : (t : Table) → 2 ^ 48 ≤ t.clock → step_of t ≡ refused_step t 15 0
+pub at_last : (t : Table) → 2 ^ 48 ≤ t.clock → step_of t ≡ refused_act t 15 0
 unfolding step_of
 at_last t h = rw (le-leb (2 ^ 48) t.clock h)
 
@@ -91,11 +91,11 @@ good_after (admitting q) t g = go (ask_of t q) refl
     go (Ok r) e = good_admitted t q r (granted t q r e)
     go (Err x) e = g
 good_after stepping t g =
-    split (2 ^ 48) t.clock (λ h. subst Good (sym (ap (λ (s : Stepped). s.table) (at_last t h))) g)
+    split (2 ^ 48) t.clock (λ h. subst Good (sym (ap (λ (s : Acted (Option ℕ)). s.table) (at_last t h))) g)
     (λ h. let e = fine_step t g.fine g.within h in
-    let c : (step_of t).table.clock ≡ t.clock + 1 = ap (λ (s : Stepped). s.table.clock) e in
+    let c : (step_of t).table.clock ≡ t.clock + 1 = ap (λ (s : Acted (Option ℕ)). s.table.clock) e in
     let w : accounted (step_of t).table ≤ (step_of t).table.clock =
-    subst (λ (s : Stepped). accounted s.table ≤ s.table.clock) (sym e) (omega (arith, g.within, booked_within (choose t) t)) in
+    subst (λ (s : Acted (Option ℕ)). accounted s.table ≤ s.table.clock) (sym e) (omega (arith, g.within, booked_within (choose t) t)) in
     record { multiple = g.multiple; fine = fine_stepped t g.fine g.within h; within = w; clock_in = omega arith })
 good_after (leaving n) t g =
     left_is Good t n g

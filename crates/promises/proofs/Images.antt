@@ -54,16 +54,16 @@ module _ (t : Table) (w : TableWidths 16 t) where
       go (Err x) = refl
 
   step_image : stepped_in t (image_of t) ≡ image_of (step_of t).table
-  step_image = go (step_of t).outcome refl
+  step_image = go (step_of t).answer refl
     where
-      go : (o : Said (Option ℕ)) → (step_of t).outcome ≡ o → changed o (stored_in (step_of t).table (image_of t)) (image_of t) ≡ image_of (step_of t).table
+      go : (o : Said (Option ℕ)) → (step_of t).answer ≡ o → changed o (stored_in (step_of t).table (image_of t)) (image_of t) ≡ image_of (step_of t).table
       go (Ok k) e = over (step_of t).table
       go (Err x) e = ap image_of (sym (refused_keeps t x e))
 
   leave_image : (n : ℕ) → left_in t n (image_of t) ≡ image_of (leave_of t n).table
-  leave_image n = go (leave_of t n).leaving refl
+  leave_image n = go (leave_of t n).answer refl
     where
-      go : (a : Said ℕ) → (leave_of t n).leaving ≡ a → changed a (stored_in (leave_of t n).table (image_of t)) (image_of t) ≡ image_of (leave_of t n).table
+      go : (a : Said ℕ) → (leave_of t n).answer ≡ a → changed a (stored_in (leave_of t n).table (image_of t)) (image_of t) ≡ image_of (leave_of t n).table
       go (Ok k) e = over (leave_of t n).table
       go (Err x) e = ap image_of (sym (leave_keeps t x n e))
 
@@ -110,11 +110,11 @@ image_loads acts n = let e = image_run_from acts empty_table n wide_empty in ap 
 unfailing_step : (t : Table) → Unfailing t → UnfailingStep t.clock (stepped_as t)
 unfailing_step t u = record {
   goes_on = λ h. let g = u.goes_on h in (g.0, ap ran_as g.1);
-  only_fifteen = go ((step_of t).outcome) refl;
+  only_fifteen = go ((step_of t).answer) refl;
   at_the_last = λ h. ap ran_as (u.at_the_last h);
 }
   where
-    go : (s : Said (Option ℕ)) → (step_of t).outcome ≡ s → ((ran_as s).number ≡ 0 → ⊥) → (ran_as s ≡ refused_as (refusal 15 0)) × (t.clock ≡ 2 ^ 48)
+    go : (s : Said (Option ℕ)) → (step_of t).answer ≡ s → ((ran_as s).number ≡ 0 → ⊥) → (ran_as s ≡ refused_as (refusal 15 0)) × (t.clock ≡ 2 ^ 48)
     go (Ok o) e h = absurd (h refl)
     go (Err x) e h = let v = u.only_fifteen x e in (ap refused_as v.0, v.1)
 

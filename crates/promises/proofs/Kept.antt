@@ -16,7 +16,7 @@ use Rattle.line.specs.declared.Held.TheVariants.{Nothing, Running}
 use Rattle.line.specs.declared.Slot.{Slot}
 use Rattle.table.specs.declared.Table.{Table}
 use Rattle.table.specs.declared.Request.{Request}
-use Rattle.table.specs.declared.Stepped.{Stepped}
+use Rattle.table.specs.declared.Acted.{Acted}
 use Rattle.line.specs.Slots.{pick, with_follows, holding, empty, RunsAs, slot_at, at, is_nothing, lowest_of}
 use Rattle.table.specs.Grounds.{entry, asked}
 use Rattle.line.specs.Stretch.{stretch}
@@ -189,12 +189,12 @@ pub step_table : (t : Table) → Good t → t.clock < 2 ^ 48 → step_of t ≡ t
 step_table t g h = fine_step t g.fine g.within h
 
 -- and says whom it chose
-pub says_choice : (t : Table) → Good t → t.clock < 2 ^ 48 → (step_of t).outcome ≡ Ok (choose t)
-says_choice t g h = ap (λ (s : Stepped). s.outcome) (step_table t g h) ∙ ap Ok (slot_of_which (choose t))
+pub says_choice : (t : Table) → Good t → t.clock < 2 ^ 48 → (step_of t).answer ≡ Ok (choose t)
+says_choice t g h = ap (λ (s : Acted (Option ℕ)). s.answer) (step_table t g h) ∙ ap Ok (slot_of_which (choose t))
 
 -- at the last tick it says 15
-pub says_last : (t : Table) → 2 ^ 48 ≤ t.clock → (step_of t).outcome ≡ Err (refusal 15 0)
-says_last t h = ap (λ (s : Stepped). s.outcome) (at_last t h)
+pub says_last : (t : Table) → 2 ^ 48 ≤ t.clock → (step_of t).answer ≡ Err (refusal 15 0)
+says_last t h = ap (λ (s : Acted (Option ℕ)). s.answer) (at_last t h)
 
 -- the choice serves nobody who is not owed
 pub choice_may : (t : Table) → May (choose t) t.slots
@@ -215,6 +215,6 @@ clock_after (asking q) t g = omega arith
 clock_after (admitting q) t g = omega (arith, admit_clock t q)
 clock_after stepping t g =
     split (2 ^ 48) t.clock
-    (λ h. let e : (step_of t).table.clock ≡ t.clock = ap (λ (s : Stepped). s.table.clock) (at_last t h) in omega arith)
-    (λ h. let e : (step_of t).table.clock ≡ t.clock + 1 = ap (λ (s : Stepped). s.table.clock) (step_table t g h) in omega arith)
+    (λ h. let e : (step_of t).table.clock ≡ t.clock = ap (λ (s : Acted (Option ℕ)). s.table.clock) (at_last t h) in omega arith)
+    (λ h. let e : (step_of t).table.clock ≡ t.clock + 1 = ap (λ (s : Acted (Option ℕ)). s.table.clock) (step_table t g h) in omega arith)
 clock_after (leaving n) t g = omega (arith, leave_clock t n)

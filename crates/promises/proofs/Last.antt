@@ -20,8 +20,7 @@ use Rattle.line.specs.Leave.{let_go}
 use Rattle.line.proofs.Search.{true_false}
 use Rattle.table.specs.declared.Table.{Table}
 use Rattle.table.specs.declared.Request.{Request}
-use Rattle.table.specs.declared.Admitted.{Admitted}
-use Rattle.table.specs.declared.Stepped.{Stepped}
+use Rattle.table.specs.declared.Acted.{Acted}
 use Rattle.table.specs.Words.{empty_table, with_last}
 use Rattle.table.specs.Grounds.{Answers}
 use Rattle.table.specs.Counts.{counting, settle}
@@ -127,7 +126,7 @@ kept_last (leaving n ∷ rest) t k g v = kept_last rest (after (leaving n) t) k 
 -- ---- who ran goes on
 
 -- a step that says slot k chose it, and made the table a tick later
-chose : (t : Table) (k : ℕ) → Good t → (step_of t).outcome ≡ Ok (Some k) → (choose t ≡ Some k) × (step_of t ≡ ticked (Some k) t)
+chose : (t : Table) (k : ℕ) → Good t → (step_of t).answer ≡ Ok (Some k) → (choose t ≡ Some k) × (step_of t ≡ ticked (Some k) t)
 chose t k g e =
     split (2 ^ 48) t.clock
     (λ h. let p = says_last t h in
@@ -142,7 +141,7 @@ who_ran_goes_on acts k v more quiet first early =
     let t = run acts empty_table in
     let g = good_reached acts in
     let c = chose t k g v.ran in
-    let e : (step_of t).table ≡ (ticked (Some k) t).table = ap (λ (s : Stepped). s.table) c.1 in
+    let e : (step_of t).table ≡ (ticked (Some k) t).table = ap (λ (s : Acted (Option ℕ)). s.table) c.1 in
     let l = subst (RanLast k) (sym e) (ticked_last t k (subst (λ (o : Option ℕ). May o t.slots) c.0 (choice_may t)) (subst (λ (u : Table). is_nothing (at u.slots k) ≡ false) e v.there)) in
     let h = good_after stepping t g in
     let u = run more (ran_table acts) in
@@ -158,8 +157,8 @@ last_not_asked t k q = record {
   answers = λ a v. subst (Answers (with_last t k) q) (answers_unique t q ((ask_of t q)) a (ask_answers t q) v) (ask_answers (with_last t k) q);
   ask = λ a b x y. x.computed ∙ sym y.computed;
   admit = λ m n x y. (
-    ap (λ (r : Admitted). r.answer) x.computed ∙ (both (ask_of t q)).0 ∙ sym (ap (λ (r : Admitted). r.answer) y.computed),
-    ap (λ (r : Admitted). with_last r.table k) x.computed ∙ (both (ask_of t q)).1 ∙ sym (ap (λ (r : Admitted). r.table) y.computed),
+    ap (λ (r : Acted ℕ). r.answer) x.computed ∙ (both (ask_of t q)).0 ∙ sym (ap (λ (r : Acted ℕ). r.answer) y.computed),
+    ap (λ (r : Acted ℕ). with_last r.table k) x.computed ∙ (both (ask_of t q)).1 ∙ sym (ap (λ (r : Acted ℕ). r.table) y.computed),
   );
 }
   where

@@ -12,15 +12,14 @@ use Rattle.line.specs.Slots.{pick, at, is_waiting, lowest_of}
 use Rattle.table.specs.declared.Table.{Table}
 use Rattle.table.specs.declared.Request.{Request}
 use Rattle.table.specs.declared.Refusal.{Refusal}
-use Rattle.table.specs.declared.Stepped.{Stepped}
-use Rattle.table.specs.declared.Left.{Left}
-use Rattle.table.specs.Words.{refusal, Said}
+use Rattle.table.specs.declared.Acted.{Acted}
+use Rattle.table.specs.Words.{refused_act, act_unless, refusal, Said}
 use Rattle.table.specs.Grounds.{Late, Full, Waiters, Unsound, Misstretched, Misfit, Wide, Overload, Behind, Row, row, row_short, grounds, FirstOf, Answers}
 use Rattle.table.specs.Ask.{ask_of}
 use Rattle.table.specs.Admit.{admit_with}
 use Rattle.table.specs.Counts.{fault}
-use Rattle.table.specs.Step.{choose, serve, refused_step, step_unless, advance, step_of}
-use Rattle.table.specs.Leave.{refused_leave, leave_unless, let_go_at, leave_at, leave_of}
+use Rattle.table.specs.Step.{choose, serve, advance, step_of}
+use Rattle.table.specs.Leave.{let_go_at, leave_at, leave_of}
 use Rattle.line.specs.Tick.{short}
 use Rattle.line.specs.Leave.{may_leave, ticks_left}
 use Rattle.theory.proofs.Answers.{ask_answers}
@@ -111,34 +110,34 @@ ask_numbered t q = go ((ask_of t q)) (ask_answers t q)
     go (Ok r) h = tt
     go (Err x) h = first_numbered grounds t q x all_numbered h
 
-step_unless_lem : (o : Option ℕ) (n : ℕ) (t : Table) (s : Stepped) → (n ≡ 0 → ⊥) → (n ≡ 10 → ⊥) → Numbered s.outcome → Numbered ((step_unless o n t s).outcome)
+step_unless_lem : (o : Option ℕ) (n : ℕ) (t : Table) (s : Acted (Option ℕ)) → (n ≡ 0 → ⊥) → (n ≡ 10 → ⊥) → Numbered s.answer → Numbered ((act_unless o n t s).answer)
 step_unless_lem None n t s z ten k = k
 step_unless_lem (Some p) n t s z ten k = plain n p z ten
 
-advance_numbered : (o : Option ℕ) (t : Table) → Numbered ((advance o t).outcome)
+advance_numbered : (o : Option ℕ) (t : Table) → Numbered ((advance o t).answer)
 unfolding advance
 advance_numbered o t = step_unless_lem (lowest_of short (serve o t.slots)) 14 t _ (λ e. omega arith) (λ e. omega arith) tt
 
 -- R88: a step's
-pub step_numbered : (t : Table) → Numbered ((step_of t).outcome)
+pub step_numbered : (t : Table) → Numbered ((step_of t).answer)
 unfolding step_of
 step_numbered t =
     go (leb (2 ^ 48) t.clock) _ (step_unless_lem (fault t) 4 t (advance (choose t) t) (λ e. omega arith) (λ e. omega arith) (advance_numbered (choose t) t))
   where
-    go : (b : Bool) (s : Stepped) → Numbered s.outcome → Numbered ((pick b (refused_step t 15 0) s).outcome)
+    go : (b : Bool) (s : Acted (Option ℕ)) → Numbered s.answer → Numbered ((pick b (refused_act t 15 0) s).answer)
     go true s k = plain 15 0 (λ e. omega arith) (λ e. omega arith)
     go false s k = k
 
-leave_unless_lem : (o : Option ℕ) (t : Table) (r : Left) → Numbered r.leaving → Numbered ((leave_unless o t r).leaving)
+leave_unless_lem : (o : Option ℕ) (t : Table) (r : Acted ℕ) → Numbered r.answer → Numbered ((act_unless o 4 t r).answer)
 leave_unless_lem None t r k = k
 leave_unless_lem (Some p) t r k = plain 4 p (λ e. omega arith) (λ e. omega arith)
 
 -- R102: a leave's
-pub leave_numbered : (t : Table) (n : ℕ) → Numbered ((leave_of t n).leaving)
+pub leave_numbered : (t : Table) (n : ℕ) → Numbered ((leave_of t n).answer)
 unfolding leave_of
 leave_numbered t n = leave_unless_lem (fault t) t (leave_at n t) (go (may_leave (at t.slots n)))
   where
-    go : (b : Bool) → Numbered ((pick b (record { table = let_go_at n t; leaving = Ok (ticks_left (at t.slots n)) }) (refused_leave t 16 n)).leaving)
+    go : (b : Bool) → Numbered ((pick b (record { table = let_go_at n t; answer = Ok (ticks_left (at t.slots n)) }) (refused_act t 16 n)).answer)
     go true = tt
     go false = plain 16 n (λ e. omega arith) (λ e. omega arith)
 
@@ -207,7 +206,7 @@ then_numbered (Err x) r h k = h
 ticks_numbered : (n : ℕ) (t : Table) → Numbered (ticks_run n t)
 unfolding ticks_run
 ticks_numbered zero t = tt
-ticks_numbered (suc n) t = then_numbered ((step_of t).outcome) (ticks_run n (step_of t).table) (step_numbered t) (ticks_numbered n (step_of t).table)
+ticks_numbered (suc n) t = then_numbered ((step_of t).answer) (ticks_run n (step_of t).table) (step_numbered t) (ticks_numbered n (step_of t).table)
 
 -- R66: a run's
 pub run_numbered : (card : List ℕ) (ticks : ℕ) → Numbered (run_of card ticks)

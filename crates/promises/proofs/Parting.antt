@@ -1,4 +1,5 @@
 -- What a line that leaves gets, R80: it stays up to its end, has what was left of its need by then, and is gone with that tick.
+use Rattle.std.specs.Prelude.{Option}
 use Rattle.std.specs.Prelude.{Ok, Err}
 use Rattle.table.specs.Words.{Said}
 use mathlib.Core.Path.{◌≡◌, refl, sym, ap, ◌∙◌, subst}
@@ -22,7 +23,7 @@ use Rattle.line.specs.Leave.{is_parting, let_go, let_go_slot, ticks_left}
 use Rattle.line.proofs.Search.{true_false}
 use Rattle.table.specs.declared.Table.{Table}
 use Rattle.table.specs.declared.Request.{Request}
-use Rattle.table.specs.declared.Stepped.{Stepped}
+use Rattle.table.specs.declared.Acted.{Acted}
 use Rattle.table.specs.Words.{empty_table}
 use Rattle.table.specs.Grounds.{entry}
 use Rattle.table.specs.Ask.{ask_of}
@@ -137,9 +138,9 @@ stays_from (admitting q ∷ rest) t k C P a g b v =
     (stays_from rest (after (admitting q) t) k C P a (good_after (admitting q) t g) (rw (admit_length t q) b) (parting_admitted t q k C P a b v))
 stays_from (stepping ∷ rest) t k C P a g b v =
     split (2 ^ 48) t.clock
-    (λ l. subst (λ (s : Stepped). StaysIn k C P a t.clock rest s.table) (sym (at_last t l)) (stays_from rest t k C P a g b v))
+    (λ l. subst (λ (s : Acted (Option ℕ)). StaysIn k C P a t.clock rest s.table) (sym (at_last t l)) (stays_from rest t k C P a g b v))
     (λ l. let d = clock_run rest (next t) (good_next t g l) in
-    subst (λ (s : Stepped). StaysIn k C P a t.clock rest s.table) (sym (step_table t g l))
+    subst (λ (s : Acted (Option ℕ)). StaysIn k C P a t.clock rest s.table) (sym (step_table t g l))
     (λ h. older rest (next t) k C P a t.clock d
     (stays_from rest (next t) k C P (a + 1) (good_next t g l) (rw (length_tick (choose t) t.slots) b) (parting_ticked t k C P a g b (omega (arith, d)) v)) h))
 stays_from (leaving n ∷ rest) t k C P a g b v =
@@ -164,8 +165,8 @@ unstretched_from (admitting q ∷ rest) t k C P a g b v = (
 unstretched_from (stepping ∷ rest) t k C P a g b v = (
   (λ l s. s),
   split (2 ^ 48) t.clock
-      (λ l. subst (λ (s : Stepped). Unstretched k (t.clock + (P - a)) rest s.table) (sym (at_last t l)) (unstretched_from rest t k C P a g b v))
-      (λ l. subst (λ (s : Stepped). Unstretched k (t.clock + (P - a)) rest s.table) (sym (step_table t g l))
+      (λ l. subst (λ (s : Acted (Option ℕ)). Unstretched k (t.clock + (P - a)) rest s.table) (sym (at_last t l)) (unstretched_from rest t k C P a g b v))
+      (λ l. subst (λ (s : Acted (Option ℕ)). Unstretched k (t.clock + (P - a)) rest s.table) (sym (step_table t g l))
       (split P (a + 1)
       (λ h. late_unstretched rest (next t) k (t.clock + (P - a)) (good_next t g l) (omega arith))
       (λ h. let z : t.clock + 1 + (P - (a + 1)) ≡ t.clock + (P - a) = omega arith in
@@ -184,7 +185,7 @@ freed t k C P a g l v h =
     let o = choose t in
     let w = owed_or_got o t.slots k C P a v.0 (choice_may t) v.1 in
     let s : Parting C P a (at (serve o t.slots) k) = (w.0, w.1, serve_keeps is_parting parting_served o t.slots k (choice_may t) ∙ v.2) in
-    ap (λ (x : Stepped). at x.table.slots k) (step_table t g l) ∙ at_pass (serve o t.slots) k ∙ parting_gone (at (serve o t.slots) k) s h
+    ap (λ (x : Acted (Option ℕ)). at x.table.slots k) (step_table t g l) ∙ at_pass (serve o t.slots) k ∙ parting_gone (at (serve o t.slots) k) s h
 
 parts_from : (t : Table) (k C P a c : ℕ) → Good t → k < length t.slots → a < P → RunsAs C P a c (at t.slots k) → is_parting (at t.slots k) ≡ true → Parts t k C P a c
 parts_from t k C P a c g b h e p = record {

@@ -35,17 +35,17 @@ ask_told (Ok t) q h e = (t, refl, go ((ask_of t q)) (ask_numbered t q) e)
     go (Ok k) n z = (k, refl)
     go (Err x) n z = absurd (n.0 z)
 
-step_told : (s : Said Table) → Numbered s → (step_for s).number ≡ 0 → (t : Table) × (s ≡ Ok t) × ((o : Option ℕ) × ((step_of t).outcome ≡ Ok o))
+step_told : (s : Said Table) → Numbered s → (step_for s).number ≡ 0 → (t : Table) × (s ≡ Ok t) × ((o : Option ℕ) × ((step_of t).answer ≡ Ok o))
 step_told (Err x) h e = absurd (h.0 e)
-step_told (Ok t) h e = (t, refl, go ((step_of t).outcome) (step_numbered t) e)
+step_told (Ok t) h e = (t, refl, go ((step_of t).answer) (step_numbered t) e)
   where
     go : (w : Said (Option ℕ)) → Numbered w → (ran_as w).number ≡ 0 → (o : Option ℕ) × (w ≡ Ok o)
     go (Ok o) n z = (o, refl)
     go (Err x) n z = absurd (n.0 z)
 
-leave_told : (s : Said Table) (n : ℕ) → Numbered s → (leave_for s n).number ≡ 0 → (t : Table) × (s ≡ Ok t) × ((k : ℕ) × ((leave_of t n).leaving ≡ Ok k))
+leave_told : (s : Said Table) (n : ℕ) → Numbered s → (leave_for s n).number ≡ 0 → (t : Table) × (s ≡ Ok t) × ((k : ℕ) × ((leave_of t n).answer ≡ Ok k))
 leave_told (Err x) n h e = absurd (h.0 e)
-leave_told (Ok t) n h e = (t, refl, zero_grants 0 ((leave_of t n).leaving) (leave_numbered t n) e)
+leave_told (Ok t) n h e = (t, refl, zero_grants 0 ((leave_of t n).answer) (leave_numbered t n) e)
 
 ready_told : (s : Said Table) (r : Returned) → Numbered s → ReadyFor s r → r.number ≡ 0 → (t : Table) × (s ≡ Ok t)
 ready_told (Ok t) r h k e = (t, refl)
@@ -82,7 +82,7 @@ ask_tens (Ok t) q h = result_tens (slot_number (lowest_of is_nothing t.slots)) (
 ask_tens (Err x) q h = h.1
 
 step_tens : (s : Said Table) → Numbered s → TensOf (step_for s)
-step_tens (Ok t) h = go ((step_of t).outcome) (step_numbered t)
+step_tens (Ok t) h = go ((step_of t).answer) (step_numbered t)
   where
     go : (w : Said (Option ℕ)) → Numbered w → TensOf (ran_as w)
     go (Ok o) n = result_tens 0 (Ok (slot_number o)) tt
@@ -90,7 +90,7 @@ step_tens (Ok t) h = go ((step_of t).outcome) (step_numbered t)
 step_tens (Err x) h = h.1
 
 leave_tens : (s : Said Table) (n : ℕ) → Numbered s → TensOf (leave_for s n)
-leave_tens (Ok t) n h = result_tens 0 ((leave_of t n).leaving) (leave_numbered t n)
+leave_tens (Ok t) n h = result_tens 0 ((leave_of t n).answer) (leave_numbered t n)
 leave_tens (Err x) n h = h.1
 
 ready_tens : (s : Said Table) (r : Returned) → Numbered s → ReadyFor s r → TensOf r

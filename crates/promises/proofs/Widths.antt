@@ -1,6 +1,6 @@
 -- Every act keeps the code's widths: numbers of sixteen bits stay so in a tick and in an admission, and the clock ends long before its own width.
 use Rattle.std.specs.Prelude.{Ok, Err, Option, None, Some}
-use Rattle.table.specs.Words.{Said}
+use Rattle.table.specs.Words.{act_unless, Said}
 use mathlib.Core.Path.{◌≡◌, refl, sym, ◌∙◌, subst}
 use mathlib.Core.Bool.{Bool, true, false}
 use mathlib.Core.List.{List, [], ◌∷◌}
@@ -17,7 +17,7 @@ use Rattle.line.specs.declared.Held.TheVariants.{Nothing, Running, Waiting}
 use Rattle.line.specs.declared.Slot.{Slot}
 use Rattle.table.specs.declared.Table.{Table}
 use Rattle.table.specs.declared.Request.{Request}
-use Rattle.table.specs.declared.Stepped.{Stepped}
+use Rattle.table.specs.declared.Acted.{Acted}
 use Rattle.line.specs.Slots.{pick, wait_with, holding, empty, begun, following, slot_at, at, map_at, is_nothing, lowest_of}
 use Rattle.line.specs.Demand.{end_of, last_end}
 use Rattle.line.specs.Stretch.{stretch, stretched}
@@ -28,7 +28,7 @@ use Rattle.table.specs.Counts.{Inside, sum, accounted, fault, counting, last_wit
 use Rattle.table.specs.Grounds.{entry, asked}
 use Rattle.table.specs.Ask.{ask_of}
 use Rattle.table.specs.Admit.{new_line, put_at, admit_with}
-use Rattle.table.specs.Step.{choose, serve, pass, step_unless, departs_in, ticked, advance, step_of}
+use Rattle.table.specs.Step.{choose, serve, pass, departs_in, ticked, advance, step_of}
 use Rattle.table.specs.Runs.{Act, asking, admitting, stepping, leaving, after}
 use Rattle.table.proofs.Choice.{choose_inside}
 use Rattle.table.proofs.Counts.{count_within, faultless, settling_keeps, booked_within}
@@ -129,7 +129,7 @@ wide_ticked o t w a h i =
       last = settling_keeps (departs_in o t.slots) (λ u. u.last < 256) (λ k u g e. narrow_last k u.last e) (length t.slots) (counting o t) (narrow_number o i);
     }
 
-wide_unless : (o : Option ℕ) (n : ℕ) (t : Table) (s : Stepped) → TableWidths 16 t → TableWidths 16 s.table → TableWidths 16 (step_unless o n t s).table
+wide_unless : (o : Option ℕ) (n : ℕ) (t : Table) (s : Acted (Option ℕ)) → TableWidths 16 t → TableWidths 16 s.table → TableWidths 16 (act_unless o n t s).table
 wide_unless None n t s v w = w
 wide_unless (Some k) n t s v w = v
 
@@ -137,7 +137,7 @@ wide_advance : (o : Option ℕ) (t : Table) → TableWidths 16 t → accounted t
 unfolding advance
 wide_advance o t w a h i = wide_unless (lowest_of short (serve o t.slots)) 14 t (ticked o t) w (wide_ticked o t w a h i)
 
-early_step : (t : Table) → t.clock < 2 ^ 48 → step_of t ≡ step_unless (fault t) 4 t (advance (choose t) t)
+early_step : (t : Table) → t.clock < 2 ^ 48 → step_of t ≡ act_unless (fault t) 4 t (advance (choose t) t)
 unfolding step_of
 early_step t h = rw (lt-leb (2 ^ 48) t.clock h)
 
@@ -145,10 +145,10 @@ early_step t h = rw (lt-leb (2 ^ 48) t.clock h)
 pub wide_step : (t : Table) → TableWidths 16 t → TableWidths 16 (step_of t).table
 wide_step t w =
     split (2 ^ 48) t.clock
-    (λ h. subst (λ (s : Stepped). TableWidths 16 s.table) (sym (at_last t h)) w)
-    (λ h. subst (λ (s : Stepped). TableWidths 16 s.table) (sym (early_step t h)) (go h (fault t) refl))
+    (λ h. subst (λ (s : Acted (Option ℕ)). TableWidths 16 s.table) (sym (at_last t h)) w)
+    (λ h. subst (λ (s : Acted (Option ℕ)). TableWidths 16 s.table) (sym (early_step t h)) (go h (fault t) refl))
   where
-    go : t.clock < 2 ^ 48 → (o : Option ℕ) → fault t ≡ o → TableWidths 16 (step_unless o 4 t (advance (choose t) t)).table
+    go : t.clock < 2 ^ 48 → (o : Option ℕ) → fault t ≡ o → TableWidths 16 (act_unless o 4 t (advance (choose t) t)).table
     go h None e = wide_advance (choose t) t w (faultless t e).1 h (subst (λ (n : ℕ). Inside n (choose t)) w.slots (choose_inside t))
     go h (Some k) e = w
 

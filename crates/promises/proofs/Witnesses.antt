@@ -25,12 +25,12 @@ unfolding euclid gcd_of lcm_of frame_from total lowest due last_end map_at perio
 ask_meets_lem = refl
 
 -- R20, R24, R34, R35
-pub step_meets_lem : map (λ (m : Meets). (step_of m.table).outcome) step_meets ≡ map (λ (m : Meets). Err m.refused) step_meets
+pub step_meets_lem : map (λ (m : Meets). (step_of m.table).answer) step_meets ≡ map (λ (m : Meets). Err m.refused) step_meets
 unfolding lowest chosen settling advance step_of step_meets
 step_meets_lem = refl
 
 -- R20, R24, R36
-pub leave_meets_lem : map (λ (m : NoLeave). (leave_of m.table m.number).leaving) leave_meets ≡ map (λ (m : NoLeave). Err m.refused) leave_meets
+pub leave_meets_lem : map (λ (m : NoLeave). (leave_of m.table m.number).answer) leave_meets ≡ map (λ (m : NoLeave). Err m.refused) leave_meets
 unfolding lowest leave_of leave_meets
 leave_meets_lem = refl
 

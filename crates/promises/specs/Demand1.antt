@@ -4,9 +4,7 @@ use Rattle.table.specs.Words.{Said}
 use Rattle.table.specs.declared.Table.{Table}
 use Rattle.table.specs.declared.Request.{Request}
 use Rattle.table.specs.declared.Refusal.{Refusal}
-use Rattle.table.specs.declared.Admitted.{Admitted}
-use Rattle.table.specs.declared.Stepped.{Stepped}
-use Rattle.table.specs.declared.Left.{Left}
+use Rattle.table.specs.declared.Acted.{Acted}
 use Rattle.table.specs.Words.{empty_table}
 use Rattle.table.specs.Grounds.{grounds, FirstOf, Answers}
 use Rattle.table.specs.Ask.{ask_of}
@@ -78,11 +76,11 @@ pub record FixedAnswer : Type 0 where
 pub record RefusalKeeps : Type 0 where
   -- ask's refusal is the first ground's, and admit then hands back the same table with the same refusal
   pub ask : (t : Table) (q : Request) (a : Said ℕ) (x : Refusal) → Asked t q a → a ≡ Err x
-      → FirstOf grounds t q x × ((m : Admitted) → Admits t q m → (m.answer ≡ Err x) × (m.table ≡ t))
-  pub admit : (t : Table) (q : Request) (m : Admitted) (x : Refusal) → Admits t q m → m.answer ≡ Err x
+      → FirstOf grounds t q x × ((m : Acted ℕ) → Admits t q m → (m.answer ≡ Err x) × (m.table ≡ t))
+  pub admit : (t : Table) (q : Request) (m : Acted ℕ) (x : Refusal) → Admits t q m → m.answer ≡ Err x
       → FirstOf grounds t q x × (m.table ≡ t)
-  pub step : (t : Table) (s : Stepped) (x : Refusal) → Steps t s → s.outcome ≡ Err x → s.table ≡ t
-  pub leave : (t : Table) (n : ℕ) (r : Left) (x : Refusal) → LetsGo t n r → r.leaving ≡ Err x → r.table ≡ t
+  pub step : (t : Table) (s : Acted (Option ℕ)) (x : Refusal) → Steps t s → s.answer ≡ Err x → s.table ≡ t
+  pub leave : (t : Table) (n : ℕ) (r : Acted ℕ) (x : Refusal) → LetsGo t n r → r.answer ≡ Err x → r.table ≡ t
   pub drive : (t : Table) (o : Said (Option ℕ)) (u : Table) (x : Refusal) → Drives t o u → o ≡ Err x → u ≡ t
   -- the reader is lent nothing to change: it hands out the empty table, zeros and no slot, with the refusal
   pub read : (card : List ℕ) (c : ReadCard) (x : Refusal) → Reads card c → said_read c ≡ Err x
@@ -115,9 +113,9 @@ pub record ToldApart : Type 0 where
   pub admit_image : (l : List ℕ) (q : Request) (r : Returned) (m : List ℕ) → AdmitsImage l q r m → r.number ≡ 0
       → (t : Table) × (load_of l ≡ Ok t) × ((s : ℕ) × (ask_of t q ≡ Ok s))
   pub step_image : (l : List ℕ) (r : Returned) (m : List ℕ) → StepsImage l r m → r.number ≡ 0
-      → (t : Table) × (load_of l ≡ Ok t) × ((o : Option ℕ) × ((step_of t).outcome ≡ Ok o))
+      → (t : Table) × (load_of l ≡ Ok t) × ((o : Option ℕ) × ((step_of t).answer ≡ Ok o))
   pub leave_image : (l : List ℕ) (n : ℕ) (r : Returned) (m : List ℕ) → LetsGoImage l n r m → r.number ≡ 0
-      → (t : Table) × (load_of l ≡ Ok t) × ((k : ℕ) × ((leave_of t n).leaving ≡ Ok k))
+      → (t : Table) × (load_of l ≡ Ok t) × ((k : ℕ) × ((leave_of t n).answer ≡ Ok k))
   pub ready_image : (l : List ℕ) (r : Returned) → ReadiesImage l r → r.number ≡ 0 → (t : Table) × (load_of l ≡ Ok t)
   pub counts_image : (l ns : List ℕ) (r : Returned) (m : List ℕ) → CountsImage l ns r m → r.number ≡ 0 → (t : Table) × (load_of l ≡ Ok t) × (m ≡ all_counts t)
   pub write_image : (l : List ℕ) (q : Request) (out : List ℕ) (r : Returned) (m : List ℕ) → WritesImage l q out r m → r.number ≡ 0

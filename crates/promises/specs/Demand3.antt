@@ -26,9 +26,9 @@ pub record Unfailing (t : Table) : Type 0 where
   pub sound : Each Sound t.slots
   pub no_fault : fault t ≡ None
   pub clock_in : t.clock ≤ 2 ^ 48
-  pub goes_on : t.clock < 2 ^ 48 → (o : Option ℕ) × ((step_of t).outcome ≡ Ok o)
-  pub only_fifteen : (x : Refusal) → (step_of t).outcome ≡ Err x → (x ≡ refusal 15 0) × (t.clock ≡ 2 ^ 48)
-  pub at_the_last : t.clock ≡ 2 ^ 48 → (step_of t).outcome ≡ Err (refusal 15 0)
+  pub goes_on : t.clock < 2 ^ 48 → (o : Option ℕ) × ((step_of t).answer ≡ Ok o)
+  pub only_fifteen : (x : Refusal) → (step_of t).answer ≡ Err x → (x ≡ refusal 15 0) × (t.clock ≡ 2 ^ 48)
+  pub at_the_last : t.clock ≡ 2 ^ 48 → (step_of t).answer ≡ Err (refusal 15 0)
 
 -- R74, R73: after any run
 abbrev pub NeverMissed : Type 0
@@ -112,13 +112,13 @@ pub record Parts (t : Table) (k C P a c : ℕ) : Type 0 where
 
 -- R80: of every leave of a run that is granted to a running line of these numbers: in P − a ticks it is gone
 abbrev pub LeavesAtItsEnd : Type 0
-LeavesAtItsEnd = (acts : List Act) (k n C P a c : ℕ) → (leave_of (run acts empty_table) k).leaving ≡ Ok n
+LeavesAtItsEnd = (acts : List Act) (k n C P a c : ℕ) → (leave_of (run acts empty_table) k).answer ≡ Ok n
     → RunsAs C P a c (at (run acts empty_table).slots k)
     → (n ≡ P - a) × Parts (after (leaving k) (run acts empty_table)) k C P a c
 
 -- R100: and of one that is granted to a waiting line: it is gone at once
 abbrev pub LeavesAtOnce : Type 0
-LeavesAtOnce = (acts : List Act) (k n : ℕ) → (leave_of (run acts empty_table) k).leaving ≡ Ok n
+LeavesAtOnce = (acts : List Act) (k n : ℕ) → (leave_of (run acts empty_table) k).answer ≡ Ok n
     → Waits (at (run acts empty_table).slots k)
     → (n ≡ 0) × (at (after (leaving k) (run acts empty_table)).slots k ≡ Nothing)
 
@@ -136,8 +136,8 @@ Sixteen q = (i : ℕ) → entry q i < 2 ^ 16
 pub record Misses (t : Table) (last : ℕ) : Type 0 where
   pub steps : ℕ
   pub slot : ℕ
-  pub goes : (m : ℕ) → m < steps → (o : Option ℕ) × ((step_of (stepped m t)).outcome ≡ Ok o)
-  pub misses : (step_of (stepped steps t)).outcome ≡ Err (refusal 14 slot)
+  pub goes : (m : ℕ) → m < steps → (o : Option ℕ) × ((step_of (stepped m t)).answer ≡ Ok o)
+  pub misses : (step_of (stepped steps t)).answer ≡ Err (refusal 14 slot)
   pub before : t.clock + steps + 1 < last
 
 -- R77: of any table and request that are granted a start r, reached by a run or not, admitted at an earlier r' instead

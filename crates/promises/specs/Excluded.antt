@@ -1,4 +1,5 @@
 -- What meets a contract, and wrong programs that do not.
+use Rattle.std.specs.Prelude.{Option}
 use Rattle.std.specs.Prelude.{Ok, Err, ℕ, ◌+◌, ◌≤◌, ◌<◌, ◌≡◌, Bool, List, [], ◌∷◌, pos}
 use Rattle.table.specs.Words.{Said}
 use Rattle.line.specs.declared.Held.TheVariants.{Nothing}
@@ -8,8 +9,7 @@ use Rattle.line.specs.Ends.{ends_of, excess_at, short_at}
 use Rattle.table.specs.declared.Table.{Table}
 use Rattle.table.specs.declared.Request.{Request}
 use Rattle.table.specs.declared.Refusal.{Refusal}
-use Rattle.table.specs.declared.Stepped.{Stepped}
-use Rattle.table.specs.declared.Left.{Left}
+use Rattle.table.specs.declared.Acted.{Acted}
 use Rattle.table.specs.Words.{later_with}
 use Rattle.table.specs.Grounds.{asked, Answers}
 use Rattle.table.specs.Step.{step_of}
@@ -25,11 +25,11 @@ abbrev pub MeetsAsk : (Table → Request → Said ℕ) → Type 0
 MeetsAsk f = (t : Table) (q : Request) → Answers t q ((f t q))
 
 -- R48: what step's says
-abbrev pub MeetsStep : (Table → Stepped) → Type 0
+abbrev pub MeetsStep : (Table → Acted (Option ℕ)) → Type 0
 MeetsStep f = (t : Table) → f t ≡ step_of t
 
 -- R100: what leave's says
-abbrev pub MeetsLeave : (Table → ℕ → Left) → Type 0
+abbrev pub MeetsLeave : (Table → ℕ → Acted ℕ) → Type 0
 MeetsLeave f = (t : Table) (n : ℕ) → f t n ≡ leave_of t n
 
 -- R56: what the reader's says
@@ -78,20 +78,20 @@ abbrev pub KeptInAnother : (Table → Request → Said ℕ) → Type 0
 KeptInAnother f = (t : Table) (q : Request) (x : Refusal) → f t q ≡ Err x → 1 ≤ x.excess
 
 -- R45: it does nothing to the table
-abbrev pub LeavesTheTable : (Table → Stepped) → Type 0
+abbrev pub LeavesTheTable : (Table → Acted (Option ℕ)) → Type 0
 LeavesTheTable f = (t : Table) → (f t).table ≡ t
 
 -- R45: after the first tick it moves the clock alone
-abbrev pub OnlyMovesTheClock : (Table → Stepped) → Type 0
+abbrev pub OnlyMovesTheClock : (Table → Acted (Option ℕ)) → Type 0
 OnlyMovesTheClock f = (t : Table) → 0 < t.clock → (f t).table ≡ later_with t t.slots
 
 -- R99, R100: it grants a leave, and every line renews as before
-abbrev pub OnlySaysSo : (Table → ℕ → Left) → Type 0
-OnlySaysSo f = (t : Table) (n k : ℕ) → (f t n).leaving ≡ Ok k → (f t n).table ≡ t
+abbrev pub OnlySaysSo : (Table → ℕ → Acted ℕ) → Type 0
+OnlySaysSo f = (t : Table) (n k : ℕ) → (f t n).answer ≡ Ok k → (f t n).table ≡ t
 
 -- R100: whoever is granted a leave is gone at once
-abbrev pub DropsAtOnce : (Table → ℕ → Left) → Type 0
-DropsAtOnce f = (t : Table) (n k : ℕ) → (f t n).leaving ≡ Ok k → at (f t n).table.slots n ≡ Nothing
+abbrev pub DropsAtOnce : (Table → ℕ → Acted ℕ) → Type 0
+DropsAtOnce f = (t : Table) (n k : ℕ) → (f t n).answer ≡ Ok k → at (f t n).table.slots n ≡ Nothing
 
 -- R56: it hands out one and the same request for all cards that read
 abbrev pub OneRequest : (List ℕ → ReadCard) → Type 0

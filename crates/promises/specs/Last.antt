@@ -3,7 +3,7 @@ use Rattle.std.specs.Prelude.{Ok, ℕ, ◌^◌, ◌<◌, ◌≡◌, false, List,
 use Rattle.line.specs.Slots.{at, is_nothing}
 use Rattle.table.specs.declared.Table.{Table}
 use Rattle.table.specs.declared.Request.{Request}
-use Rattle.table.specs.declared.Admitted.{Admitted}
+use Rattle.table.specs.declared.Acted.{Acted}
 use Rattle.table.specs.Words.{empty_table, with_last, Said}
 use Rattle.table.specs.Grounds.{Answers}
 use Rattle.table.specs.Step.{Earliest, step_of}
@@ -13,7 +13,7 @@ use Rattle.admit.specs.Admits.{Admits}
 
 -- R106: after the run `acts` a step gives its tick to slot k, and the line is not gone with it
 pub record Got (acts : List Act) (k : ℕ) : Type 0 where
-  pub ran : (step_of (run acts empty_table)).outcome ≡ Ok (Some k)
+  pub ran : (step_of (run acts empty_table)).answer ≡ Ok (Some k)
   pub there : is_nothing (at (after stepping (run acts empty_table)).slots k) ≡ false
 
 -- R106: the table after that step
@@ -25,13 +25,13 @@ abbrev pub WhoRanGoesOn : Type 0
 WhoRanGoesOn = (acts : List Act) (k : ℕ) → Got acts k
     → (more : List Act) → trace more (ran_table acts) ≡ []
     → Earliest (Some k) (run more (ran_table acts)).slots → (run more (ran_table acts)).clock < 2 ^ 48
-    → (step_of (run more (ran_table acts))).outcome ≡ Ok (Some k)
+    → (step_of (run more (ran_table acts))).answer ≡ Ok (Some k)
 
 -- R107: of two tables that differ in who ran last alone, by what the contracts of ask and admit allow
 pub record AskIgnoresLast (t : Table) (k : ℕ) (q : Request) : Type 0 where
   pub answers : (a : Said ℕ) → Answers t q a → Answers (with_last t k) q a
   pub ask : (a b : Said ℕ) → Asked t q a → Asked (with_last t k) q b → a ≡ b
-  pub admit : (m n : Admitted) → Admits t q m → Admits (with_last t k) q n → (m.answer ≡ n.answer) × (with_last m.table k ≡ n.table)
+  pub admit : (m n : Acted ℕ) → Admits t q m → Admits (with_last t k) q n → (m.answer ≡ n.answer) × (with_last m.table k ≡ n.table)
 
 -- R107: of any table and request
 abbrev pub LastNotAsked : Type 0

@@ -3,8 +3,7 @@ use Rattle.std.specs.Prelude.{Option, ℕ, ◌≡◌, List, length}
 use Rattle.table.specs.Words.{Said}
 use Rattle.table.specs.declared.Table.{Table}
 use Rattle.table.specs.declared.Request.{Request}
-use Rattle.table.specs.declared.Stepped.{Stepped}
-use Rattle.table.specs.declared.Left.{Left}
+use Rattle.table.specs.declared.Acted.{Acted}
 use Rattle.table.specs.Words.{empty_table}
 use Rattle.table.specs.Step.{step_of}
 use Rattle.table.specs.Leave.{leave_of}
@@ -24,16 +23,16 @@ use Rattle.calls.specs.Tables.{ask_for, after_admit, step_for, after_step, leave
 use Rattle.calls.specs.Moves.{write_card_for, card_after, read_card_for, image_after, numbers_after}
 
 -- R48: step, and driven, which steps a table of its own
-abbrev pub Steps : Table → Stepped → Type 0
+abbrev pub Steps : Table → Acted (Option ℕ) → Type 0
 Steps t s = s ≡ step_of t
 
 -- R100: leave
-abbrev pub LetsGo : Table → (number : ℕ) → Left → Type 0
+abbrev pub LetsGo : Table → (number : ℕ) → Acted ℕ → Type 0
 LetsGo t n r = r ≡ leave_of t n
 
 -- R51: drive answers o and leaves the table u behind the reference
 abbrev pub Drives : Table → Said (Option ℕ) → Table → Type 0
-Drives t o u = (o ≡ (step_of t).outcome) × (u ≡ driven_of t)
+Drives t o u = (o ≡ (step_of t).answer) × (u ≡ driven_of t)
 
 -- R56: read
 abbrev pub Reads : List ℕ → ReadCard → Type 0

@@ -99,7 +99,7 @@ last_cases = among_equals ++ (sooner_ends ++ (not_owed ++ (idle_ticks ++ (period
 
 -- R44, R105: each of them
 pub all_last_cases :
-    map {B = Said (Option ℕ) × ℕ} (λ (c : LastCase). ((step_of (ran_last c.last (table_of 20 c.slots))).outcome, (step_of (ran_last c.last (table_of 20 c.slots))).table.last)) last_cases
+    map {B = Said (Option ℕ) × ℕ} (λ (c : LastCase). ((step_of (ran_last c.last (table_of 20 c.slots))).answer, (step_of (ran_last c.last (table_of 20 c.slots))).table.last)) last_cases
     ≡ map (λ (c : LastCase). (c.says, c.next)) last_cases
 unfolding lowest chosen settling advance step_of last_cases
 all_last_cases = refl

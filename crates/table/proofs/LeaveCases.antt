@@ -86,7 +86,7 @@ leave_cases = lets ++ (lasts ++ (nobody ++ orders))
 
 -- R100: each table with the number named
 pub all_leave_cases :
-    map {B = Said ℕ × Table} (λ (c : LeaveCase). ((leave_of c.before c.number).leaving, (leave_of c.before c.number).table)) leave_cases
+    map {B = Said ℕ × Table} (λ (c : LeaveCase). ((leave_of c.before c.number).answer, (leave_of c.before c.number).table)) leave_cases
     ≡ map (λ (c : LeaveCase). (c.says, c.next)) leave_cases
 unfolding lowest leave_of leave_cases
 all_leave_cases = refl

@@ -13,11 +13,12 @@ use lib.Seq.{get_or-set_same, get_or-set_other}
 use Rattle.line.specs.declared.Slot.{Slot}
 use Rattle.table.specs.declared.Table.{Table}
 use Rattle.table.specs.declared.Refusal.{Refusal}
-use Rattle.table.specs.declared.Stepped.{Stepped}
+use Rattle.table.specs.declared.Acted.{Acted}
 use Rattle.line.specs.Slots.{pick, empty, slot_at, at, map_at, lowest_of}
-use Rattle.table.specs.Words.{with_slots, booked_as, later_with}
+use Rattle.table.specs.Words.{refused_act, act_unless, with_slots, booked_as, later_with}
 use Rattle.table.specs.Counts.{accounted, fault, counting, settle, settling}
-use Rattle.table.specs.Step.{choose, serve, served_at, pass, refused_step, step_unless, departs_in, ticked, advance, step_of}
+use Rattle.table.proofs.Acts.{Keeps, keeps_granted, keeps_refused, keeps_either, keeps_unless}
+use Rattle.table.specs.Step.{choose, serve, served_at, pass, departs_in, ticked, advance, step_of}
 use Rattle.line.specs.Tick.{served_slot, passed_slot, short, departs}
 use Rattle.line.proofs.Read.{read_any}
 use Rattle.line.proofs.Loops.{Mapping, map_start, map_on, map_end}
@@ -157,42 +158,27 @@ module _ {o : Option ℕ} {t v : Table} {i : ℕ} (x : Ticking o t v i) where
       )
 
 module _ (t : Table) (w : Option ℕ) where
-  advance_by : (o : Option ℕ) → lowest_of short (serve w t.slots) ≡ o → step_unless o 14 t (ticked w t) ≡ advance w t
+  advance_by : (o : Option ℕ) → lowest_of short (serve w t.slots) ≡ o → act_unless o 14 t (ticked w t) ≡ advance w t
   unfolding advance
-  advance_by o e = ap (λ (p : Option ℕ). step_unless p 14 t (ticked w t)) (sym e)
+  advance_by o e = ap (λ (p : Option ℕ). act_unless p 14 t (ticked w t)) (sym e)
 
   -- R34: a period ends short
-  pub advance_short : {k : ℕ} → lowest_of short (serve w t.slots) ≡ Some k → refused_step t 14 k ≡ advance w t
+  pub advance_short : {k : ℕ} → lowest_of short (serve w t.slots) ≡ Some k → refused_act t 14 k ≡ advance w t
   advance_short {k} e = advance_by (Some k) e
 
   -- R45 to R47: none does, and every slot is a tick later
   pub advance_fine : {next : Table} → (lowest_of short (serve w t.slots) ≡ None) × (next ≡ (ticked w t).table)
-      → ◌≡◌ {A = Stepped} (record { table = next; outcome = Ok w }) (advance w t)
-  advance_fine e = ap (λ (x : Table). let s : Stepped = record { table = x; outcome = Ok w } in s) e.1 ∙ advance_by None e.0
+      → ◌≡◌ {A = Acted (Option ℕ)} (record { table = next; answer = Ok w }) (advance w t)
+  advance_fine e = ap (λ (x : Table). let s : Acted (Option ℕ) = record { table = x; answer = Ok w } in s) e.1 ∙ advance_by None e.0
 
 module _ (t : Table) (x : Refusal) where
-  abbrev Keeps : Stepped → Type 0
-  Keeps s = s.outcome ≡ Err x → s.table ≡ t
-
-  keeps_unless : (o : Option ℕ) (n : ℕ) (s : Stepped) → Keeps s → Keeps (step_unless o n t s)
-  keeps_unless None n s v = v
-  keeps_unless (Some k) n s v = λ e. refl
-
-  keeps_pick : (b : Bool) (s : Stepped) → Keeps s → Keeps (pick b (refused_step t 15 0) s)
-  keeps_pick true s v = λ e. refl
-  keeps_pick false s v = v
-
-  keeps_ran : (w : Option ℕ) (s : Stepped) → s.outcome ≡ Ok w → Keeps s
-  keeps_ran w s e f = let z : ◌≡◌ {A = ℕ} 0 1 = cc in absurd (omega arith)
-
-  advance_keeps : (o : Option ℕ) → Keeps (advance o t)
+  advance_keeps : (o : Option ℕ) → Keeps t x (advance o t)
   unfolding advance
-  advance_keeps o =
-      keeps_unless (lowest_of short (serve o t.slots)) 14 (ticked o t) (keeps_ran o (ticked o t) refl)
+  advance_keeps o = keeps_unless t x (lowest_of short (serve o t.slots)) 14 (ticked o t) (keeps_granted t x o (ticked o t) refl)
 
   -- R48, R17: a refused step keeps the table
-  pub refused_keeps : (step_of t).outcome ≡ Err x → (step_of t).table ≡ t
+  pub refused_keeps : (step_of t).answer ≡ Err x → (step_of t).table ≡ t
   unfolding step_of
   refused_keeps =
-      let s : Stepped = advance (choose t) t in
-      keeps_pick (leb (2 ^ 48) t.clock) (step_unless (fault t) 4 t s) (keeps_unless (fault t) 4 s (advance_keeps (choose t)))
+      let s : Acted (Option ℕ) = advance (choose t) t in
+      keeps_either t x (leb (2 ^ 48) t.clock) (refused_act t 15 0) (act_unless (fault t) 4 t s) (keeps_refused t x 15 0) (keeps_unless t x (fault t) 4 s (advance_keeps (choose t)))

@@ -186,7 +186,7 @@ step_cases = case_a ∷ equal_ends ∷ least_end ∷ renewal ∷ starts ∷ ends
 -- what n steps of t say, and the table that they leave
 abbrev pub stepped : ℕ → Table → List (Said (Option ℕ)) × Table
 stepped zero t = ([], t)
-stepped (suc n) t = let r = stepped n (step_of t).table in ((step_of t).outcome ∷ r.0, r.1)
+stepped (suc n) t = let r = stepped n (step_of t).table in ((step_of t).answer ∷ r.0, r.1)
 
 -- R44 to R48: each table with its steps
 pub all_step_cases : map (λ (c : StepCase). stepped (length c.says) c.before) step_cases ≡ map (λ (c : StepCase). (c.says, c.next)) step_cases

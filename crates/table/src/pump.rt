@@ -2,9 +2,9 @@
 ghost use Rattle.std.specs.Prelude.{Some, Option, ◌≡◌, ◌^◌, ◌≤◌, ◌<◌};
 ghost use Rattle.table.specs.Counts.{Inside, accounted};
 ghost use Rattle.table.specs.Turn.{Turns};
-ghost use Rattle.table.specs.Step.{served_at, refused_step, advance, step_of};
+ghost use Rattle.table.specs.Step.{served_at, advance, step_of};
 
-use crate::{Refusal, Stepped, Table};
+use crate::{Acted, Table};
 
 // R45: slot `i`, which held `s`, after the slot named, or none, has got the tick.
 fn served(turn: Option<usize>, i: usize, s: line::Slot) -> line::Slot
@@ -45,19 +45,9 @@ impl Table {
         }
     }
 
-    // R48, R17: the table as it was, and no slot ran.
-    fn refused(self, number: u16, place: usize) -> Stepped
-        ensures { result ≡ refused_step self number place }
-    {
-        Stepped {
-            table: self,
-            outcome: Err(Refusal::new(number, place as u64)),
-        }
-    }
-
     // R45 to R48: a tick in which the slot named, or none, is served: what each slot holds then, or 14 at the lowest whose period ends short (R34).
     // What a line had that departs with it is counted so (R101).
-    fn advance(self, w: Option<usize>) -> Stepped
+    fn advance(self, w: Option<usize>) -> Acted<Option<usize>>
         requires { (self.clock < 2 ^ 48) × (accounted self ≤ self.clock) × Inside 16 w }
         ensures { result ≡ advance w self }
     {
@@ -65,7 +55,7 @@ impl Table {
         for (i, &old) in self.slots.iter().enumerate() {
             let s = served(w, i, old);
             if s.short() {
-                return self.refused(14, i);
+                return self.refused(14, i as u64);
             }
             next.slots[i] = s.passed();
             if s.departs() {
@@ -73,22 +63,22 @@ impl Table {
             }
         }
         next.clock = self.clock + 1;
-        Stepped {
+        Acted {
             table: next,
-            outcome: Ok(w),
+            answer: Ok(w),
         }
     }
 
     // R48: 15, then 4, the lines before the counts, then 14.
     #[tactic(auto, unfolding(crate::specs::Step::step_of))]
-    pub fn step(self) -> Stepped
+    pub fn step(self) -> Acted<Option<usize>>
         ensures { result ≡ step_of self }
     {
         if 281474976710656 <= self.clock {
             return self.refused(15, 0);
         }
         match self.choose() {
-            Err(k) => self.refused(4, k),
+            Err(k) => self.refused(4, k as u64),
             Ok(w) => {
                 if self.overcounted() {
                     return self.refused(4, 0);
