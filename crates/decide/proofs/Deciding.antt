@@ -23,7 +23,7 @@ use Rattle.pass.proofs.Passing.{start_near}
 use Rattle.decide.specs.declared.NoStart.{NoStart}
 use Rattle.decide.specs.declared.NoStart.TheVariants as no
 use Rattle.decide.specs.Lines.{by_period, by_gap, gathered_at, gathered, all_alike}
-use Rattle.decide.specs.Decided.{Decision, Start, Refused, said, no_start, refused_by, decided_by, decided, decided_in, Near}
+use Rattle.decide.specs.Decided.{Decision, Start, Refused, said, no_start, refused_by, decided_by, decided, decided_in}
 
 both_not : (a : Bool) → both a false ≡ false
 both_not true = refl
@@ -51,14 +51,6 @@ a_number sum.Behind = omega arith
 said_no_start : (q : NoPass) → said (Err (no_start q)) ≡ decided_by (Err q)
 said_no_start (pass.Short x) = refl
 said_no_start pass.Unfit = refl
-
--- a refusal has no distance
-pub refused_near : {x y : NoStart} → x ≡ y → Near (said (Err x))
-refused_near {x} {y} e = go x
-  where
-    go : (z : NoStart) → Near (said (Err z))
-    go (no.Ground r) = tt
-    go (no.Short w) = tt
 
 no_number : (a : Bool) (s n : ℕ) → n ≡ pick a s 4 → n ≤ 0 → (a ≡ true) × (s ≡ 0)
 no_number true s n e h = (refl, omega arith)
