@@ -1,5 +1,5 @@
 -- What is decided of the lines gathered is the answer past the first five grounds.
-use Rattle.std.specs.Prelude.{Ok, Err, Option, None, Some}
+use Rattle.std.specs.Prelude.{Result, Ok, Err, Option, None, Some}
 use Rattle.table.specs.Words.{Said}
 use Prim.Native.Nat.{ℕ, suc, ◌+◌, ◌-◌, ◌*◌, ◌/◌, ◌≤◌, ◌<◌}
 use mathlib.Core.Path.{◌≡◌, refl, ap, sym, ◌∙◌}
@@ -33,13 +33,11 @@ use Rattle.sums.specs.Lines.{longest, Fit}
 use Rattle.sums.specs.Weighed.{fitting, weighed_fit, weighed}
 use Rattle.sums.proofs.Along.{along_length}
 use Rattle.sums.proofs.Weighing.{says_fitting, fitting_says, none_weighs}
-use Rattle.pass.specs.declared.Pass.{Pass}
+use Rattle.pass.specs.declared.NoPass.{NoPass}
 use Rattle.pass.specs.Pass.{demand_of, last_by, ends_by, short_by, bound_by, pass_by, pass_over, pass_in, pass_of}
 use Rattle.pass.proofs.Passing.{pass_fit}
-use Rattle.decide.specs.declared.Decision.{Decision}
-use Rattle.decide.specs.declared.Decision.TheVariants as decision
 use Rattle.decide.specs.Lines.{Line, by_period, by_gap, gathered_at, line_of, lines_in}
-use Rattle.decide.specs.Decided.{refused_by, decided_by, decided, decided_in, Near}
+use Rattle.decide.specs.Decided.{Decision, Start, Refused, Short, refused_by, decided_by, decided, decided_in, Near}
 use Rattle.decide.proofs.Matching.{frame_lines, share_lines, claim_lines, full_lines, short_lines, over_lines, start_lines}
 use Rattle.ask.specs.declared.gather.Gathered.{Gathered}
 use Rattle.ask.specs.Asked.{Within}
@@ -92,9 +90,9 @@ answer_refused clock true n d = refl
 answer_refused clock false n d = refl
 
 answer_within : (clock : ℕ) (d : Decision) → Near d → Within clock (answer_from clock d)
-answer_within clock (decision.Start r) h = (omega arith, omega arith)
-answer_within clock (decision.Refused n) h = tt
-answer_within clock (decision.Short x) h = tt
+answer_within clock (Start r) h = (omega arith, omega arith)
+answer_within clock (Refused n) h = tt
+answer_within clock (Short x) h = tt
 
 -- what is decided of the slices of the arrays, as an answer: it is what is decided of the lines gathered, and as near
 pub fronts_answer : (g : Gathered) (clock Cn Tn : ℕ) {d : Decision} {r : Said ℕ} → Room g
@@ -125,7 +123,7 @@ module _ (t : Table) (q : Request) (fp : fitting (map by_period (lines_in (asked
   abbrev first : ℕ
   first = weighed (map by_period (lines_in l)) q.need q.period
 
-  abbrev pass : Pass
+  abbrev pass : Result ℕ NoPass
   pass = pass_of (map by_gap (lines_in l)) q.need q.period
 
   first_is : first ≡ pick misfit 6 (pick (ltb 1000000 F) 7 (pick over 8 (pick behind 9 0)))

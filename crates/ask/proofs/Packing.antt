@@ -22,28 +22,9 @@ use Rattle.sums.proofs.Along.{along_more, along_same}
 use Rattle.decide.specs.Lines.{Line, gathered_at, gathered, all_alike, gap_of, line_of, lines_in}
 use Rattle.decide.specs.Decided.{decided, decided_in}
 use Rattle.ask.specs.declared.gather.Gathered.{Gathered}
-use Rattle.ask.specs.Gathered.{gathered_lines, Room}
+use Rattle.ask.specs.Gathered.{gathered_lines, Room, Sixteen, pushed}
 
 -- ---- one line more in the arrays
-
--- sixteen places in each array
-abbrev Sixteen : Gathered → Type 0
-Sixteen g = (length g.end ≡ 16) × (length g.remaining ≡ 16) × (length g.need ≡ 16) × (length g.period ≡ 16) × (length g.gap ≡ 16)
-
--- a line behind those before it, with this gap
-abbrev pushed_by : Gathered → Stream → (gap : ℕ) → Gathered
-pushed_by g y z = record {
-  count = g.count + 1;
-  end = set g.end g.count y.end;
-  remaining = set g.remaining g.count y.remaining;
-  need = set g.need g.count y.need;
-  period = set g.period g.count y.period;
-  gap = set g.gap g.count z;
-}
-
--- and with its own
-abbrev pushed : Gathered → Stream → Gathered
-pushed g y = pushed_by g y (gap_of y)
 
 module _ (g : Gathered) (y : Stream) where
   abbrev before : ℕ → Line
@@ -143,21 +124,20 @@ module _ {l : List Slot} {p : ℕ → ℕ} {i : ℕ} {g : Gathered} (v : Gatheri
 
   module _ (d : Slot) {b : Bool} (h : i < 16) (t : b ≡ is_nothing (get_or l i d).held) where
     -- slot i holds no line
-    pub gather_skip : not b ≡ false → Gathering l p (i + 1) g
+    pub gather_skip : b ≡ true → Gathering l p (i + 1) g
     gather_skip n =
         gather_on g d h (omega arith) v.room
-        (sym (append-nil (gathered_lines g)) ∙ ap (λ (k : List Line). gathered_lines g ++ k) (sym (taken (p i) (get_or l i d).held ∙ rw (sym t ∙ not-false b n))))
+        (sym (append-nil (gathered_lines g)) ∙ ap (λ (k : List Line). gathered_lines g ++ k) (sym (taken (p i) (get_or l i d).held ∙ rw (sym t ∙ n))))
 
     -- slot i holds a line, which at its T' is x and asks for y
-    pub gather_push : {x : Slot} {y : Stream} {z : ℕ} → not b ≡ true → x ≡ stretch_slot (p i) (get_or l i d) → y ≡ by_stream (no_stream) (λ s. s) x.held → z ≡ gap_of y
-        → Gathering l p (i + 1) (pushed_by g y z)
-    gather_push {x} {y} n e f k =
-        subst (λ (z : ℕ). Gathering l p (i + 1) (pushed_by g y z)) (sym k)
-        (gather_on (pushed g y) d h (omega arith) (simp length-set v.room)
+    pub gather_push : {x : Slot} {y : Stream} → b ≡ false → x ≡ stretch_slot (p i) (get_or l i d) → y ≡ by_stream (no_stream) (λ s. s) x.held
+        → Gathering l p (i + 1) (pushed g y)
+    gather_push {x} {y} n e f =
+        gather_on (pushed g y) d h (omega arith) (simp length-set v.room)
         (lines_push g y v.room (omega (arith, v.few))
         ∙ ap (λ (k : List Line). gathered_lines g ++ k)
-        (sym (taken (p i) (get_or l i d).held ∙ rw (sym t ∙ not-true b n, f ∙ ap (λ (s : Slot). by_stream (no_stream) (λ u. u) s.held) e)))
-        ))
+        (sym (taken (p i) (get_or l i d).held ∙ rw (sym t ∙ n, f ∙ ap (λ (s : Slot). by_stream (no_stream) (λ u. u) s.held) e)))
+        )
 
   -- the arrays have room for what is gathered
   pub gather_room : Room g

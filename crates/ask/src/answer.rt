@@ -1,15 +1,12 @@
 // The answer to a request: the grounds R21 to R26 in their order (R18), and then what is decided of the lines gathered.
-ghost use Rattle.std.specs.Prelude.{None, Some, Err, ◌≡◌, ◌-◌, ◌^◌, ◌≤◌, leb, length};
-ghost use Rattle.line.specs.Slots.{at, both, lowest};
-ghost use Rattle.line.specs.Stretch.{barred};
-ghost use Rattle.table.specs.Words.{refusal};
-ghost use Rattle.table.specs.Grounds.{entry};
+ghost use Rattle.std.specs.Prelude.{◌≡◌, ◌-◌, ◌^◌, ◌≤◌};
 ghost use Rattle.table.specs.Ask.{ask_of};
-ghost use Rattle.decide.specs.Decided.{decided};
+ghost use Rattle.decide.specs.Decided.{said, decided};
 ghost use Rattle.ask.specs.Asked.{Within};
 ghost use Rattle.ask.specs.Gathered.{gathered_lines, Room, answer_from, unless_found};
 
 use crate::gather::Gathered;
+use decide::NoStart;
 use table::{Refusal, Request, Table};
 
 // R7, R21: the last clock that may ask, 2^48 − 65,536
@@ -25,51 +22,24 @@ fn none_found(slot: Option<usize>, number: u16) -> Result<(), Refusal>
     }
 }
 
-// R26: the new line's need lies from 1 to its period
-fn fits_period(need: u16, period: u16) -> bool
-    ensures { result ≡ both (leb 1 need) (leb need period) }
-{
-    if need < 1 {
-        return false;
-    }
-    need <= period
-}
-
 // R17, R41, R103: what was decided, as an answer: a start and a short tick are counted from the clock on, and these grounds have place 0
-fn answered(clock: u64, d: decide::Decision) -> Result<u64, Refusal>
+fn answered(clock: u64, decided: Result<u32, NoStart>) -> Result<u64, Refusal>
     requires { clock ≤ 2 ^ 48 - 65536 }
-    ensures { result ≡ answer_from clock d }
+    ensures { result ≡ answer_from clock (said decided) }
 {
-    match d {
-        decide::Decision::Start(after) => Ok(clock + after as u64),
-        decide::Decision::Refused(n) => Err(Refusal::new(n, 0)),
-        decide::Decision::Short(x) => {
-            Err(Refusal::short(clock + x.after as u64, x.excess))
-        }
+    match decided {
+        Ok(after) => Ok(clock + u64::from(after)),
+        Err(NoStart::Ground(ground)) => Err(Refusal::new(ground.into(), 0)),
+        Err(NoStart::Short(x)) => Err(Refusal::short(clock + u64::from(x.after), x.excess)),
     }
 }
 
 // R26 to R30, R14: what is decided of the lines gathered
-fn by_lines(clock: u64, g: Gathered, need: u16, period: u16) -> Result<u64, Refusal>
-    requires { Room g × (clock ≤ 2 ^ 48 - 65536) }
-    ensures { (result ≡ answer_from clock (decided (gathered_lines g) need period)) × Within clock result }
+fn by_lines(clock: u64, g: &Gathered, need: u16, period: u16) -> Result<u64, Refusal>
+    requires { Room g.now × (clock ≤ 2 ^ 48 - 65536) }
+    ensures { (result ≡ answer_from clock (decided (gathered_lines g.now) need period)) × Within clock result }
 {
-    let n = g.count;
-    let ends = g.end;
-    let left = g.remaining;
-    let needs = g.need;
-    let periods = g.period;
-    let gaps = g.gap;
-    let d = decide::decide(
-        &ends[..n],
-        &left[..n],
-        &needs[..n],
-        &periods[..n],
-        &gaps[..n],
-        need,
-        period,
-    );
-    answered(clock, d)
+    answered(clock, decide::decide(g.lines(), g.gaps(), need, period))
 }
 
 // R18, R41: the first ground that holds, or the start. R21 to R26 are tested here, before the lines are gathered.
@@ -85,9 +55,8 @@ pub(crate) fn answer(t: Table, q: Request) -> Result<u64, Refusal>
     none_found(t.lowest(|_, s| s.waits()), 3)?;
     none_found(t.fault(), 4)?;
     none_found(t.lowest(|i, s| s.bars(q.stretched[i])), 5)?;
-    if !fits_period(q.need, q.period) {
+    if !line::need_fits(q.need, q.period) {
         return Err(Refusal::new(6, 0));
     }
-    let g = crate::gather::gather(t, q);
-    by_lines(t.clock, g, q.need, q.period)
+    by_lines(t.clock, &crate::gather::gather(t, q), q.need, q.period)
 }

@@ -1,11 +1,10 @@
 -- Bytes that are laid at the start of a buffer, a piece behind the other, and what a reply and a lent buffer then hold.
 use Prim.Native.Nat.{ℕ, ◌+◌, ◌-◌}
-use mathlib.Core.Path.{◌≡◌, refl, ap, sym, ◌∙◌}
-use mathlib.Core.List.{List, [], ◌++◌, append_assoc}
+use mathlib.Core.Path.{◌≡◌, ap, sym, ◌∙◌}
+use mathlib.Core.List.{List, ◌++◌, append_assoc}
 use native.Mathlib.Omega.{arith}
 use lib.ListN.{length, take, drop, length-append, length-replicate, replicate-append-replicate, take-append-drop}
-use lib.Seq.{drop_at, take_at}
-use Rattle.std.specs.Borrow.{GName}
+use lib.Seq.{length-take-le, drop_at, take_at}
 use Rattle.std.proofs.lemmas.List.{drop-drop}
 use Rattle.reply.specs.declared.array.Reply.{Reply}
 use Rattle.reply.specs.declared.text.Line.{Line}
@@ -30,24 +29,19 @@ replied line r n e =
 pub written : (old new ds : List ℕ) (a e : ℕ) → e ≡ a + length ds → drop a new ≡ ds ++ drop e old → take a new ≡ take a old → new ≡ laid_from a ds old
 written old new ds a e h f g = sym (take-append-drop a new) ∙ rw (f, g, h, drop-drop (length ds) a old)
 
--- p has been laid at the start of the buffer, which the line still names
-pub record Laid (name : GName) (buffer p : List ℕ) (l : Line) : Type 0 where
-  pub named : l.out.ghost_name ≡ name
-  pub ends : l.at ≡ length p
-  pub same : l.out.now ≡ laid p buffer
-
--- no piece is laid yet
-pub start : {l : Line} → l.at ≡ 0 → Laid l.out.ghost_name l.out.now [] l
-start {l} e = record { named = refl; ends = e; same = refl }
-
--- R61: a piece more behind what was laid
-pub lay_on : {name : GName} {buffer p bs : List ℕ} {l m : Line} → Laid name buffer p l → Grown bs l m → Laid name buffer (p ++ bs) m
-lay_on {name} {buffer} {p} {bs} {l} {m} v e =
-    let t : take l.at l.out.now ≡ p = ap (take l.at) v.same ∙ take_at p (drop (length p) buffer) l.at (sym v.ends) in
-    let d : drop l.at l.out.now ≡ drop (length p) buffer = ap (drop l.at) v.same ∙ drop_at p (drop (length p) buffer) l.at (sym v.ends) in
-    let k : length p + length bs ≡ length (p ++ bs) = sym (length-append p bs) in
+-- R61: a piece more behind the first
+pub grown_on : {p q : List ℕ} {l m n : Line} → Grown p l m → Grown q m n → Grown (p ++ q) l n
+grown_on {p} {q} {l} {m} {n} v w =
+    let k : length p + length q ≡ length (p ++ q) = sym (length-append p q) in
+    let front : List ℕ = take l.at l.out.now ++ p in
+    let long : length front ≡ m.at = length-append (take l.at l.out.now) p ∙ omega (arith, length-take-le l.at l.out.now (omega (arith, v.size, v.end, v.within)), v.end) in
+    let whole : m.out.now ≡ front ++ drop (length p) (drop l.at l.out.now) = v.same ∙ sym (append_assoc (take l.at l.out.now) p (drop (length p) (drop l.at l.out.now))) in
+    let t : take m.at m.out.now ≡ front = ap (take m.at) whole ∙ take_at front (drop (length p) (drop l.at l.out.now)) m.at long in
+    let d : drop m.at m.out.now ≡ drop (length p) (drop l.at l.out.now) = ap (drop m.at) whole ∙ drop_at front (drop (length p) (drop l.at l.out.now)) m.at long in
     record {
-      named = e.same_buffer ∙ v.named;
-      ends = e.end ∙ omega (arith, v.ends, k);
-      same = e.same ∙ rw (t, d, drop-drop (length bs) (length p) buffer, k) (simp append_assoc);
+      same_buffer = w.same_buffer ∙ v.same_buffer;
+      size = w.size ∙ v.size;
+      end = w.end ∙ omega (arith, v.end, k);
+      within = w.within;
+      same = w.same ∙ rw (t, d, drop-drop (length q) (length p) (drop l.at l.out.now), k) (simp append_assoc);
     }

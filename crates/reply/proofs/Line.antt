@@ -3,7 +3,7 @@ use Rattle.std.specs.Prelude.{Option, Ok, Err}
 use Prim.Native.Nat.{ℕ, ◌+◌, ◌≤◌, ◌<◌}
 use mathlib.Core.Path.{◌≡◌, refl, ap, sym, subst, ◌∙◌}
 use mathlib.Core.Bool.{Bool, true, false}
-use mathlib.Core.List.{List, [], ◌∷◌, ◌++◌, append_assoc, append-nil}
+use mathlib.Core.List.{List, [], ◌∷◌, ◌++◌, append_assoc}
 use native.Mathlib.Omega.{arith}
 use Rattle.std.proofs.Math.Bridge.{le_prop}
 use lib.Dec.{ltb}
@@ -14,7 +14,7 @@ use Rattle.line.proofs.Search.{true_false}
 use Rattle.table.specs.declared.Refusal.{Refusal}
 use Rattle.table.specs.Words.{refusal, short_refusal, Said}
 use Rattle.reply.specs.declared.array.Reply.{Reply}
-use Rattle.reply.specs.Line.{length_for, held_after, digits_in, digits, AllDigits, carries, lateness, lateness_of, answer_line, AnswerWidths, Replied, line_feed, space, release, refused}
+use Rattle.reply.specs.Line.{length_for, held_after, digits_in, digits, AllDigits, carries, lateness, lateness_of, answer_line, AnswerWidths, Replied, line_feed, space}
 use Rattle.reply.proofs.Digits.{digits_one, digits_are_digits, digits_short, printed}
 
 -- R61: case A's line
@@ -121,31 +121,6 @@ line_unique (Ok r) (Err x) e = absurd (differ r x e)
 line_unique (Err x) (Ok r) e = absurd (differ r x (sym e))
 line_unique (Err x) (Err y) e = ap Err (refuses_one x y e)
 
--- ---- the pieces of a line, as the code puts them
-
--- R61: of a start
-pub start_pieces : (r : ℕ) → answer_line (Ok r) ≡ release ++ digits r ++ line_feed
-unfolding answer_line
-start_pieces r = refl
-
--- R61: of a refusal up to its place
-abbrev pub to_place : Refusal → List ℕ
-to_place x = refused ++ digits x.number ++ space ++ digits x.place
-
--- R61, R103: of one that says no tick and no excess
-pub short_pieces : (x : Refusal) → carries x ≡ false → answer_line (Err x) ≡ to_place x ++ line_feed
-unfolding answer_line
-short_pieces x e = ap (λ (b : Bool). to_place x ++ lateness b x.tick x.excess ++ line_feed) e ∙ ap (λ (l : List ℕ). l ++ line_feed) (append-nil (to_place x))
-
-regroup : (l d x : List ℕ) → l ++ (space ++ d ++ space ++ x) ≡ l ++ space ++ d ++ space ++ x
-regroup l d x = simp append_assoc
-
--- R61, R103: and of one that says them
-pub long_pieces : (x : Refusal) → carries x ≡ true → answer_line (Err x) ≡ to_place x ++ space ++ digits x.tick ++ space ++ digits x.excess ++ line_feed
-unfolding answer_line
-long_pieces x e =
-    ap (λ (b : Bool). to_place x ++ lateness b x.tick x.excess ++ line_feed) e ∙ ap (λ (l : List ℕ). l ++ line_feed) (regroup (to_place x) (digits x.tick) (digits x.excess))
-
 -- ---- how long a line is
 
 -- R61: how long a start's line is
@@ -163,7 +138,11 @@ pub refuses_length : (x : Refusal) → length (answer_line (Err x)) ≡ 10 + len
 unfolding answer_line
 refuses_length x = simp length-append (omega arith)
 
--- R103: how many bytes they take of a refusal, by the test
+-- R103: a refusal that the test finds to say a tick and an excess, or not
+pub late_is : (x : Refusal) {b : Bool} → b ≡ carries x → (c : Bool) → b ≡ c → lateness_of x ≡ lateness c x.tick x.excess
+late_is x e c f = ap (λ (b : Bool). lateness b x.tick x.excess) (sym e ∙ f)
+
+-- R103: how many bytes they take of it
 pub late_length : (x : Refusal) (b : Bool) → b ≡ carries x → length (lateness_of x) ≡ pick b (2 + length (digits x.tick) + length (digits x.excess)) 0
 late_length x b e = rw (sym e) (lateness_length b x.tick x.excess)
 

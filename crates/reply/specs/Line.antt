@@ -117,4 +117,5 @@ pub record Grown (bs : List ℕ) (l m : Line) : Type 0 where
   pub same_buffer : m.out.ghost_name ≡ l.out.ghost_name
   pub size : length m.out.now ≡ length l.out.now
   pub end : m.at ≡ l.at + length bs
+  pub within : m.at ≤ length m.out.now
   pub same : m.out.now ≡ laid_from l.at bs l.out.now

@@ -1,8 +1,8 @@
 // The line that the answering program prints.
 #![tactic(auto)]
 
-ghost use Rattle.std.specs.Prelude.{Ok, Err, ◌≡◌, ◌≤◌, length};
-ghost use Rattle.reply.specs.Line.{carries, lateness_of, answer_line, laid, Replied, length_for, held_after};
+ghost use Rattle.std.specs.Prelude.{◌≡◌, ◌+◌, ◌≤◌, length};
+ghost use Rattle.reply.specs.Line.{carries, lateness_of, answer_line, laid, Grown, Replied, length_for, held_after};
 
 mod array;
 mod text;
@@ -64,7 +64,7 @@ fn lateness_len(x: Refusal) -> usize
     }
 }
 
-// R61, R103: puts the line for an answer at the start of out.
+// R61: puts the line for an answer at the start of out.
 #[tactic(auto, using(crate::proofs::Line::lengths))]
 fn put_line(out: &mut [u8], a: Result<u64, Refusal>)
     requires { length (answer_line a) ≤ length out.old }
@@ -81,13 +81,22 @@ fn put_line(out: &mut [u8], a: Result<u64, Refusal>)
             line.number(u64::from(x.number));
             line.text(b" ");
             line.number(x.place);
-            if carries(x) {
-                line.text(b" ");
-                line.number(x.tick);
-                line.text(b" ");
-                line.number(u64::from(x.excess));
-            }
+            put_lateness(&mut line, x);
         }
     }
     line.text(b"\n");
+}
+
+// R61, R103: puts the tick and the excess of a refusal, each behind a space, where it says them.
+#[tactic(auto, using(crate::proofs::Line::lengths))]
+fn put_lateness(line: &mut Line, x: Refusal)
+    requires { line.old.at + length (lateness_of x) ≤ length line.old.out.now }
+    ensures { Grown (lateness_of x) line.old line.new }
+{
+    if carries(x) {
+        line.text(b" ");
+        line.number(x.tick);
+        line.text(b" ");
+        line.number(u64::from(x.excess));
+    }
 }

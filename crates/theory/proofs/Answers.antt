@@ -22,7 +22,8 @@ use Rattle.table.specs.Counts.{accounted, fault}
 use Rattle.table.specs.Grounds.{entry, asked, Late, Full, Waiters, Unsound, Misstretched, Misfit, Wide, Overload, Behind, Short, Row, row, row_short, AnswersBy, Answers}
 use Rattle.line.specs.Stretch.{Barred, barred}
 use Rattle.line.specs.Shares.{frame, share, claim, full}
-use Rattle.table.specs.Ask.{is_none, refused_at, refused_if, refused_short, ask_in, ask_of}
+use Rattle.std.specs.Prelude.{is_none}
+use Rattle.table.specs.Ask.{refused_at, refused_if, refused_short, ask_in, ask_of}
 use Rattle.line.specs.Ends.{excess_at, first_short}
 use Rattle.line.proofs.Excess.{excess_over, excess_is, within_excess, ticks_short_lem}
 use Rattle.line.proofs.Search.{true_false, lowest_is, lowest_none}

@@ -21,7 +21,8 @@ use Rattle.table.specs.Counts.{fault}
 use Rattle.table.specs.Grounds.{entry, asked}
 use Rattle.line.specs.Stretch.{Barred, barred}
 use Rattle.line.specs.Shares.{periods_in, frame, share, claim, full}
-use Rattle.table.specs.Ask.{is_none, refused_at, refused_if, refused_short, ask_in, ask_of}
+use Rattle.std.specs.Prelude.{is_none}
+use Rattle.table.specs.Ask.{refused_at, refused_if, refused_short, ask_in, ask_of}
 use Rattle.line.specs.Ends.{start, excess_at, first_short}
 use Rattle.line.proofs.Search.{true_false}
 use Rattle.line.proofs.Sound.{barred_not}

@@ -18,5 +18,5 @@ pub mod Pump
 pub mod Leave
 pub mod Lagging
 pub mod Step
-pub mod Left
+pub mod Admitted
 pub mod Trace

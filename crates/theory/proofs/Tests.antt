@@ -19,7 +19,7 @@ use Rattle.line.specs.Slots.{both, at, Each, is_nothing, Lowest, lowest, lowest_
 use Rattle.line.specs.Sound.{Sound, sound}
 use Rattle.line.specs.Streams.{asks, of_stream, by_stream, Measures, Proper}
 use Rattle.line.specs.Shares.{periods_in, Divides}
-use Rattle.table.specs.Ask.{is_none}
+use Rattle.std.specs.Prelude.{is_none}
 use Rattle.line.proofs.Search.{true_false, lowest_is, lowest_none}
 use Rattle.line.proofs.Sound.{sound_says}
 use Rattle.line.proofs.Streams.{sound_asks}

@@ -24,8 +24,8 @@ loop-i-preserved c =
     let h = c.loop-i-test.true in
     let t = c.is_empty.ensures in
     elim c.if-not-is_empty.branch [
-      | then-not-is_empty w ↦ rw w.g-is (gather_push v _ h t (ap not w.if-not-is_empty.true) w.stretched-x.ensures w.asks-y.ensures w.gap.ensures)
-      | else-not-is_empty w ↦ rw w.g-is (gather_skip v _ h t (ap not w.if-not-is_empty.false))
+      | then-not-is_empty w ↦ rw (w.g-is, w.push.ensures) (gather_push v _ h t w.if-not-is_empty.true w.stretched.ensures w.asks.ensures)
+      | else-not-is_empty w ↦ rw w.g-is (gather_skip v _ h t w.if-not-is_empty.false)
     ]
 
 pub returns : goal.returns

@@ -14,4 +14,4 @@ returns c =
     let s : c.write_digits.result ≡ c.args.self.now.at = omega arith in
     let w = rw (d, s) at c.write_digits.ensures.written in
     let b = rw s at c.write_digits.ensures.before in
-    record { same_buffer = refl; size = search rules; end = omega arith; same = written _ _ _ _ _ (omega arith) w b }
+    record { same_buffer = refl; size = search rules; end = omega arith; within = omega arith; same = written _ _ _ _ _ (omega arith) w b }
