@@ -13,7 +13,8 @@ admitted-table-requires c = rw c.in-Ok.is at c.ask-answer.ensures.1
 pub returns-in-Ok : goal.returns-in-Ok
 returns-in-Ok c =
     let x = c.args in
-    admits x.t x.q c.ask-answer.ensures.0 (admit_says x.t x.q (c.admitted-table.ensures ∙ ap (λ (a : Said ℕ). (admit_with x.t x.q a).table) (sym c.in-Ok.is)))
+    rw (← c.in-Ok.is)
+    (admits x.t x.q c.ask-answer.ensures.0 (admit_says x.t x.q (c.admitted-table.ensures ∙ ap (λ (a : Said ℕ). (admit_with x.t x.q a).table) (sym c.in-Ok.is))))
 
 pub returns-in-Err : goal.returns-in-Err
 returns-in-Err c =
