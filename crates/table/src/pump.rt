@@ -27,7 +27,7 @@ impl Table {
             Some(s) => s.key(),
             None => 65536,
         };
-        let mut best = None;
+        let mut best = 0;
         let mut least = 65536;
         for (i, &s) in self.slots.iter().enumerate() {
             if !s.sound() {
@@ -36,13 +36,11 @@ impl Table {
             let key = s.key();
             if key < least {
                 least = key;
-                best = Some(i);
+                best = i;
             }
         }
-        match best {
-            Some(_) if going <= least => Ok(Some(last)),
-            _ => Ok(best),
-        }
+        let turn = if going <= least { last } else { best };
+        Ok((least < 65536).then_some(turn))
     }
 
     // R45 to R48: a tick in which the slot named, or none, is served: what each slot holds then, or 14 at the lowest whose period ends short (R34).

@@ -3,13 +3,13 @@ use borrow.Author.Rules.{rules}
 use native.Mathlib.Omega.{arith}
 use lib.ListN.{length}
 use Rattle.line.proofs.Search.{look_start, look_on, look_stop, look_end}
-use Rattle.table.proofs.Choice.{choose_start, choose_take, choose_keep, choose_last, choose_other, choose_none, key_nowhere}
+use Rattle.table.proofs.Choice.{choose_start, choose_take, choose_keep, choose_last, choose_other, key_nowhere}
 use Rattle.table.proofs.Table.choose.Goals as goal
-use Rattle.table.proofs.Table.choose.Goals.{then-key-least, else-key-least, in-Some, in-None}
+use Rattle.table.proofs.Table.choose.Goals.{then-key-least, else-key-least, in-Some, in-None, then-going-least, else-going-least}
 
 pub loop-i-init : goal.loop-i-init
 loop-i-init c = (
-  choose_start _,
+  choose_start _ _,
   look_start _ _,
   elim c.match-get.branch [
     | in-Some w ↦ rw w.going-is (search rules)
@@ -29,24 +29,21 @@ loop-i-preserved c =
     let n : length c.args.self.slots ≡ 16 = c.well_formed.0.1.1.1.0.1.0.1 in
     let o = look_on v.1 (omega arith) (search rules) in
     elim c.if-key-least.branch [
-      | then-key-least w ↦ rw (w.least-is, w.best-is) (choose_take ss c.loop-i.i c.key-key.ensures c.loop-i.best v.0 w.if-key-least.true, o, v.2)
-      | else-key-least w ↦ rw (w.least-is, w.best-is) (choose_keep ss c.loop-i.i c.key-key.ensures c.loop-i.best v.0 w.if-key-least.false, o, v.2)
+      | then-key-least w ↦ rw (w.least-is, w.best-is) (choose_take ss c.loop-i.i c.loop-i.best c.loop-i.least c.key-key.ensures v.0 w.if-key-least.true, o, v.2)
+      | else-key-least w ↦ rw (w.least-is, w.best-is) (choose_keep ss c.loop-i.i c.loop-i.best c.loop-i.least c.key-key.ensures v.0 w.if-key-least.false, o, v.2)
     ]
 
-pub returns-in-Some-best : goal.returns-in-Some-best
-returns-in-Some-best c =
+pub returns : goal.returns
+returns c =
     let v = c.loop-i.invariant in
-    let n : length c.args.self.slots ≡ 16 = c.well_formed.0.1.1.1.0.1.0.1 in
-    (look_end v.1 (omega arith), choose_last c.args.self.slots (omega arith) c.args.self.last v.2 (rw c.in-Some-best.is at v.0) c.if-going-least.true)
-
-pub returns-in_default : goal.returns-in_default
-returns-in_default c =
-    let v = c.loop-i.invariant in
-    let n : length c.args.self.slots ≡ 16 = c.well_formed.0.1.1.1.0.1.0.1 in
-    (look_end v.1 (omega arith), c.in-Some-best.is ∙ choose_other c.args.self.slots (omega arith) c.args.self.last v.2 (rw c.in-Some-best.is at v.0) c.if-going-least.false)
-
-pub returns-in_default-2 : goal.returns-in_default-2
-returns-in_default-2 c =
-    let v = c.loop-i.invariant in
-    let n : length c.args.self.slots ≡ 16 = c.well_formed.0.1.1.1.0.1.0.1 in
-    (look_end v.1 (omega arith), c.in_default.is ∙ choose_none c.args.self.slots (omega arith) c.args.self.last v.2 (rw c.in_default.is at v.0))
+    let ss = c.args.self.slots in
+    let n : length ss ≡ 16 = c.well_formed.0.1.1.1.0.1.0.1 in
+    let z : c.loop-i.i ≡ length ss = omega arith in
+    let b = rw z at v.0 in (
+      look_end v.1 (omega arith),
+      c.then_some.ensures
+          ∙ elim c.if-going-least.branch [
+            | then-going-least w ↦ rw w.turn-is (choose_last ss c.args.self.last c.loop-i.best c.loop-i.least v.2 b w.if-going-least.true)
+            | else-going-least w ↦ rw w.turn-is (choose_other ss c.args.self.last c.loop-i.best c.loop-i.least v.2 b w.if-going-least.false)
+          ],
+    )

@@ -4,4 +4,4 @@ use Rattle.std.specs.List.{sum}
 use Rattle.table.proofs.Table.overcounted.Given as goal
 
 abbrev pub invariant-loop-n : goal.invariant-loop-n
-invariant-loop-n l = l.left + sum (take l.n-index l.n-items) ≡ l.self.clock
+invariant-loop-n l = l.left + sum (take l.n-index l.n-items) ≡ l.fn.self.clock
