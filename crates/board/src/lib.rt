@@ -8,19 +8,17 @@ ghost use Rattle.board.specs.Board.{blinks, ReadyWord};
 pub fn ready_word(t: table::Table) -> u16
     ensures { ReadyWord t.slots result }
 {
-    let mut w: u16 = 0;
-    let mut i: usize = 0;
-    while i < 16 {
-        let s = t.slots[i];
+    let mut w = 0;
+    for (i, s) in t.slots.iter().enumerate() {
         if s.owed() {
-            w = w | (1 << i);
+            w |= 1 << i;
         }
-        i = i + 1;
     }
     w
 }
 
 // R50: the blinks for a refusal's number.
+#[tactic(auto, unfolding(crate::specs::Board::blinks))]
 pub fn lamp(number: u16) -> u8
     ensures { result ≡ blinks number }
 {
