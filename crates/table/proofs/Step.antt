@@ -8,7 +8,7 @@ use native.Mathlib.Omega.{arith}
 use native.Mathlib.Nat.{suc_inj}
 use borrow.Author.Tests.{eqb-true, eqb-false}
 use lib.Dec.{leb, eqb}
-use lib.ListN.{length, get_or, set, length-set}
+use lib.ListN.{length, set, length-set}
 use lib.Seq.{get_or-set_same, get_or-set_other}
 use Rattle.line.specs.declared.Slot.{Slot}
 use Rattle.table.specs.declared.Table.{Table}
@@ -20,7 +20,6 @@ use Rattle.table.specs.Counts.{accounted, fault, counting, settle, settling}
 use Rattle.table.proofs.Acts.{Keeps, keeps_granted, keeps_refused, keeps_either, keeps_unless}
 use Rattle.table.specs.Step.{choose, serve, served_at, pass, departs_in, ticked, advance, step_of}
 use Rattle.line.specs.Tick.{served_slot, passed_slot, short, departs}
-use Rattle.line.proofs.Read.{read_any}
 use Rattle.line.proofs.Loops.{Mapping, map_start, map_on, map_end}
 use Rattle.line.proofs.Search.{Looking, look_start, look_on, look_stop, look_end}
 use Rattle.table.proofs.Counts.{settling_stay, settling_go, settling_accounted, tick_within}
@@ -97,11 +96,9 @@ module _ {o : Option ℕ} {t v : Table} {i : ℕ} (x : Ticking o t v i) where
   inside h = omega (arith, x.later.long, length_serve o t.slots)
 
   -- what slot i holds after the slot named got the tick, s, with b for the test's answer
-  module _ (d : Slot) {s : Slot} {b : Bool} (h : i < 16) (g : s ≡ served_at o i (get_or t.slots i d)) (e : b ≡ short s.held) where
+  module _ {s : Slot} {b : Bool} (h : i < 16) (g : s ≡ served_at o i (slot_at t.slots i)) (e : b ≡ short s.held) where
     tick_here : s ≡ slot_at (serve o t.slots) i
-    tick_here =
-        let n : i < length t.slots = omega (arith, x.later.long) in
-        g ∙ ap (served_at o i) (read_any t.slots i d n) ∙ sym (at_serve o t.slots i n)
+    tick_here = g ∙ sym (at_serve o t.slots i (omega (arith, x.later.long)))
 
     tick_sees : short (at (serve o t.slots) i) ≡ b
     tick_sees = sym (e ∙ ap (λ (y : Slot). short y.held) tick_here)
@@ -116,7 +113,7 @@ module _ {o : Option ℕ} {t v : Table} {i : ℕ} (x : Ticking o t v i) where
       put = with_slots v (set v.slots i r)
 
       later_on : Mapping (λ k s. passed_slot (slot_at (serve o t.slots) k)) 16 t.slots (set v.slots i r) (i + 1)
-      later_on = map_on x.later d h (f ∙ ap passed_slot tick_here)
+      later_on = map_on x.later empty h (f ∙ ap passed_slot tick_here)
 
       fine_on : Looking (λ k. short (at (serve o t.slots) k)) (length (serve o t.slots)) (i + 1)
       fine_on = look_on x.fine (inside h) (tick_sees ∙ z)
