@@ -3,10 +3,11 @@ use mathlib.Core.Path.{◌≡◌, refl, sym, ap, ap₂, ◌∙◌}
 use mathlib.Core.List.{List, ◌∷◌, ◌++◌}
 use Prim.Native.Nat.{ℕ, zero, suc, ◌+◌, ◌*◌, ◌/◌, ◌%◌, ◌^◌, ◌≤◌, ◌<◌}
 use native.Mathlib.Omega.{arith}
-use native.Mathlib.Nat.{add-zero, pow-succ', mul-add-mod_self_left}
+use native.Mathlib.Nat.{add-zero, pow-succ', pow-suc, mul-add-mod_self_left, div-div-eq-div-mul}
 use native.Mathlib.Numerals.{add-one}
 use lib.ListN.{length, drop, get_or}
 use lib.Seq.{drop-cons, get_or-drop}
+use Rattle.std.specs.Int.{w64, bytes_low_first, to_le_bytes}
 use Rattle.card.specs.Bytes.{Bytes, le, value}
 
 -- bytes are left when some are dropped
@@ -52,9 +53,20 @@ pub value_lt : (n : ℕ) (l : List ℕ) (at : ℕ) → Bytes l → value n l at 
 value_lt zero l at b = omega arith
 value_lt (suc n) l at b = more (get_or l at 0) (value n l (suc at)) (256 ^ n) (256 ^ suc n) (b at) (value_lt n l (suc at) b) (pow-succ' 256 n)
 
--- two bytes, as the reader adds them
-pub value_two : (l : List ℕ) (at : ℕ) → get_or l at 0 + get_or l (at + 1) 0 * 256 ≡ value 2 l at
-value_two l at = let e : get_or l (at + 1) 0 ≡ get_or l (suc at) 0 = ap (λ (i : ℕ). get_or l i 0) (add-one at) in omega arith
+-- R52: the bytes as std makes them
+bytes_low : (k i n v : ℕ) → v ≡ n / 256 ^ i → bytes_low_first i k n ≡ le k v
+bytes_low zero i n v e = refl
+bytes_low (suc k) zero n v e =
+    let p : n % 256 ≡ v % 256 = omega arith in
+    let q : v / 256 ≡ n / 256 ^ 1 = omega arith in
+    ap₂ (λ (x : ℕ) (y : List ℕ). x ∷ y) p (bytes_low k 1 n (v / 256) q)
+bytes_low (suc k) (suc i) n v e =
+    let q : v / 256 ≡ n / 256 ^ suc (suc i) = ap (λ (x : ℕ). x / 256) e ∙ div-div-eq-div-mul n (256 ^ suc i) 256 ∙ ap (λ (x : ℕ). n / x) (sym (pow-suc 256 (suc i))) in
+    ap₂ (λ (x : ℕ) (y : List ℕ). x ∷ y) (ap (λ (x : ℕ). x % 256) (sym e)) (bytes_low k (suc (suc i)) n (v / 256) q)
+
+-- R52: a number of 64 bits
+pub bytes_eight : (v : ℕ) → to_le_bytes w64 v ≡ le 8 v
+bytes_eight v = bytes_low 8 0 v v (omega arith)
 
 -- R52: the two lowest bytes, and the others
 pub two_of : (n v : ℕ) → le 2 (v % 65536) ++ le n (v / 65536) ≡ le (suc (suc n)) v

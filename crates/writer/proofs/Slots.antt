@@ -1,13 +1,13 @@
 -- The writer's loops over the slots: the used ones, what is measured of them, their records.
-use Rattle.std.specs.Prelude.{Option, None, Some}
+use Rattle.std.specs.Prelude.{Option, None, Some, Ok}
 use mathlib.Core.Path.{◌≡◌, refl, sym, ap, ap₂, ◌∙◌}
 use mathlib.Core.List.{List, [], ◌∷◌, ◌++◌, append_assoc, append-nil}
 use mathlib.Core.Bool.{Bool, true, false}
-use Prim.Native.Nat.{ℕ, zero, suc, ◌+◌, ◌-◌, ◌*◌, ◌≤◌, ◌<◌}
+use Prim.Native.Nat.{ℕ, zero, suc, ◌+◌, ◌*◌, ◌≤◌, ◌<◌}
 use native.Mathlib.Omega.{arith}
 use native.Mathlib.Nat.{le_of_suc-le-suc, add_comm}
 use native.Mathlib.Numerals.{add-one}
-use lib.ListN.{length, take, drop, get_or, length-append, length-drop}
+use lib.ListN.{length, take, drop, get_or, length-append}
 use lib.Seq.{take_all, get_or-drop}
 use Rattle.line.specs.declared.Held.{Held}
 use Rattle.line.specs.declared.Held.TheVariants.{Nothing, Running, Waiting}
@@ -17,13 +17,16 @@ use Rattle.line.proofs.After.{by_follows_lem}
 use Rattle.line.proofs.Search.{Looking, look_start, look_on, look_stop, look_end}
 use Rattle.card.specs.declared.Mark.{Mark}
 use Rattle.card.specs.declared.SlotRecord.{SlotRecord}
-use Rattle.card.specs.Layout.{mark_bytes, is_free, line_length, record_length}
-use Rattle.card.specs.Marked.{numbers_of, record_bytes, record_for, recorded_bytes}
+use Rattle.card.specs.Layout.{is_free, line_length, record_length}
+use Rattle.card.specs.Marked.{record_for, recorded_bytes}
 use Rattle.card.specs.Card.{slot_record, slot_records, used_from, used}
 use Rattle.card.proofs.Records.{bytes_length}
 use Rattle.card.proofs.Slots.{used_some}
-use Rattle.card.proofs.Length.{records_length}
-use Rattle.card.proofs.Parts.{put_at_lem}
+use Rattle.card.proofs.Length.{used_slots, records_length}
+use Rattle.writer.specs.declared.Used.{Used}
+use Rattle.writer.specs.Laid.{Laid}
+use Rattle.writer.specs.Measured.{MeasuredRecords}
+use Rattle.writer.proofs.Laid.{laid_nothing, laid_length, and_then}
 
 -- R55: one slot more, and the used ones: all up to it where it holds something, else those before
 used_next : (ss : List Slot) (i : ℕ) → i < length ss → used (take (suc i) ss) ≡ pick (is_nothing (at ss i)) (used (take i ss)) (suc i)
@@ -111,37 +114,24 @@ module _ (h : Held) (t : ℕ) (r : SlotRecord) (e : record_for h t ≡ Some r) w
   recorded_started : is_waiting h ≡ false
   recorded_started = waiting_lacks h t ∙ ap lacks e
 
-  -- a record that was written for what the slot holds
-  pub put_recorded : (l m : List ℕ) → m ≡ record_bytes r ++ drop (record_length r.mark) l
-      → m ≡ slot_record h t ++ drop (length (slot_record h t)) l
-  put_recorded l m q = q ∙ ap₂ (λ (x : List ℕ) (j : ℕ). x ++ drop j l) (sym (ap recorded_bytes e)) recorded_length
-
 -- R23: a slot that has none
 module _ (h : Held) (t : ℕ) (e : record_for h t ≡ None) where
   -- its line waits
   unrecorded_waits : is_waiting h ≡ true
   unrecorded_waits = waiting_lacks h t ∙ ap lacks e
 
-  -- it has no length
-  pub unrecorded_length : 0 ≡ length (slot_record h t)
-  unrecorded_length = sym (ap (λ (x : Option SlotRecord). length (recorded_bytes x)) e)
-
-  -- and no byte is written
-  pub put_unrecorded : (l : List ℕ) → l ≡ slot_record h t ++ drop (length (slot_record h t)) l
-  put_unrecorded l = ap (λ (x : Option SlotRecord). recorded_bytes x ++ drop (length (recorded_bytes x)) l) (sym e)
-
--- no line of the first i slots waits, and their records have all bytes; n of them are used, whose records have len
-pub record Counted (ss : List Slot) (ts : List ℕ) (i all n len : ℕ) : Type 0 where
+-- no line of the first i slots waits, and their records have all bytes; u says which of them are used, and what their records have
+pub record Counted (ss : List Slot) (ts : List ℕ) (i all : ℕ) (u : Used) : Type 0 where
   pub looked : Looking (λ k. is_waiting (at ss k)) (length ss) i
   pub total : all ≡ length (slot_records i ss ts)
-  pub last : n ≡ used (take i ss)
-  pub count : len ≡ length (slot_records n ss ts)
+  pub last : u.slots ≡ used (take i ss)
+  pub count : u.length ≡ length (slot_records u.slots ss ts)
 
 -- no record is counted yet
-pub counted_start : (ss : List Slot) (ts : List ℕ) → Counted ss ts 0 0 0 0
+pub counted_start : (ss : List Slot) (ts : List ℕ) → Counted ss ts 0 0 (record { slots = 0; length = 0 })
 counted_start ss ts = record { looked = look_start _ (length ss); total = refl; last = refl; count = refl }
 
-module _ {ss : List Slot} {ts : List ℕ} {i all n len : ℕ} (m : Counted ss ts i all n len) where
+module _ {ss : List Slot} {ts : List ℕ} {i all : ℕ} {u : Used} (m : Counted ss ts i all u) where
   -- R53: no record is longer than a line's
   pub counted_small : all ≤ line_length * i
   counted_small = omega (arith, records_length i ss ts, m.total)
@@ -154,14 +144,14 @@ module _ {ss : List Slot} {ts : List ℕ} {i all n len : ℕ} (m : Counted ss ts
     total_on : all + w ≡ length (slot_records (i + 1) ss ts)
     total_on = let a = length_on ss ts i h in let b = recorded_length (at ss i) (get_or ts i 0) x e in omega (arith, m.total)
 
-    used_on : {o : Bool} → is_free x.mark ≡ o → pick o n (i + 1) ≡ used (take (i + 1) ss)
+    used_on : {o : Bool} → is_free x.mark ≡ o → pick o u.slots (i + 1) ≡ used (take (i + 1) ss)
     used_on {o} g =
         ap₂ (pick o) m.last (add-one i)
         ∙ sym (ap (λ (k : ℕ). used (take k ss)) (add-one i) ∙ used_next ss i h
         ∙ ap (λ (b : Bool). pick b (used (take i ss)) (suc i)) (recorded_free (at ss i) (get_or ts i 0) x e ∙ g))
 
     -- R55: TF: no slot more is used
-    pub counted_free : is_free x.mark ≡ true → Counted ss ts (i + 1) (all + w) n len
+    pub counted_free : is_free x.mark ≡ true → Counted ss ts (i + 1) (all + w) u
     counted_free g = record {
       looked = looked_on;
       total = total_on;
@@ -170,7 +160,7 @@ module _ {ss : List Slot} {ts : List ℕ} {i all n len : ℕ} (m : Counted ss ts
     }
 
     -- R53, R55: a line: all slots up to it are used
-    pub counted_line : is_free x.mark ≡ false → Counted ss ts (i + 1) (all + w) (i + 1) (all + w)
+    pub counted_line : is_free x.mark ≡ false → Counted ss ts (i + 1) (all + w) (record { slots = i + 1; length = all + w })
     counted_line g = record {
       looked = looked_on;
       total = total_on;
@@ -182,68 +172,44 @@ module _ {ss : List Slot} {ts : List ℕ} {i all n len : ℕ} (m : Counted ss ts
   pub counted_stop : i < length ss → record_for (at ss i) (get_or ts i 0) ≡ None → lowest_of is_waiting ss ≡ Some i
   counted_stop h e = look_stop m.looked h (unrecorded_waits (at ss i) (get_or ts i 0) e)
 
-  -- R23, R53, R55: every slot is looked at, and no line waits
-  pub counted_end : length ss ≤ i → (lowest_of is_waiting ss ≡ None) × (n ≡ used ss) × (len ≡ length (slot_records n ss ts))
-  counted_end h = (look_end m.looked h, m.last ∙ ap used (take_all i ss h), m.count)
+  -- R23, R53, R55: all sixteen slots are looked at, and no line waits
+  pub counted_end : length ss ≡ 16 → 16 ≤ i → MeasuredRecords ss ts (Ok u)
+  counted_end h k =
+      let p : length ss ≤ i = omega arith in
+      let e : u.slots ≡ used ss = m.last ∙ ap used (take_all i ss p) in
+      (look_end m.looked p, e, omega (arith, used_slots ss), m.count)
 
--- i of n records stand in the buffer l, which was l₀
-pub record Put (l₀ : List ℕ) (ss : List Slot) (ts : List ℕ) (n : ℕ) (l : List ℕ) (at i : ℕ) : Type 0 where
+-- i of n records stand in the buffer l, which was l₀, from a to b
+pub record Put (l₀ : List ℕ) (ss : List Slot) (ts : List ℕ) (n : ℕ) (l : List ℕ) (a b i : ℕ) : Type 0 where
   pub few : i ≤ n
   pub slots : n ≤ length ss
-  pub room : length (slot_records n ss ts) ≤ length l₀
-  pub place : at ≡ length (slot_records i ss ts)
-  pub kept : l ≡ slot_records i ss ts ++ drop at l₀
+  pub room : a + length (slot_records n ss ts) ≤ length l₀
+  pub put : Laid l₀ l a b (slot_records i ss ts)
 
 -- no record is put yet
-pub put_start : (l₀ : List ℕ) (ss : List Slot) (ts : List ℕ) (n : ℕ) → n ≤ length ss → length (slot_records n ss ts) ≤ length l₀
-    → Put l₀ ss ts n l₀ 0 0
-put_start l₀ ss ts n a c = record { few = omega arith; slots = a; room = c; place = refl; kept = refl }
+pub put_start : (l₀ : List ℕ) (ss : List Slot) (ts : List ℕ) (n a : ℕ) → n ≤ length ss → a + length (slot_records n ss ts) ≤ length l₀
+    → Put l₀ ss ts n l₀ a a 0
+put_start l₀ ss ts n a h k = record { few = omega arith; slots = h; room = k; put = laid_nothing l₀ a (omega arith) }
 
-module _ {l₀ : List ℕ} {ss : List Slot} {ts : List ℕ} {n : ℕ} {l : List ℕ} {at i : ℕ} (m : Put l₀ ss ts n l at i) where
-  -- the buffer keeps its length
-  pub put_same : length l ≡ length l₀
-  put_same =
-      let e = ap length m.kept ∙ length-append (slot_records i ss ts) (drop at l₀) in
-      omega (arith, length-drop at l₀, records_mono ss ts i n m.few, m.room, m.place)
-
+module _ {l₀ : List ℕ} {ss : List Slot} {ts : List ℕ} {n : ℕ} {l : List ℕ} {a b i : ℕ} (m : Put l₀ ss ts n l a b i) (h : i < n) where
   -- there is room for the next record
-  pub put_room : i < n → at + length (slot_record (get_or ss i empty).held (get_or ts i 0)) ≤ length l
-  put_room h =
-      omega (
-        arith,
-        length_on ss ts i (omega (arith, m.slots)),
-        records_mono ss ts (i + 1) n (omega arith),
-        put_same,
-        m.room,
-        m.place,
-      )
+  pub put_room : b + length (slot_record (get_or ss i empty).held (get_or ts i 0)) ≤ length l
+  put_room = omega (arith, length_on ss ts i (omega (arith, m.slots)), records_mono ss ts (i + 1) n (omega arith), laid_length m.put, m.room, m.put.end)
 
-  -- R54: the next record stands behind the last
-  pub put_next : i < n → (r : ℕ) (ys : List ℕ) → r ≡ length (slot_record (get_or ss i empty).held (get_or ts i 0))
-      → ys ≡ slot_record (get_or ss i empty).held (get_or ts i 0)
-      ++ drop (length (slot_record (get_or ss i empty).held (get_or ts i 0))) (take (length l - at) (drop at l))
-      → Put l₀ ss ts n (take at l ++ (ys ++ drop (length l - at) (drop at l))) (at + r) (i + 1)
-  put_next h r ys e q =
-      let bs = slot_record (get_or ss i empty).held (get_or ts i 0) in
-      let hs : i < length ss = omega (arith, m.slots) in
-      let w = put_at_lem l₀ l (slot_records i ss ts) bs ys at (length bs) m.kept (sym m.place) refl q in
-      record {
-        few = omega arith;
-        slots = m.slots;
-        room = m.room;
-        place = omega (arith, length_on ss ts i hs, m.place);
-        kept = w ∙ ap₂ (λ (x : List ℕ) (k : ℕ). x ++ drop (at + k) l₀) (sym (records_on ss ts i hs)) (sym e);
-      }
+  -- R54: the next slot's record stands behind the last
+  pub put_next : {k : List ℕ} {c : ℕ} → Laid l k b c (slot_record (get_or ss i empty).held (get_or ts i 0)) → Put l₀ ss ts n k a c (i + 1)
+  put_next {k} {c} p = record {
+    few = omega arith;
+    slots = m.slots;
+    room = m.room;
+    put = rw (records_on ss ts i (omega (arith, m.slots))) (and_then m.put p);
+  }
 
-  -- R54: every record is put
-  pub put_end : n ≤ i → (at ≡ length (slot_records n ss ts)) × (l ≡ slot_records n ss ts ++ drop (length (slot_records n ss ts)) l₀)
-  put_end h =
-      let j : i ≡ n = omega (arith, m.few) in
-      let p : at ≡ length (slot_records n ss ts) = m.place ∙ ap (λ (k : ℕ). length (slot_records k ss ts)) j in
-      (p, m.kept ∙ ap₂ (λ (k x : ℕ). slot_records k ss ts ++ drop x l₀) j p)
+  -- R23: where it has none no byte is put
+  pub put_none : record_for (get_or ss i empty).held (get_or ts i 0) ≡ None → Put l₀ ss ts n l a b (i + 1)
+  put_none e = put_next (rw e (laid_nothing l b (omega (arith, put_room))))
 
--- a record that was written under its mark
-pub put_marked : (r : SlotRecord) (m : Mark) → r.mark ≡ m → (l o : List ℕ)
-    → o ≡ (mark_bytes m ++ pick (is_free m) [] (numbers_of r)) ++ drop (record_length m) l → o ≡ record_bytes r ++ drop (record_length r.mark) l
-put_marked r m e l o q =
-    q ∙ ap (λ (x : Mark). (mark_bytes x ++ pick (is_free x) [] (numbers_of r)) ++ drop (record_length x) l) (sym e)
+-- R54: every record is put
+pub put_end : {l₀ : List ℕ} {ss : List Slot} {ts : List ℕ} {n : ℕ} {l : List ℕ} {a b i : ℕ} → Put l₀ ss ts n l a b i → n ≤ i
+    → Laid l₀ l a b (slot_records n ss ts)
+put_end {l₀} {ss} {ts} {n} {l} {a} {b} {i} m h = let j : i ≡ n = omega (arith, m.few) in rw j at m.put

@@ -1,3 +1,3 @@
--- The parts of a card, and what is measured of them.
+-- What is measured of a card, and what stands in the buffer.
+pub mod Laid
 pub mod Measured
-pub mod Parts

@@ -1,12 +1,7 @@
--- `measure`: what is counted so far is `Counted`; each way through the loop is one law.
-use mathlib.Core.Path.{◌≡◌}
-use Prim.Native.Nat.{◌-◌}
-use lib.ListN.{length}
+-- `measure`: what is counted so far is `Counted`; each way through the loop is one law. How many slots there are is known once one is read.
+use Rattle.std.proofs.Common.{◌≡◌, ◌<◌, length}
 use Rattle.writer.proofs.Slots.{Counted}
 use Rattle.writer.proofs.measure.Given as goal
 
 abbrev pub invariant-loop-i : goal.invariant-loop-i
-invariant-loop-i l = (length l.slots ≡ 16) × Counted l.slots l.stretched l.i l.all l.n l.len
-
-abbrev pub decreases-loop-i : goal.decreases-loop-i
-decreases-loop-i l = 16 - l.i
+invariant-loop-i l = (0 < l.i → length l.card.table.slots ≡ 16) × Counted l.card.table.slots l.card.request.stretched l.i l.all l.used

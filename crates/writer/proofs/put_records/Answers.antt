@@ -1,39 +1,19 @@
-use borrow.Author.Rules.{rules}
-use mathlib.Core.Path.{◌≡◌, ap}
-use native.Mathlib.Omega.{arith}
-use lib.ListN.{length, length-drop}
-use Rattle.card.proofs.Parts.{part_all}
-use Rattle.writer.proofs.Slots.{put_start, put_same, put_room, put_next, put_end}
+-- `put_records`: each record goes behind the last one.
+use Rattle.std.proofs.Common.{sym, ◌∙◌, arith}
+use Rattle.writer.proofs.Slots.{recorded_length, put_start, put_room, put_next, put_none}
 use Rattle.writer.proofs.put_records.Goals as goal
+use Rattle.writer.proofs.put_records.Goals.{in-Some, in_default}
 
 pub loop-i-init : goal.loop-i-init
-loop-i-init c =
-    let a = c.args in
-    let h : length a.slots ≡ 16 = search rules in
-    put_start a.out.now a.slots a.stretched a.n (omega (arith, c.requires.0)) c.requires.1
+loop-i-init c = let a = c.args in put_start a.out.now _ _ a.n a.at c.requires.1 c.requires.2
 
-pub put_slot-at-requires : goal.put_slot-at-requires
-put_slot-at-requires c =
-    let q = c.loop-i in
-    omega (arith, ap length (part_all q.out q.at), length-drop q.at q.out, put_room q.invariant (omega arith))
-
-pub overflow_add-at : goal.overflow_add-at
-overflow_add-at c =
-    omega (arith, put_room c.loop-i.invariant (omega arith), put_same c.loop-i.invariant, c.put_slot-at.ensures.0, c.well_formed.0.0)
+pub put_record-at-requires : goal.put_record-at-requires
+put_record-at-requires c =
+    omega (arith, put_room c.loop-i.invariant c.loop-i-test.true, recorded_length _ _ c.in-Some.r (sym c.of.ensures ∙ c.in-Some.is))
 
 pub loop-i-preserved : goal.loop-i-preserved
 loop-i-preserved c =
-    let p = c.put_slot-at in
-    put_next c.loop-i.invariant (omega arith) p.result p.new.out p.ensures.0 p.ensures.1
-
-pub slice_bounds-put_slot-count : goal.slice_bounds-put_slot-count
-slice_bounds-put_slot-count c = omega (arith, put_room c.loop-i.invariant (omega arith))
-
-pub slice_bounds-put_slot-start : goal.slice_bounds-put_slot-start
-slice_bounds-put_slot-start c = omega (arith, put_room c.loop-i.invariant (omega arith))
-
-pub shape_of-out : goal.shape_of-out
-shape_of-out c = put_same c.loop-i.invariant
-
-pub returns : goal.returns
-returns c = put_end c.loop-i.invariant (omega arith)
+    elim c.match-of.branch [
+      | in-Some w ↦ rw (w.out-is, w.at-is) (put_next c.loop-i.invariant c.loop-i-test.true (rw (sym c.of.ensures ∙ w.in-Some.is) w.put_record-at.ensures))
+      | in_default w ↦ rw (w.out-is, w.at-is) (put_none c.loop-i.invariant c.loop-i-test.true (sym c.of.ensures ∙ w.in_default.is))
+    ]
