@@ -16,10 +16,6 @@ abbrev pub value : (width : ℕ) → List ℕ → (at : ℕ) → ℕ
 value zero l at = 0
 value (suc n) l at = get_or l at 0 + 256 * value n l (suc at)
 
--- the two bytes of a mark
-abbrev pub mark_of : List ℕ → List ℕ
-mark_of m = get_or m 0 0 ∷ get_or m 1 0 ∷ []
-
 -- R52: the bytes open with the mark
 unfoldable pub marked : (mark : List ℕ) → List ℕ → Bool
 marked [] l = true

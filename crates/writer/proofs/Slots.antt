@@ -14,7 +14,7 @@ use Rattle.line.specs.declared.Held.TheVariants.{Nothing, Running, Waiting}
 use Rattle.line.specs.declared.Slot.{Slot}
 use Rattle.line.specs.Slots.{pick, empty, is_nothing, is_waiting, at, lowest_of}
 use Rattle.line.proofs.After.{by_follows_lem}
-use Rattle.line.proofs.Search.{Looking, look_start, look_on, look_stop, look_end}
+use Rattle.line.proofs.Search.{Looking, look_on, look_stop, look_end}
 use Rattle.card.specs.declared.Mark.{Mark}
 use Rattle.card.specs.declared.SlotRecord.{SlotRecord}
 use Rattle.card.specs.Layout.{is_free, line_length, record_length}
@@ -126,10 +126,6 @@ pub record Counted (ss : List Slot) (ts : List ℕ) (i all : ℕ) (u : Used) : T
   pub total : all ≡ length (slot_records i ss ts)
   pub last : u.slots ≡ used (take i ss)
   pub count : u.length ≡ length (slot_records u.slots ss ts)
-
--- no record is counted yet
-pub counted_start : (ss : List Slot) (ts : List ℕ) → Counted ss ts 0 0 (record { slots = 0; length = 0 })
-counted_start ss ts = record { looked = look_start _ (length ss); total = refl; last = refl; count = refl }
 
 module _ {ss : List Slot} {ts : List ℕ} {i all : ℕ} {u : Used} (m : Counted ss ts i all u) where
   -- R53: no record is longer than a line's
