@@ -166,10 +166,6 @@ module _ {n : ℕ} {l : List ℕ} {k : ℕ} (v : Judged n l k) (h : k < n) where
             ∙ next;
       }
 
-  -- the same of a slot in which no wrong byte was found
-  pub judge_on : (w : Option ℕ) → w ≡ slot_wrong (drop (9 + 9 * k) l) → w ≡ None → Judged n l (k + 1)
-  judge_on w e q = judge_past (sym e ∙ q)
-
   -- a wrong byte of a slot is one of its nine
   pub judge_below : (w : Option ℕ) (i : ℕ) → w ≡ slot_wrong (drop (9 + 9 * k) l) → w ≡ Some i → i < 9
   judge_below w i e q = lowest_below (is_wrong (drop (9 + 9 * k) l)) 9 (sym e ∙ q)
@@ -192,8 +188,8 @@ judge_end {n} {l} {k} v h =
     sym (ap (λ (m : ℕ). slots_wrong m (9 + 9 * k) (drop (9 + 9 * k) l)) z) ∙ v.left
 
 -- a slot's part of an image is what `drop` leaves
-pub right_part : (l : List ℕ) (at : ℕ) → slot_wrong (take (length l - at) (drop at l)) ≡ None → slot_wrong (drop at l) ≡ None
-right_part l at e = rw part_all at e
+pub part_wrong : (l : List ℕ) (at : ℕ) → slot_wrong (take (length l - at) (drop at l)) ≡ slot_wrong (drop at l)
+part_wrong l at = ap slot_wrong (part_all l at)
 
 right_each : (n at : ℕ) (l : List ℕ) → ((i : ℕ) → i < n → slot_wrong (drop (9 * i) l) ≡ None) → slots_wrong n at l ≡ None
 unfolding slots_wrong
@@ -238,18 +234,17 @@ module _ (n : ℕ) (l : List ℕ) where
       c ∙ ap (λ (x : Option ℕ). or_else x (length_wrong (size n) (length l))) (b ∙ ap (λ (x : Option ℕ). or_else x (slots_wrong n 9 (drop 9 l))) a)
       ∙ or_assoc (version_wrong l) (slots_wrong n 9 (drop 9 l)) (length_wrong (size n) (length l))
 
-  -- what is wrong was looked for
-  module _ {w : Option ℕ} (e : w ≡ wrong_in n l) where
+  -- R31, R83: what is wrong is refused at its offset
+  pub load_broken : {w : Option ℕ} → w ≡ wrong_in n l → (p : ℕ) (r : Refusal) → w ≡ Some p → r ≡ refusal 11 p → Err r ≡ load_with n l
+  unfolding load_with
+  load_broken e p r q b = ap Err b ∙ ap (λ (o : Option ℕ). unless_wrong o (table_in n l)) (sym q ∙ e)
+
+  module _ (e : wrong_in n l ≡ None) where
     -- R83: an image that is not wrong has its length
-    pub has_length : w ≡ None → length l ≡ size n
-    has_length q = (nothing_wrong n l (sym e ∙ q)).2
+    pub has_length : length l ≡ size n
+    has_length = (nothing_wrong n l e).2
 
-    -- R31, R83: what is wrong is refused at its offset
-    pub load_broken : (p : ℕ) (r : Refusal) → w ≡ Some p → r ≡ refusal 11 p → Err r ≡ load_with n l
+    -- R83: and it is a table
+    pub load_right : (t : Table) → t ≡ table_in n l → Ok t ≡ load_with n l
     unfolding load_with
-    load_broken p r q b = ap Err b ∙ ap (λ (o : Option ℕ). unless_wrong o (table_in n l)) (sym q ∙ e)
-
-    -- R83: and what is not is a table
-    pub load_right : (t : Table) → w ≡ None → t ≡ table_in n l → Ok t ≡ load_with n l
-    unfolding load_with
-    load_right t q b = ap Ok b ∙ ap (λ (o : Option ℕ). unless_wrong o (table_in n l)) (sym q ∙ e)
+    load_right t b = ap Ok b ∙ ap (λ (o : Option ℕ). unless_wrong o (table_in n l)) (sym e)

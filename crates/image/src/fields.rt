@@ -8,7 +8,7 @@ ghost use Rattle.image.specs.Loading.{held_in};
 ghost use Rattle.line.specs.declared.Held.TheVariants.{Nothing, Running, Waiting};
 ghost use Rattle.line.specs.declared.Slot.{Slot};
 
-use crate::kinds::Kind;
+use crate::kinds::SlotKind;
 use crate::numbers::{eight_at, put_eight};
 use crate::pieces::Piece;
 use line::{Held, Slot};
@@ -55,26 +55,26 @@ impl Piece for Slot {
         let second = lowest(v / 65536);
         let third = lowest(v / 4294967296);
         let fourth = lowest(v / 281474976710656);
-        match Kind::try_from(s[0]) {
-            Ok(Kind::Running(follows)) => {
+        match SlotKind::try_from(s[0]) {
+            Ok(SlotKind::Running(follows)) => {
                 Slot::holding(Held::running(first, second, third, fourth, follows))
             }
-            Ok(Kind::Waiting) => Slot::holding(Held::waiting(first, second, third)),
-            Ok(Kind::Nothing) => Slot::empty(),
+            Ok(SlotKind::Waiting) => Slot::holding(Held::waiting(first, second, third)),
+            Ok(SlotKind::Nothing) => Slot::empty(),
             Err(()) => Slot::empty(),
         }
     }
 
     fn put(self, out: &mut [u8]) {
         match self.held {
-            Held::Nothing => put_nine(out, u8::from(Kind::Nothing), 0),
+            Held::Nothing => put_nine(out, u8::from(SlotKind::Nothing), 0),
             Held::Running(r) => {
                 let numbers = four(r.need, r.period, r.age, r.remaining);
-                put_nine(out, u8::from(Kind::Running(r.follows)), numbers)
+                put_nine(out, u8::from(SlotKind::Running(r.follows)), numbers)
             }
             Held::Waiting(w) => {
                 let numbers = four(w.need, w.period, w.wait, 0);
-                put_nine(out, u8::from(Kind::Waiting), numbers)
+                put_nine(out, u8::from(SlotKind::Waiting), numbers)
             }
         }
     }

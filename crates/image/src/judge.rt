@@ -2,17 +2,18 @@
 ghost use Rattle.std.specs.Prelude.{◌≡◌, ◌+◌, ◌≤◌, length, drop, true, None};
 ghost use Rattle.image.specs.Loading.{blank_from, slot_wrong, slots_wrong, version_wrong, length_wrong, wrong_in};
 
-use crate::kinds::Kind;
+use crate::kinds::SlotKind;
 use crate::numbers::eight_at;
+use crate::{COUNTS, SIZE, SLOTS, VERSION};
 
 // R81, R83: from which byte on a slot of this kind has zeros only.
 fn blank_from(kind: u8) -> usize
     ensures { (result ≡ blank_from kind) × (result ≤ 9) }
 {
-    match Kind::try_from(kind) {
-        Ok(Kind::Nothing) => 1,
-        Ok(Kind::Running(_)) => 9,
-        Ok(Kind::Waiting) => 7,
+    match SlotKind::try_from(kind) {
+        Ok(SlotKind::Nothing) => 1,
+        Ok(SlotKind::Running(_)) => 9,
+        Ok(SlotKind::Waiting) => 7,
         Err(()) => 0,
     }
 }
@@ -30,7 +31,7 @@ fn slots_wrong(image: &[u8]) -> Option<usize>
     ensures { result ≡ slots_wrong 16 9 (drop 9 image.now) }
 {
     for k in 0..16 {
-        let at = 9 + 9 * k;
+        let at = SLOTS + 9 * k;
         if let Some(i) = slot_wrong(image.get(at..)?) {
             return Some(at + i);
         }
@@ -42,14 +43,14 @@ fn slots_wrong(image: &[u8]) -> Option<usize>
 fn length_wrong(len: usize) -> Option<usize>
     ensures { result ≡ length_wrong 298 len }
 {
-    (len != 298).then_some(len.min(298))
+    (len != SIZE).then_some(len.min(SIZE))
 }
 
 // R81, R83: the first byte is the version, 4.
 fn version_wrong(image: &[u8]) -> Option<usize>
     ensures { result ≡ version_wrong image.now }
 {
-    (image.first() != Some(&4)).then_some(0)
+    (image.first() != Some(&VERSION)).then_some(0)
 }
 
 // The nine bytes in front, at one look: whether it finds nothing wrong with them.
@@ -58,10 +59,10 @@ fn slot_right(s: &[u8]) -> bool
     ensures { result ≡ true → slot_wrong s.now ≡ None }
 {
     let v = eight_at(s, 1);
-    match Kind::try_from(s[0]) {
-        Ok(Kind::Nothing) => v == 0,
-        Ok(Kind::Running(_)) => true,
-        Ok(Kind::Waiting) => v < 281474976710656,
+    match SlotKind::try_from(s[0]) {
+        Ok(SlotKind::Nothing) => v == 0,
+        Ok(SlotKind::Running(_)) => true,
+        Ok(SlotKind::Waiting) => v < 281474976710656,
         Err(()) => false,
     }
 }
@@ -71,14 +72,14 @@ fn slots_right(image: &[u8]) -> bool
     requires { 153 ≤ length image.now }
     ensures { result ≡ true → slots_wrong 16 9 (drop 9 image.now) ≡ None }
 {
-    (0..16).all(|k| slot_right(&image[9 + 9 * k..]))
+    (0..16).all(|k| slot_right(&image[SLOTS + 9 * k..]))
 }
 
 // R83: the lowest wrong byte of the slots. An image that is nearly always right is looked at a slot at a time first.
 fn slots_judged(image: &[u8]) -> Option<usize>
     ensures { result ≡ slots_wrong 16 9 (drop 9 image.now) }
 {
-    if 153 <= image.len() && slots_right(image) {
+    if COUNTS <= image.len() && slots_right(image) {
         return None;
     }
     slots_wrong(image)

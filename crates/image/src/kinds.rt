@@ -6,39 +6,39 @@ use line::Follows;
 
 // R81: the kinds of a slot.
 #[derive(Clone, Copy)]
-pub(crate) enum Kind {
+pub(crate) enum SlotKind {
     Nothing,
     Running(Follows),
     Waiting,
 }
 
-impl TryFrom<u8> for Kind {
+impl TryFrom<u8> for SlotKind {
     type Error = ();
 
     // R81, R83: no byte above 3 is a kind.
-    fn try_from(byte: u8) -> Result<Kind, ()>
+    fn try_from(byte: u8) -> Result<SlotKind, ()>
         ensures { MatchResult result (λ kind. byte ≡ kind_byte kind) (λ _. 3 < byte) }
     {
         match byte {
-            0 => Ok(Kind::Nothing),
-            1 => Ok(Kind::Running(Follows::Renews)),
-            2 => Ok(Kind::Waiting),
-            3 => Ok(Kind::Running(Follows::Leaves)),
+            0 => Ok(SlotKind::Nothing),
+            1 => Ok(SlotKind::Running(Follows::Renews)),
+            2 => Ok(SlotKind::Waiting),
+            3 => Ok(SlotKind::Running(Follows::Leaves)),
             _ => Err(()),
         }
     }
 }
 
-impl From<Kind> for u8 {
+impl From<SlotKind> for u8 {
     // R81: the byte of a kind.
-    fn from(kind: Kind) -> u8
+    fn from(kind: SlotKind) -> u8
         ensures { result ≡ kind_byte kind }
     {
         match kind {
-            Kind::Nothing => 0,
-            Kind::Running(Follows::Renews) => 1,
-            Kind::Waiting => 2,
-            Kind::Running(Follows::Leaves) => 3,
+            SlotKind::Nothing => 0,
+            SlotKind::Running(Follows::Renews) => 1,
+            SlotKind::Waiting => 2,
+            SlotKind::Running(Follows::Leaves) => 3,
         }
     }
 }

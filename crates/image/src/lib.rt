@@ -1,12 +1,12 @@
 // The table as bytes: any bytes of any length loaded as a table or refused, and a table stored.
 #![tactic(auto)]
 
-ghost use Rattle.std.specs.Prelude.{Err, ◌≡◌, ◌≤◌, ◌++◌, length, drop};
+ghost use Rattle.std.specs.Prelude.{None, Err, MatchResult, ◌≡◌, ◌≤◌, ◌++◌, length, drop};
 ghost use Rattle.image.specs.Image.{image_of};
-ghost use Rattle.image.specs.Loading.{table_in, load_of};
+ghost use Rattle.image.specs.Loading.{wrong_in, table_in, load_of};
 ghost use Rattle.image.specs.Answers.{handed_out, store_of, stored_in};
-ghost use Rattle.table.specs.Words.{refusal};
 
+use numbers::{eight_at, put_eight};
 use pieces::{pieces_in, put_pieces};
 use table::{Refusal, Table};
 
@@ -15,6 +15,17 @@ mod judge; // which byte is wrong
 mod kinds; // what a slot holds, as a byte
 mod numbers; // numbers of eight bytes
 mod pieces; // the slots and the counts in an image
+
+// R81: the version of the layout.
+const VERSION: u8 = 4;
+
+// R81: where an image's slots begin, and behind them the counts of the slots, the idle one, the departed one and the last slot; and how long it is.
+const SLOTS: usize = 9;
+const COUNTS: usize = SLOTS + 9 * 16;
+const IDLE: usize = COUNTS + 8 * 16;
+const DEPARTED: usize = IDLE + 8;
+const LAST: usize = DEPARTED + 8;
+const SIZE: usize = LAST + 1;
 
 // R84: what loading hands out. The table stands beside the answer, since R84 hands one out with a refusal too: the empty one.
 #[derive(Clone, Copy)]
@@ -41,27 +52,36 @@ impl From<Result<Table, Refusal>> for Loaded {
     }
 }
 
+// R31, R83: whether the bytes are an image, or what they are refused for.
+fn judged(image: &[u8]) -> Result<(), Refusal>
+    ensures { MatchResult result (λ _. wrong_in 16 image.now ≡ None) (λ x. Err x ≡ load_of image.now) }
+{
+    match judge::wrong_in(image) {
+        Some(at) => Err(Refusal::new(11, at as u64)),
+        None => Ok(()),
+    }
+}
+
 // R81: the table in an image that is long enough.
 fn table_in(image: &[u8]) -> Table
     requires { 298 ≤ length image.now }
     ensures { result ≡ table_in 16 image.now }
 {
-    let mut t = Table::new(numbers::eight_at(image, 1), pieces_in(&image[9..]));
-    t.had = pieces_in(&image[153..]);
-    t.idle = numbers::eight_at(image, 281);
-    t.departed = numbers::eight_at(image, 289);
-    t.last = image[297];
-    t
+    Table {
+        had: pieces_in(&image[COUNTS..]),
+        idle: eight_at(image, IDLE),
+        departed: eight_at(image, DEPARTED),
+        last: image[LAST],
+        ..Table::new(eight_at(image, 1), pieces_in(&image[SLOTS..]))
+    }
 }
 
 // R31, R83: any bytes of any length. The contract is an equation: it settles all that is answered.
 pub fn try_load(image: &[u8]) -> Result<Table, Refusal>
     ensures { result ≡ load_of image.now }
 {
-    match judge::wrong_in(image) {
-        Some(at) => Err(Refusal::new(11, at as u64)),
-        None => Ok(table_in(image)),
-    }
+    judged(image)?;
+    Ok(table_in(image))
 }
 
 // R31, R83, R84: the same, as it is handed out.
@@ -76,21 +96,21 @@ fn put_image(t: Table, out: &mut [u8])
     requires { 298 ≤ length out.old }
     ensures { out.new ≡ image_of t ++ drop 298 out.old }
 {
-    fields::put_nine(out, 4, t.clock);
-    put_pieces(&mut out[9..], t.slots);
-    put_pieces(&mut out[153..], t.had);
-    numbers::put_eight(&mut out[281..], t.idle);
-    numbers::put_eight(&mut out[289..], t.departed);
-    out[297] = t.last;
+    fields::put_nine(out, VERSION, t.clock);
+    put_pieces(&mut out[SLOTS..], t.slots);
+    put_pieces(&mut out[COUNTS..], t.had);
+    put_eight(&mut out[IDLE..], t.idle);
+    put_eight(&mut out[DEPARTED..], t.departed);
+    out[LAST] = t.last;
 }
 
 // R33, R84: a buffer that is too short is left alone. The contract settles the answer and the whole buffer: both parts are equations.
 pub fn store(t: Table, out: &mut [u8]) -> Result<usize, Refusal>
     ensures { (result ≡ store_of (length out.old)) × (out.new ≡ stored_in t out.old) }
 {
-    if out.len() < 298 {
+    if out.len() < SIZE {
         return Err(Refusal::new(13, 0));
     }
     put_image(t, out);
-    Ok(298)
+    Ok(SIZE)
 }

@@ -1,9 +1,8 @@
-use mathlib.Core.Path.{ap, ◌∙◌}
+use mathlib.Core.Path.{sym, ap, ◌∙◌}
 use Prim.Native.Nat.{◌+◌, ◌*◌}
 use native.Mathlib.Omega.{arith}
-use Rattle.card.proofs.Parts.{part_all}
 use Rattle.image.specs.Loading.{slot_wrong}
-use Rattle.image.proofs.Judging.{judge_start, judge_on, judge_below, judge_stop, judge_cut, judge_end}
+use Rattle.image.proofs.Judging.{part_wrong, judge_start, judge_past, judge_below, judge_stop, judge_cut, judge_end}
 use Rattle.image.proofs.judge.slots_wrong.Goals as goal
 
 pub returns-in_err-get : goal.returns-in_err-get
@@ -11,15 +10,18 @@ returns-in_err-get c = c.from_residual.ensures ∙ judge_cut c.loop-k.invariant 
 
 pub overflow_add-result : goal.overflow_add-result
 overflow_add-result c =
-    omega (arith, judge_below c.loop-k.invariant (omega arith) _ _ (c.slot_wrong.ensures ∙ ap slot_wrong (c.in_ok-get.ensures.lookup.0.2 ∙ part_all c.args.image.now (9 + 9 * c.loop-k.k))) c.in-Some.is)
+    let w = c.slot_wrong.ensures ∙ ap slot_wrong c.in_ok-get.ensures.lookup.0.2 ∙ part_wrong c.args.image.now (9 + 9 * c.loop-k.k) in
+    omega (arith, judge_below c.loop-k.invariant (omega arith) _ _ w c.in-Some.is)
 
 pub returns-in-Some : goal.returns-in-Some
 returns-in-Some c =
-    judge_stop c.loop-k.invariant (omega arith) _ _ (c.slot_wrong.ensures ∙ ap slot_wrong (c.in_ok-get.ensures.lookup.0.2 ∙ part_all c.args.image.now (9 + 9 * c.loop-k.k))) c.in-Some.is
+    let w = c.slot_wrong.ensures ∙ ap slot_wrong c.in_ok-get.ensures.lookup.0.2 ∙ part_wrong c.args.image.now (9 + 9 * c.loop-k.k) in
+    judge_stop c.loop-k.invariant (omega arith) _ _ w c.in-Some.is
 
 pub loop-k-preserved : goal.loop-k-preserved
 loop-k-preserved c =
-    judge_on c.loop-k.invariant (omega arith) _ (c.slot_wrong.ensures ∙ ap slot_wrong (c.in_ok-get.ensures.lookup.0.2 ∙ part_all c.args.image.now (9 + 9 * c.loop-k.k))) c.in_default.is
+    let w = c.slot_wrong.ensures ∙ ap slot_wrong c.in_ok-get.ensures.lookup.0.2 ∙ part_wrong c.args.image.now (9 + 9 * c.loop-k.k) in
+    judge_past c.loop-k.invariant (omega arith) (sym w ∙ c.in_default.is)
 
 pub loop-k-init : goal.loop-k-init
 loop-k-init c = judge_start 16 _
