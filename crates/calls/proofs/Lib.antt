@@ -1,9 +1,5 @@
-use Rattle.table.specs.Words.{Said}
--- The laws of the calls: what is read and loaded, the run, the operations; what follows for bytes; the edges.
-pub mod Said
+-- The laws of the calls: the run; what follows for bytes; the edges.
 pub mod Run
-pub mod Operations
-pub mod Copied
 pub mod Theorems
 pub mod CaseA
 pub mod Edges

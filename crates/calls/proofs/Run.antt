@@ -1,5 +1,7 @@
 -- A run: what was counted, and what the ticks that are left say, make what all ticks say.
-use Rattle.std.specs.Prelude.{Option, Ok, Err}
+use Rattle.std.specs.Prelude.{Option, None, Some, Ok, Err, is_some}
+use mathlib.Core.Bool.{Bool}
+use mir.Val.{bool_byte}
 use mathlib.Core.Path.{◌≡◌, refl, sym, ap, ◌∙◌}
 use Prim.Native.Nat.{ℕ, suc, ◌+◌, ◌-◌, ◌≤◌, ◌<◌}
 use native.Mathlib.Omega.{arith}
@@ -54,3 +56,12 @@ module _ (ticks i ran : ℕ) (t : Table) (h : i < ticks) {s : Acted (Option ℕ)
   run_stop x o =
       ap (λ (y : Said (Option ℕ)). more ran (and_then y (ticks_run (ticks - (i + 1)) s.table))) (sym o)
       ∙ ap (more ran) (sym next)
+
+-- R66: a tick in which a line ran, as a number
+pub counted_is : (w : Option ℕ) {b : Bool} {k : ℕ} → b ≡ is_some w → k ≡ bool_byte b → k ≡ counted w
+counted_is None e f = f ∙ ap bool_byte e
+counted_is (Some j) e f = f ∙ ap bool_byte e
+
+pub counted_small : (w : Option ℕ) → counted w ≤ 1
+counted_small None = omega arith
+counted_small (Some k) = omega arith

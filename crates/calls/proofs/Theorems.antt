@@ -17,7 +17,8 @@ use Rattle.table.specs.Admit.{admit_of}
 use Rattle.table.specs.Step.{step_of}
 use Rattle.table.specs.Leave.{leave_of}
 use Rattle.card.specs.Bytes.{Bytes}
-use Rattle.card.specs.Card.{Card, card_of}
+use Rattle.card.specs.declared.Card.{Card}
+use Rattle.card.specs.Card.{card_of}
 use Rattle.card.specs.Reading.{read_of}
 use Rattle.card.specs.Twin.{turned_of, twin_of}
 use Rattle.card.specs.Answers.{length_of, unless_waiting, filled}

@@ -6,7 +6,7 @@ use Rattle.table.specs.Words.{refusal, Said}
 use Rattle.table.specs.Ask.{ask_of}
 use Rattle.table.specs.Admit.{admit_of}
 use Rattle.table.specs.Step.{step_of}
-use Rattle.card.specs.Card.{Card}
+use Rattle.card.specs.declared.Card.{Card}
 use Rattle.card.specs.Reading.{read_of}
 use Rattle.card.specs.Twin.{turned_of}
 use Rattle.card.specs.Answers.{write_of, buffer_of}

@@ -3,7 +3,7 @@ use Rattle.std.specs.Prelude.{Ok, Err, ℕ, List, [], ◌∷◌, ◌++◌}
 use Rattle.table.specs.declared.Table.{Table}
 use Rattle.table.specs.declared.Request.{Request}
 use Rattle.table.specs.Words.{Said}
-use Rattle.card.specs.Card.{Card}
+use Rattle.card.specs.declared.Card.{Card}
 use Rattle.card.specs.Answers.{write_of, buffer_of}
 use Rattle.image.specs.Answers.{store_of, stored_in}
 use Rattle.calls.specs.Tables.{changed}

@@ -28,10 +28,7 @@ pub fn rewrite(card: &[u8], out: &mut [u8]) -> Returned
     ensures { (result ≡ rewrite_as card.now (length out.old)) × (out.new ≡ rewritten_of card.now out.old) }
 {
     match reader::card(card) {
-        Ok(read) => {
-            let c = read.card;
-            crate::written(u64::from(read.turned), writer::write(c.table, c.request, out))
-        }
+        Ok(read) => crate::written(u64::from(read.turned), writer::write(&read.card, out)),
         Err(x) => Returned::from(x),
     }
 }
@@ -44,7 +41,7 @@ fn run_table(start: Table, ticks: u16) -> Result<u64, Refusal>
     let mut ran = 0;
     for _ in 0..ticks {
         let s = driver::driven(t);
-        ran += u64::from(s.outcome?.is_some());
+        ran += u64::from(s.answer?.is_some());
         t = s.table;
     }
     Ok(ran)

@@ -2,7 +2,7 @@
 // in what is lent. `house` exports the calls.
 #![tactic(auto)]
 
-ghost use Rattle.std.specs.Prelude.{Option, ◌≡◌, ◌++◌};
+ghost use Rattle.std.specs.Prelude.{Option, ◌≡◌, ◌+◌, ◌++◌, length};
 ghost use Rattle.table.specs.Words.{slot_number};
 ghost use Rattle.calls.specs.Results.{granted_as, result_at};
 
@@ -83,10 +83,12 @@ pub fn written(place: u64, said: Result<usize, Refusal>) -> Returned
     Returned::at(place, said.map(|n| n as u64))
 }
 
-// R92, R98: sixteen numbers, one for each slot, and the two that follow them.
-fn fill<T: Copy>(out: &mut [T; 18], slots: &[T; 16], rest: &[T; 2])
+// R92, R98: numbers, one for each slot, and those that follow them.
+fn fill<T: Copy>(out: &mut [T], slots: &[T], rest: &[T])
+    requires { length out.old ≡ length slots.now + length rest.now }
     ensures { out.new ≡ slots.now ++ rest.now }
 {
-    out[..16].copy_from_slice(slots);
-    out[16..].copy_from_slice(rest);
+    let n = slots.len();
+    out[..n].copy_from_slice(slots);
+    out[n..].copy_from_slice(rest);
 }

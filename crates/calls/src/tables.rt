@@ -1,18 +1,21 @@
 // A table asked, admitted to, stepped, left and shown. What is lent is the image that the table was loaded from.
 ghost use Rattle.std.specs.Prelude.{Ok, ◌≡◌};
-ghost use Rattle.table.specs.Words.{Said};
 ghost use Rattle.table.specs.Ask.{ask_of};
+ghost use Rattle.image.specs.Answers.{stored_in};
 ghost use Rattle.calls.specs.Results.{granted_as};
-ghost use Rattle.calls.specs.Tables.{asked_as, admitted_in, stepped_as, stepped_in, left_as, left_in, ReadyFor, all_counts};
+ghost use Rattle.calls.specs.Tables.{changed, asked_as, admitted_in, stepped_as, stepped_in, left_as, left_in, ReadyFor, all_counts};
 
 use crate::{Returned, slot_number};
-use table::{Refusal, Request, Table};
+use table::{Acted, Refusal, Request, Table};
 
 // R86: the start and the new line's slot, or the refusal.
 fn asked(t: Table, a: Result<u64, Refusal>) -> Returned
     ensures { result ≡ asked_as t a }
 {
-    Returned::at(slot_number(t.lowest(|_, s| s.is_empty())), a)
+    match a {
+        Ok(start) => Returned::granted(slot_number(t.lowest(|_, s| s.is_empty())), start),
+        Err(x) => Returned::from(x),
+    }
 }
 
 // R86: asks a table, and changes nothing.
@@ -22,37 +25,36 @@ pub fn ask(t: Table, q: Request) -> Returned
     asked(t, ask::ask(t, q))
 }
 
+// R17: the answer of an act; its table goes into the lent image where it is granted, and a refusal leaves the image as it is.
+fn kept<A: Copy>(act: Acted<A>, out: &mut [u8]) -> Result<A, Refusal>
+    ensures { (result ≡ act.answer) × (out.new ≡ changed act.answer (stored_in act.table out.old) out.old) }
+{
+    if act.answer.is_ok() {
+        // R84: a buffer that is too short is left alone; the one that the table was loaded from is not.
+        let _ = image::store(act.table, out);
+    }
+    act.answer
+}
+
 // R87: admits into the lent image, which a refusal leaves as it is.
 pub fn admit(t: Table, q: Request, out: &mut [u8]) -> Returned
     ensures { (result ≡ asked_as t (ask_of t q)) × (out.new ≡ admitted_in t q out.old) }
 {
-    let admitted = admit::admit(t, q);
-    if admitted.answer.is_ok() {
-        image::store(admitted.table, out);
-    }
-    asked(t, admitted.answer)
+    asked(t, kept(admit::admit(t, q), out))
 }
 
 // R88: steps into the lent image, which a refusal leaves as it is.
 pub fn step(t: Table, out: &mut [u8]) -> Returned
     ensures { (result ≡ stepped_as t) × (out.new ≡ stepped_in t out.old) }
 {
-    let stepped = driver::driven(t);
-    if stepped.outcome.is_ok() {
-        image::store(stepped.table, out);
-    }
-    Returned::at(0, stepped.outcome.map(slot_number))
+    Returned::at(0, kept(driver::driven(t), out).map(slot_number))
 }
 
 // R102: lets a line go in the lent image, which a refusal leaves as it is.
 pub fn leave(t: Table, number: u64, out: &mut [u8]) -> Returned
     ensures { (result ≡ left_as t number) × (out.new ≡ left_in t number out.old) }
 {
-    let left = t.leave(number);
-    if left.leaving.is_ok() {
-        image::store(left.table, out);
-    }
-    Returned::at(0, left.leaving.map(u64::from))
+    Returned::at(0, kept(t.leave(number), out).map(u64::from))
 }
 
 // R89: the ready word of a table.

@@ -7,6 +7,7 @@ ghost use Rattle.calls.specs.Tables.{request_of};
 ghost use Rattle.calls.specs.Moves.{write_card_for, card_after, read_card_for, image_after, numbers_after};
 
 use calls::Returned;
+use card::Card;
 use table::Request;
 
 // R91: the image is read and the card of its table and a request written; a refusal leaves every byte of the lent buffer.
@@ -22,8 +23,8 @@ pub extern "C" fn trimthuel_write_card(
 {
     match image::try_load(table) {
         Ok(t) => {
-            let q = Request::new(*stretched, need, period);
-            calls::written(0, writer::write(t, q, card))
+            let request = Request::new(*stretched, need, period);
+            calls::written(0, writer::write(&Card { table: t, request }, card))
         }
         Err(x) => Returned::from(x),
     }

@@ -25,7 +25,8 @@ use Rattle.theory.proofs.Unique.{answers_unique}
 use Rattle.ask.proofs.Right.{asked_unique}
 use Rattle.admit.proofs.Right.{admits_unique}
 use Rattle.card.specs.declared.ReadCard.{ReadCard}
-use Rattle.card.specs.Card.{Card, card_of}
+use Rattle.card.specs.declared.Card.{Card}
+use Rattle.card.specs.Card.{card_of}
 use Rattle.card.specs.Reading.{read_of}
 use Rattle.card.specs.Twin.{turned_of}
 use Rattle.card.specs.Answers.{handed, said_read, write_of, filled}

@@ -24,7 +24,8 @@ use Rattle.table.specs.Faults.{closed_start, floor_start, QuietAtEnds}
 use Rattle.table.proofs.Faults.{closed_formula_b, floor_d, only_ends_m}
 use Rattle.card.specs.declared.ReadCard.{ReadCard}
 use Rattle.card.specs.Bytes.{marked}
-use Rattle.card.specs.Card.{Card, card_of, carrying}
+use Rattle.card.specs.declared.Card.{Card}
+use Rattle.card.specs.Card.{card_of, carrying}
 use Rattle.card.specs.Reading.{record_of, records_of, read_with, read_of}
 use Rattle.card.specs.Twin.{turned_of}
 use Rattle.card.specs.Answers.{handed, length_of, buffer_of}

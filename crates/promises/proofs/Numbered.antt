@@ -24,7 +24,8 @@ use Rattle.line.specs.Tick.{short}
 use Rattle.line.specs.Leave.{may_leave, ticks_left}
 use Rattle.theory.proofs.Answers.{ask_answers}
 use Rattle.card.proofs.Grounds.{Refuses, read_refuses}
-use Rattle.card.specs.Card.{Card, card_of}
+use Rattle.card.specs.declared.Card.{Card}
+use Rattle.card.specs.Card.{card_of}
 use Rattle.card.specs.Reading.{read_with, read_of}
 use Rattle.card.specs.Answers.{length_of, unless_waiting, write_of}
 use Rattle.image.specs.Image.{size}

@@ -10,7 +10,8 @@ use Rattle.line.specs.Demand.{new_demand, Least}
 use Rattle.table.specs.Grounds.{asked, Row, grounds, FirstOf}
 use Rattle.ask.specs.Asked.{Asked}
 use Rattle.card.specs.Bytes.{Bytes}
-use Rattle.card.specs.Card.{Card, carrying, cleared, Fits}
+use Rattle.card.specs.declared.Card.{Card}
+use Rattle.card.specs.Card.{carrying, cleared, Fits}
 use Rattle.card.specs.Marked.{Records}
 use Rattle.card.specs.Reading.{records_with, read_of}
 use Rattle.card.specs.Twin.{is_old, turned_of, twin_of}

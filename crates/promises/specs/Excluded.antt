@@ -15,7 +15,7 @@ use Rattle.table.specs.Grounds.{asked, Answers}
 use Rattle.table.specs.Step.{step_of}
 use Rattle.table.specs.Leave.{leave_of}
 use Rattle.card.specs.declared.ReadCard.{ReadCard}
-use Rattle.card.specs.Card.{Card}
+use Rattle.card.specs.declared.Card.{Card}
 use Rattle.card.specs.Reading.{read_of}
 use Rattle.card.specs.Twin.{turned_of}
 use Rattle.card.specs.Answers.{handed, buffer_of}

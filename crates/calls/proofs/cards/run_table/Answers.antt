@@ -1,27 +1,22 @@
-use mathlib.Core.Path.{ap, ◌∙◌}
-use Rattle.calls.specs.Results.{result_of}
-use Rattle.calls.proofs.Run.{run_start, run_on, run_stop, run_end}
-use borrow.Author.Rules.{rules}
+use Rattle.std.specs.Prelude.{Err}
+use Rattle.std.proofs.Common.{rules}
+use mathlib.Core.Path.{◌≡◌, ◌∙◌}
+use native.Mathlib.Omega.{arith}
+use Rattle.calls.specs.Cards.{counted}
+use Rattle.calls.proofs.Run.{run_on, run_stop, run_end, counted_is, counted_small}
 use Rattle.calls.proofs.cards.run_table.Goals as goal
 
-pub loop-i-init : goal.loop-i-init
-loop-i-init c = (search rules, search rules, run_start c.args.ticks c.args.start)
+pub returns-in_err-s : goal.returns-in_err-s
+returns-in_err-s c =
+    let e : c.from_residual.result ≡ Err c.in_err-s.field-0.0 = search rules in
+    e ∙ run_stop c.args.ticks c.loop.counter c.loop.ran c.loop.t c.loop-test.true c.driven-s.ensures _ c.in_err-s.was ∙ c.loop.invariant.1
 
-pub returns-in-Err : goal.returns-in-Err
-returns-in-Err c =
-    c.refused.ensures
-    ∙ ap result_of (run_stop c.args.ticks c.loop-i.i c.loop-i.ran c.loop-i.t c.loop-i-test.true c.driven-s.ensures _ c.in-Err.is
-    ∙ c.loop-i.invariant.2)
-
-pub loop-i-preserved : goal.loop-i-preserved
-loop-i-preserved c =
-    let n = c.count_of-ran in (
-      search rules,
-      search rules,
-      run_on c.args.ticks c.loop-i.i c.loop-i.ran c.loop-i.t c.loop-i-test.true c.driven-s.ensures _ c.in-Ok.is n.result n.ensures.0
-          ∙ c.loop-i.invariant.2,
+pub loop-preserved : goal.loop-preserved
+loop-preserved c =
+    let k : c.from.result ≡ counted c.in_ok-s.field-0 = counted_is _ c.is_some.ensures c.from.ensures in (
+      omega (arith, c.loop.invariant.0, k, counted_small c.in_ok-s.field-0),
+      run_on c.args.ticks c.loop.counter c.loop.ran c.loop.t c.loop-test.true c.driven-s.ensures _ c.in_ok-s.was _ k ∙ c.loop.invariant.1,
     )
 
 pub returns : goal.returns
-returns c =
-    c.granted.ensures ∙ ap result_of (run_end c.args.ticks c.loop-i.i c.loop-i.ran c.loop-i.t c.loop-i-test.false ∙ c.loop-i.invariant.2)
+returns c = run_end c.args.ticks c.loop.counter c.loop.ran c.loop.t c.loop-test.false ∙ c.loop.invariant.1

@@ -1,11 +1,7 @@
--- Each tick moves from what is left to what was counted; the measure is the ticks that are left.
-use Prim.Native.Nat.{◌-◌, ◌≤◌}
-use mathlib.Core.Path.{◌≡◌}
+-- `run_table` meets its contract: what was counted, and what the ticks that are left say, make what all ticks say.
+use Rattle.std.proofs.Common.{◌≡◌, ◌-◌, ◌≤◌}
 use Rattle.calls.specs.Cards.{more, ticks_run}
 use Rattle.calls.proofs.cards.run_table.Given as goal
 
-abbrev pub invariant-loop-i : goal.invariant-loop-i
-invariant-loop-i l = (l.i ≤ l.ticks) × (l.ran ≤ l.i) × (more l.ran (ticks_run (l.ticks - l.i) l.t) ≡ ticks_run l.ticks l.initial.t)
-
-abbrev pub decreases-loop-i : goal.decreases-loop-i
-decreases-loop-i l = l.ticks - l.i
+abbrev pub invariant-loop : goal.invariant-loop
+invariant-loop l = (l.ran ≤ l.counter) × (more l.ran (ticks_run (l.fn.ticks - l.counter) l.t) ≡ ticks_run l.fn.ticks l.fn.start)

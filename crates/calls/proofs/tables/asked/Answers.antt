@@ -1,8 +1,9 @@
 -- A start has the lowest empty slot beside it.
-use Rattle.table.specs.Words.{Said}
-use mathlib.Core.Path.{sym, ap, ◌∙◌}
+use Rattle.std.proofs.Common.{rules}
 use Prim.Native.Nat.{ℕ}
-use Rattle.table.specs.Words.{slot_number}
+use mathlib.Core.Path.{◌≡◌, sym, ap, ◌∙◌}
+use Rattle.line.specs.Slots.{is_nothing, lowest_of}
+use Rattle.table.specs.Words.{Said, slot_number}
 use Rattle.calls.specs.Results.{granted_as}
 use Rattle.calls.specs.Tables.{asked_as}
 use Rattle.calls.proofs.tables.asked.Goals as goal
@@ -10,8 +11,6 @@ use Rattle.calls.proofs.tables.asked.Goals as goal
 pub returns-in-Ok : goal.returns-in-Ok
 returns-in-Ok c =
     let t = c.args.t in
-    c.granted.ensures ∙ ap (λ (k : ℕ). granted_as k c.in-Ok.start) (c.slot_number.ensures ∙ ap slot_number c.lowest.ensures)
+    let e : c.lowest.result ≡ lowest_of is_nothing t.slots = c.lowest.ensures (λ i. is_nothing) (λ i b h k. search rules) in
+    c.granted.ensures ∙ ap (λ (k : ℕ). granted_as k c.in-Ok.start) (c.slot_number.ensures ∙ ap slot_number e)
     ∙ ap (λ (a : Said ℕ). asked_as t a) (sym c.in-Ok.is)
-
-pub returns-in-Err : goal.returns-in-Err
-returns-in-Err c = c.refused.ensures ∙ ap (λ (a : Said ℕ). asked_as c.args.t a) (sym c.in-Err.is)

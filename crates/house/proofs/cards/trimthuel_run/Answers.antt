@@ -1,7 +1,7 @@
 -- What was read is admitted and run; a card that is refused is not.
 use mathlib.Core.Path.{sym, ap, ◌∙◌}
 use Rattle.table.specs.Words.{Said}
-use Rattle.card.specs.Card.{Card}
+use Rattle.card.specs.declared.Card.{Card}
 use Rattle.calls.specs.Results.{result_of}
 use Rattle.calls.specs.Cards.{run_for}
 use Rattle.calls.proofs.Said.{was_read, was_refused}

@@ -2,7 +2,7 @@
 use mathlib.Core.Path.{sym, ap, ◌∙◌}
 use lib.ListN.{length}
 use Rattle.table.specs.Words.{Said}
-use Rattle.card.specs.Card.{Card}
+use Rattle.card.specs.declared.Card.{Card}
 use Rattle.calls.specs.Results.{result_of}
 use Rattle.calls.specs.Moves.{read_card_for, image_after, numbers_after}
 use Rattle.calls.proofs.Said.{was_read, was_refused}
