@@ -12,14 +12,12 @@ mod moves; // a table to a card and back
 mod tables; // operations on images
 
 // R90: a number that has more bits than a refusal's is no refusal's.
+#[tactic(auto, unfolding(board::specs::Board::blinks))]
 #[unsafe(no_mangle)]
 pub extern "C" fn trimthuel_lamp(number: u64) -> u8
     ensures { result ≡ blinks number }
 {
-    if number > 65535 {
-        return 0;
-    }
-    board::lamp(number as u16)
+    u16::try_from(number).map_or(0, board::lamp)
 }
 
 // R93: the version of the boundary.
