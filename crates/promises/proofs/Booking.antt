@@ -24,7 +24,8 @@ use Rattle.table.specs.declared.Table.{Table}
 use Rattle.table.specs.declared.Request.{Request}
 use Rattle.table.specs.declared.Acted.{Acted}
 use Rattle.table.specs.Words.{empty_table}
-use Rattle.table.specs.Counts.{Inside, had_by, sum, accounted, counting, settle}
+use Rattle.std.specs.List.{sum}
+use Rattle.table.specs.Counts.{Inside, had_by, accounted, counting, settle}
 use Rattle.table.specs.Grounds.{entry, asked}
 use Rattle.table.specs.Ask.{ask_of}
 use Rattle.table.specs.Admit.{new_line, put_at, admitted_at, admit_with}

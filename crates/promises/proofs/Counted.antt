@@ -26,7 +26,6 @@ use Rattle.table.specs.Step.{choose, serve, departs_in, ticked}
 use Rattle.table.specs.Runs.{Act, asking, admitting, stepping, leaving, after, run, ran_in, ran_by, trace, names, is_slot, times, is_idle, idles, placed_by, places, anew, since_from}
 use Rattle.table.proofs.Counts.{idle_after_lem, settling_idle}
 use Rattle.table.proofs.LettingGo.{left_is}
-use Rattle.table.proofs.Step.{slot_of_which}
 use Rattle.theory.proofs.Numbers.{split}
 use Rattle.theory.proofs.Granted.{says_start, granted}
 use Rattle.theory.proofs.Trace.{at_pass}
@@ -69,7 +68,7 @@ act_had stepping t k g h =
     split (2 ^ 48) t.clock
     (λ l. subst (λ (s : Acted (Option ℕ)). is_nothing (at s.table.slots k) ≡ false → had_by s.table k ≡ had_by t k + times k (ran_in s.answer)) (sym (at_last t l)) (λ f. omega arith))
     (λ l. let o = choose t in
-    let e : times k (ran_in (ticked o t).answer) ≡ is_slot k o + 0 = ap (λ (p : Option ℕ). is_slot k p + 0) (slot_of_which o) in
+    let e : times k (ran_in (ticked o t).answer) ≡ is_slot k o + 0 = refl in
     subst (λ (s : Acted (Option ℕ)). is_nothing (at s.table.slots k) ≡ false → had_by s.table k ≡ had_by t k + times k (ran_in s.answer)) (sym (step_table t g l))
     (λ f. omega (arith, tick_had o t k h (stayed o t.slots k f), e)))
 act_had (leaving n) t k g h =
@@ -153,7 +152,7 @@ act_idle stepping t g =
     split (2 ^ 48) t.clock
     (λ l. subst (λ (s : Acted (Option ℕ)). s.table.idle ≡ t.idle + idles (ran_in s.answer)) (sym (at_last t l)) (omega arith))
     (λ l. let o = choose t in
-    let e : idles (ran_in (ticked o t).answer) ≡ is_idle o + 0 = ap (λ (p : Option ℕ). is_idle p + 0) (slot_of_which o) in
+    let e : idles (ran_in (ticked o t).answer) ≡ is_idle o + 0 = refl in
     subst (λ (s : Acted (Option ℕ)). s.table.idle ≡ t.idle + idles (ran_in s.answer)) (sym (step_table t g l)) (omega (arith, settling_idle (departs_in o t.slots) (length t.slots) (counting o t), idle_after_lem o t.idle, e)))
 act_idle (leaving n) t g = left_is (λ u. u.idle ≡ t.idle + 0) t n (omega arith) (λ f m. go (is_nothing (let_go (at t.slots n))))
   where

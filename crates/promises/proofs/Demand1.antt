@@ -30,7 +30,7 @@ use Rattle.card.specs.Card.{card_of}
 use Rattle.card.specs.Reading.{read_of}
 use Rattle.card.specs.Twin.{turned_of}
 use Rattle.card.specs.Answers.{handed, said_read, write_of, filled}
-use Rattle.card.proofs.Answers.{said_handed, one_reading, one_writing, one_written}
+use Rattle.card.proofs.Answers.{said_handed, one_reading, one_writing}
 use Rattle.driver.proofs.Keeps.{refused_drive_keeps, drive_determined}
 use Rattle.reply.specs.Line.{answer_line, laid, fits}
 use Rattle.reply.proofs.Line.{reply_settled, put_reply_settled}
@@ -81,7 +81,7 @@ fixed_answer = record {
   rewrite_card = λ card l. by_equations _ _;
   run_card = λ card ticks. by_equation _;
   load = λ l. by_equation _;
-  store = λ t l x y m n p q. (one_written x y (p.0 ∙ sym q.0), p.1 ∙ sym q.1);
+  store = λ t l x y m n p q. (p.0 ∙ sym q.0, p.1 ∙ sym q.1);
   empty_image = λ l. by_equations _ _;
   ask_image = λ l q. by_equation _;
   admit_image = λ l q. by_equations _ _;
@@ -198,7 +198,7 @@ refusal_keeps = record {
   read = λ card c x h e.
       let f : read_of card ≡ Err x = sym (said_handed (turned_of card) (read_of card)) ∙ ap said_read (sym h) ∙ e in
       let g : c ≡ handed 0 (Err x) = h ∙ ap (handed (turned_of card)) f in
-      (f, ap (λ (y : ReadCard). y.table) g, ap (λ (y : ReadCard). y.request) g, ap (λ (y : ReadCard). y.turned) g);
+      (f, ap (λ (y : ReadCard). y.card.table) g, ap (λ (y : ReadCard). y.card.request) g, ap (λ (y : ReadCard). y.turned) g);
   write = λ t q l a m x h e. h.1 ∙ ap (filled (card_of t q) l) (sym h.0 ∙ e);
   put_reply = λ a l w m h e. h.1 ∙ put_kept (fits (answer_line a) l) (answer_line a) l (sym h.0 ∙ e);
   load = λ l y x h e.

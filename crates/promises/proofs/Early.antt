@@ -25,7 +25,6 @@ use Rattle.table.specs.Ask.{ask_of}
 use Rattle.table.specs.Admit.{admitted_at}
 use Rattle.table.specs.Step.{choose, serve, ticked, advance, step_of}
 use Rattle.table.proofs.Counts.{booked_within, put_within}
-use Rattle.table.proofs.Step.{slot_of_which}
 use Rattle.line.specs.Tick.{short}
 use Rattle.theory.specs.Fine.{May, Kept}
 use Rattle.theory.specs.Given.{Granted}
@@ -76,7 +75,7 @@ runs_short (suc n) last t s within b l x = go (lowest_of short (serve o t.slots)
     }
       where
         goes : (m : ℕ) → m < suc w.steps → (p : Option ℕ) × ((step_of (stepped m t)).answer ≡ Ok p)
-        goes zero h = (o, ap (λ (s : Acted (Option ℕ)). s.answer) e ∙ ap Ok (slot_of_which o))
+        goes zero h = (o, ap (λ (s : Acted (Option ℕ)). s.answer) e)
         goes (suc m) h =
             subst (λ (s : Acted (Option ℕ)). (p : Option ℕ) × ((step_of (stepped m s.table)).answer ≡ Ok p)) (sym e) (w.goes m (omega arith))
 

@@ -142,10 +142,10 @@ pub no_reader_gives_one_request : (f : List ℕ → ReadCard) → MeetsRead f �
 no_reader_gives_one_request f m r =
     let a : List ℕ = card_of case_a.table case_a.request in
     let b : List ℕ = card_of case_c.table case_c.request in
-    let need : ℕ → Said Card → ℕ = λ w s. (handed w s).request.need in
-    let x : (f a).request.need ≡ 1 = ap (λ (c : ReadCard). c.request.need) (m a) ∙ ap (need (turned_of a)) reads_a in
-    let y : (f b).request.need ≡ 3 = ap (λ (c : ReadCard). c.request.need) (m b) ∙ ap (need (turned_of b)) reads_c in
-    let z : (f a).request.need ≡ (f b).request.need = ap (λ (q : Request). q.need) (r a b _ _ reads_a reads_c) in
+    let need : ℕ → Said Card → ℕ = λ w s. (handed w s).card.request.need in
+    let x : (f a).card.request.need ≡ 1 = ap (λ (c : ReadCard). c.card.request.need) (m a) ∙ ap (need (turned_of a)) reads_a in
+    let y : (f b).card.request.need ≡ 3 = ap (λ (c : ReadCard). c.card.request.need) (m b) ∙ ap (need (turned_of b)) reads_c in
+    let z : (f a).card.request.need ≡ (f b).card.request.need = ap (λ (q : Request). q.need) (r a b _ _ reads_a reads_c) in
     omega arith
 
 -- the card of an empty table fits sixteen bytes, and its first is not 0

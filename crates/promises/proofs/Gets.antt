@@ -15,7 +15,7 @@ use Rattle.line.specs.Tick.{Owed, passed}
 use Rattle.table.specs.Admit.{new_line}
 use Rattle.table.specs.Step.{choose, serve, pass, ticked, step_of}
 use Rattle.table.specs.Runs.{Act, asking, admitting, stepping, leaving, after, run, ran_in, trace, is_slot, times}
-use Rattle.table.proofs.Step.{length_serve, slot_of_which}
+use Rattle.table.proofs.Step.{length_serve}
 use Rattle.theory.specs.Fine.{Kept}
 use Rattle.theory.proofs.Numbers.{split}
 use Rattle.theory.proofs.Pump.{never_short}
@@ -36,7 +36,7 @@ pub by_tick : (Q : Table → List (Option ℕ) → Type 0) (rest : List Act) (t 
     → Q (step_of t).table (trace (stepping ∷ rest) t)
 by_tick Q rest t g h q =
     subst (λ (s : Acted (Option ℕ)). Q s.table (ran_in s.answer ++ trace rest s.table)) (sym (step_table t g h))
-    (subst (λ (o : Option ℕ). Q (ticked (choose t) t).table (o ∷ trace rest (ticked (choose t) t).table)) (sym (slot_of_which (choose t))) q)
+    q
 
 -- what holds of the table and the rest of the run holds after a step at the last tick, which changes nothing
 pub by_last : (Q : Table → List (Option ℕ) → Type 0) (rest : List Act) (t : Table) → 2 ^ 48 ≤ t.clock

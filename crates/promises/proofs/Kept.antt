@@ -24,7 +24,6 @@ use Rattle.line.specs.Leave.{let_go, let_go_slot}
 use Rattle.line.proofs.Sound.{not_barred}
 use Rattle.table.specs.Counts.{settle}
 use Rattle.table.proofs.LettingGo.{may_inside, left_is}
-use Rattle.table.proofs.Step.{slot_of_which}
 use Rattle.table.specs.Ask.{ask_of}
 use Rattle.table.specs.Admit.{new_line, put_at, admitted_at, admit_with}
 use Rattle.line.specs.Tick.{served}
@@ -190,7 +189,7 @@ step_table t g h = fine_step t g.fine g.within h
 
 -- and says whom it chose
 pub says_choice : (t : Table) → Good t → t.clock < 2 ^ 48 → (step_of t).answer ≡ Ok (choose t)
-says_choice t g h = ap (λ (s : Acted (Option ℕ)). s.answer) (step_table t g h) ∙ ap Ok (slot_of_which (choose t))
+says_choice t g h = ap (λ (s : Acted (Option ℕ)). s.answer) (step_table t g h)
 
 -- at the last tick it says 15
 pub says_last : (t : Table) → 2 ^ 48 ≤ t.clock → (step_of t).answer ≡ Err (refusal 15 0)

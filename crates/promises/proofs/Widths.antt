@@ -24,14 +24,16 @@ use Rattle.line.specs.Stretch.{stretch, stretched}
 use Rattle.line.specs.Tick.{served, passed, served_slot, short}
 use Rattle.line.specs.Leave.{let_go, let_go_slot}
 use Rattle.table.specs.Words.{no_slot, slot_number}
-use Rattle.table.specs.Counts.{Inside, sum, accounted, fault, counting, last_without, settle}
+use Rattle.std.specs.List.{sum}
+use Rattle.std.proofs.lemmas.List.Sums.{sum_by-cons}
+use Rattle.table.specs.Counts.{Inside, accounted, fault, counting, last_without, settle}
 use Rattle.table.specs.Grounds.{entry, asked}
 use Rattle.table.specs.Ask.{ask_of}
 use Rattle.table.specs.Admit.{new_line, put_at, admit_with}
 use Rattle.table.specs.Step.{choose, serve, pass, departs_in, ticked, advance, step_of}
 use Rattle.table.specs.Runs.{Act, asking, admitting, stepping, leaving, after}
 use Rattle.table.proofs.Choice.{choose_inside}
-use Rattle.table.proofs.Counts.{count_within, faultless, settling_keeps, booked_within}
+use Rattle.table.proofs.Counts.{sum_settle, faultless, settling_keeps, booked_within}
 use Rattle.table.proofs.LettingGo.{may_inside, left_is}
 use Rattle.image.specs.Image.{Narrow, AllNarrow, InEight, TableWidths}
 use Rattle.theory.proofs.Numbers.{split}
@@ -99,7 +101,7 @@ narrow_pass (s ∷ l) n = (narrow_passed s.held n.0, narrow_pass l n.1)
 -- R95: counts that add up to a number of 64 bits have no more
 pub wide_within : (l : List ℕ) → sum l < 2 ^ 64 → All InEight l
 wide_within [] h = tt
-wide_within (n ∷ l) h = (omega arith, wide_within l (omega arith))
+wide_within (n ∷ l) h = let e = sum_by-cons (λ x. x) n l in (omega (arith, e), wide_within l (omega (arith, e)))
 
 -- R105: the number of a slot has eight bits, and so has that of none
 narrow_number : (o : Option ℕ) → Inside 16 o → slot_number o < 256
@@ -241,7 +243,7 @@ wide_settled : (t : Table) (n : ℕ) (b : Bool) → TableWidths 16 t → account
     × ((pick b (settle n t) t).last < 256)
 wide_settled t n false w a h = (w.counts, w.had, w.idle, w.departed, w.last)
 wide_settled t n true w a h =
-    (length-set t.had n 0 ∙ w.counts, wide_put (Some n) t.had w.had, w.idle, omega (arith, a, w.clock, count_within t.had n 0 h), narrow_last n t.last w.last)
+    (length-set t.had n 0 ∙ w.counts, wide_put (Some n) t.had w.had, w.idle, omega (arith, a, w.clock, sum_settle t.had n), narrow_last n t.last w.last)
 
 -- R100: a leave keeps the code's widths, granted or not
 pub wide_leave : (t : Table) (n : ℕ) → TableWidths 16 t → TableWidths 16 (after (leaving n) t)

@@ -84,7 +84,7 @@ pub record RefusalKeeps : Type 0 where
   pub drive : (t : Table) (o : Said (Option ℕ)) (u : Table) (x : Refusal) → Drives t o u → o ≡ Err x → u ≡ t
   -- the reader is lent nothing to change: it hands out the empty table, zeros and no slot, with the refusal
   pub read : (card : List ℕ) (c : ReadCard) (x : Refusal) → Reads card c → said_read c ≡ Err x
-      → (read_of card ≡ Err x) × (c.table ≡ empty_table) × (c.request ≡ zero_request) × (c.turned ≡ 0)
+      → (read_of card ≡ Err x) × (c.card.table ≡ empty_table) × (c.card.request ≡ zero_request) × (c.turned ≡ 0)
   pub write : (t : Table) (q : Request) (l : List ℕ) (a : Said ℕ) (m : List ℕ) (x : Refusal) → Writes t q l a m → a ≡ Err x → m ≡ l
   pub put_reply : (a : Said ℕ) (l : List ℕ) (w : Option ℕ) (m : List ℕ) → Puts a l w m → w ≡ None → m ≡ l
   -- loading is lent nothing to change either

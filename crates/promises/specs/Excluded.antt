@@ -95,7 +95,7 @@ DropsAtOnce f = (t : Table) (n k : ℕ) → (f t n).answer ≡ Ok k → at (f t 
 
 -- R56: it hands out one and the same request for all cards that read
 abbrev pub OneRequest : (List ℕ → ReadCard) → Type 0
-OneRequest f = (l m : List ℕ) (c d : Card) → read_of l ≡ Ok c → read_of m ≡ Ok d → (f l).request ≡ (f m).request
+OneRequest f = (l m : List ℕ) (c d : Card) → read_of l ≡ Ok c → read_of m ≡ Ok d → (f l).card.request ≡ (f m).card.request
 
 -- R59: it leaves every buffer as it was
 abbrev pub WritesNothing : (Table → Request → List ℕ → List ℕ) → Type 0
