@@ -1,10 +1,11 @@
 use mathlib.Core.Path.{◌∙◌}
+use native.Mathlib.Omega.{arith}
 use Rattle.table.proofs.Step.{tick_start, tick_short, tick_on, tick_off, tick_room, tick_end, advance_short, advance_fine}
 use Rattle.table.proofs.Table.advance.Goals as goal
 use Rattle.table.proofs.Table.advance.Goals.{then-departs, else-departs}
 
 pub loop-i-init : goal.loop-i-init
-loop-i-init c = tick_start _ c.well_formed.0.1.1.1.0.1.0.1 c.counting-next.ensures
+loop-i-init c = tick_start _ (omega arith) c.counting-next.ensures
 
 pub returns-then-short : goal.returns-then-short
 returns-then-short c =

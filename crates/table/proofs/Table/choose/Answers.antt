@@ -19,14 +19,12 @@ loop-i-init c = (
 
 pub returns-then-not-sound : goal.returns-then-not-sound
 returns-then-not-sound c =
-    let n : length c.args.self.slots ≡ 16 = c.well_formed.0.1.1.1.0.1.0.1 in
     look_stop c.loop-i.invariant.1 (omega arith) (search rules)
 
 pub loop-i-preserved : goal.loop-i-preserved
 loop-i-preserved c =
     let v = c.loop-i.invariant in
     let ss = c.args.self.slots in
-    let n : length c.args.self.slots ≡ 16 = c.well_formed.0.1.1.1.0.1.0.1 in
     let o = look_on v.1 (omega arith) (search rules) in
     elim c.if-key-least.branch [
       | then-key-least w ↦ rw (w.least-is, w.best-is) (choose_take ss c.loop-i.i c.loop-i.best c.loop-i.least c.key-key.ensures v.0 w.if-key-least.true, o, v.2)
@@ -37,7 +35,6 @@ pub returns : goal.returns
 returns c =
     let v = c.loop-i.invariant in
     let ss = c.args.self.slots in
-    let n : length ss ≡ 16 = c.well_formed.0.1.1.1.0.1.0.1 in
     let z : c.loop-i.i ≡ length ss = omega arith in
     let b = rw z at v.0 in (
       look_end v.1 (omega arith),

@@ -1,6 +1,4 @@
 -- `Table::counting` meets its contract: a count is at most what all add up to, and so has room for one more.
-use mathlib.Core.Path.{◌≡◌}
-use lib.ListN.{length}
 use native.Mathlib.Omega.{arith}
 use Rattle.std.proofs.lemmas.List.Sums.{get_or-le-sum_by}
 use Rattle.table.proofs.Counts.{named_inside}
@@ -8,5 +6,4 @@ use Rattle.table.proofs.Table.counting.Goals as goal
 
 pub overflow_add-next-in-Some : goal.overflow_add-next-in-Some
 overflow_add-next-in-Some c =
-    let n : length c.args.self.had ≡ 16 = c.well_formed.0.1.1.1.1.0.1.0.1 in
     omega (arith, get_or-le-sum_by (λ x. x) c.args.self.had c.in-Some.k 0 (omega (arith, named_inside c.in-Some.is c.requires.2)))

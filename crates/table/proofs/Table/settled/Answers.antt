@@ -1,11 +1,8 @@
 -- `Table::settled` meets its contract: what is accounted for has room in 64 bits, and so has a part of it.
-use mathlib.Core.Path.{◌≡◌}
-use lib.ListN.{length}
 use native.Mathlib.Omega.{arith}
 use Rattle.std.proofs.lemmas.List.Sums.{get_or-le-sum_by}
 use Rattle.table.proofs.Table.settled.Goals as goal
 
 pub overflow_add-next : goal.overflow_add-next
 overflow_add-next c =
-    let n : length c.args.self.had ≡ 16 = c.well_formed.0.1.1.1.1.0.1.0.1 in
     omega (arith, get_or-le-sum_by (λ x. x) c.args.self.had c.args.i 0 (omega (arith, c.requires)))
