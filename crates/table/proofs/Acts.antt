@@ -3,7 +3,6 @@ use Rattle.std.specs.Prelude.{Option, None, Some, Ok, Err}
 use Prim.Native.Nat.{ℕ}
 use mathlib.Core.Path.{◌≡◌, refl}
 use mathlib.Core.Bool.{Bool, true, false}
-use native.Mathlib.Omega.{arith}
 use Rattle.line.specs.Slots.{pick}
 use Rattle.table.specs.declared.Table.{Table}
 use Rattle.table.specs.declared.Refusal.{Refusal}
@@ -16,7 +15,7 @@ module _ {A : Type 0} (t : Table) (x : Refusal) where
   Keeps r = r.answer ≡ Err x → r.table ≡ t
 
   pub keeps_granted : (a : A) (r : Acted A) → r.answer ≡ Ok a → Keeps r
-  keeps_granted a r e f = let z : ◌≡◌ {A = ℕ} 0 1 = cc in absurd (omega arith)
+  keeps_granted a r e f = cc
 
   pub keeps_refused : (n k : ℕ) → Keeps (refused_act t n k)
   keeps_refused n k e = refl
