@@ -1,5 +1,5 @@
 // The step of the pump, R44 to R48: who gets the tick, the table a tick later, and the refusals 15, 4, 14.
-ghost use Rattle.std.specs.Prelude.{Some, Option, ◌≡◌, ◌^◌, ◌≤◌, ◌<◌};
+ghost use Rattle.std.specs.Prelude.{◌≡◌, ◌^◌, ◌≤◌, ◌<◌};
 ghost use Rattle.table.specs.Counts.{Inside, accounted};
 ghost use Rattle.table.specs.Turn.{Turns};
 ghost use Rattle.table.specs.Step.{served_at, advance, step_of};
