@@ -1,6 +1,6 @@
 -- Numbers of eight bytes (R81): at an offset, and four numbers of two bytes as one and back.
 use mathlib.Core.Path.{◌≡◌, refl, sym, ap, ap₂, ◌∙◌}
-use mathlib.Core.List.{List, ◌∷◌, ◌++◌}
+use mathlib.Core.List.{List, ◌++◌}
 use Prim.Native.Nat.{ℕ, zero, suc, ◌+◌, ◌*◌, ◌/◌, ◌%◌, ◌<◌}
 use native.Mathlib.Omega.{arith}
 use native.Mathlib.Nat.{add-zero}
@@ -8,14 +8,11 @@ use lib.ListN.{drop}
 use lib.Seq.{get_or-drop}
 use borrow.Author.Tests.{ne_eqb}
 use Rattle.line.specs.declared.Follows.{Follows}
-use Rattle.line.specs.declared.Run.{Run}
-use Rattle.line.specs.declared.Wait.{Wait}
-use Rattle.line.specs.declared.Held.{Held}
-use Rattle.line.specs.declared.Held.TheVariants.{Nothing, Running, Waiting}
+use Rattle.line.specs.declared.Held.TheVariants.{Running, Waiting}
 use Rattle.line.specs.Slots.{run_then, wait_with, holding, empty}
 use Rattle.card.specs.Bytes.{Bytes, le, value}
 use Rattle.card.proofs.Numbers.{value_lt, two_of}
-use Rattle.image.specs.Image.{run_kind, slot_bytes}
+use Rattle.image.specs.Image.{run_kind}
 use Rattle.image.specs.Loading.{byte, held_in}
 use Rattle.image.proofs.RunKinds.{run_in_lem}
 

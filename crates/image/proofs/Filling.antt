@@ -6,11 +6,10 @@ use mathlib.Core.Path.{◌≡◌, refl, sym, ap, ap₂, ◌∙◌}
 use mathlib.Core.List.{List, [], ◌∷◌, ◌++◌}
 use Prim.Native.Nat.{ℕ, zero, suc, ◌+◌, ◌*◌, ◌-◌, ◌≤◌, ◌<◌}
 use native.Mathlib.Omega.{arith}
-use native.Mathlib.Numerals.{add-one}
 use native.Mathlib.Nat.{mul-zero}
 use borrow.Rule.Slice.PartMut.{put_mid, same_len_mid}
-use lib.ListN.{length, take, drop, set, get_or, length-append, length-drop, length-set}
-use lib.Seq.{take_all, take-suc-set, length-take-le, take_at, drop_at, drop-drop, sets-eq}
+use lib.ListN.{length, take, drop, set, get_or, length-append, length-drop}
+use lib.Seq.{take_all, length-take-le, take_at, drop_at, drop-drop, sets-eq}
 use Rattle.table.specs.declared.Table.{Table}
 use Rattle.table.specs.declared.Refusal.{Refusal}
 use Rattle.table.specs.Words.{refusal}

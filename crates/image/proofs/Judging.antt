@@ -13,7 +13,7 @@ use native.Mathlib.Nat.{sub-zero}
 use lib.ListN.{length, take, drop, get_or, drop_of_length-le}
 use lib.Seq.{drop-drop}
 use lib.Dec.{eqb, leb, ltb}
-use borrow.Author.Tests.{ltb-true, eqb-true, not-true, not-false, eq-eqb, ne_eqb, le-leb, lt-leb, lt-ltb, le-ltb}
+use borrow.Author.Tests.{ltb-true, eqb-true, eq-eqb, ne_eqb, le-leb, lt-leb, lt-ltb, le-ltb}
 use Rattle.line.specs.declared.Follows.{Follows}
 use Rattle.line.specs.Slots.{or_else}
 use Rattle.line.proofs.Sound.{both_false}
@@ -25,7 +25,7 @@ use Rattle.image.proofs.RunKinds.{run_blank}
 use Rattle.image.proofs.Eight.{fourth}
 use Rattle.image.proofs.Series.{next_drop}
 use Rattle.image.proofs.WritesBack.{nothing_wrong}
-use Rattle.image.specs.Image.{version, size, run_kind}
+use Rattle.image.specs.Image.{size, run_kind}
 use Rattle.card.specs.Bytes.{Bytes, value}
 use Rattle.card.proofs.Parts.{part_all}
 use Rattle.image.specs.Loading.{byte, blank_from, is_wrong, slot_wrong, on_by, slots_wrong, version_wrong, length_wrong, wrong_in, table_in, unless_wrong, load_with}

@@ -4,7 +4,6 @@ ghost use Rattle.line.specs.Slots.{holding};
 ghost use Rattle.card.specs.Bytes.{le};
 ghost use Rattle.image.specs.Image.{slot_bytes};
 ghost use Rattle.image.specs.Loading.{held_in};
-
 ghost use Rattle.line.specs.declared.Held.TheVariants.{Nothing, Running, Waiting};
 ghost use Rattle.line.specs.declared.Slot.{Slot};
 
@@ -61,7 +60,7 @@ impl Piece for Slot {
             }
             Ok(SlotKind::Waiting) => Slot::holding(Held::waiting(first, second, third)),
             Ok(SlotKind::Nothing) => Slot::empty(),
-            Err(()) => Slot::empty(),
+            Err(()) => Slot::empty(), // R83 refuses it, and it is not read
         }
     }
 

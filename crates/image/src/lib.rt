@@ -21,10 +21,15 @@ const VERSION: u8 = 4;
 
 // R81: where an image's slots begin, and behind them the counts of the slots, the idle one, the departed one and the last slot; and how long it is.
 const SLOTS: usize = 9;
+
 const COUNTS: usize = SLOTS + 9 * 16;
+
 const IDLE: usize = COUNTS + 8 * 16;
+
 const DEPARTED: usize = IDLE + 8;
+
 const LAST: usize = DEPARTED + 8;
+
 const SIZE: usize = LAST + 1;
 
 // R84: what loading hands out. The table stands beside the answer, since R84 hands one out with a refusal too: the empty one.

@@ -30,12 +30,12 @@ pub(crate) fn pieces_in<T: Piece>(s: &[u8]) -> [T; 16]
     requires { T.WIDTH * 16 ≤ length s.now }
     ensures { result ≡ series_in T.WIDTH T.found 16 s.now }
 {
-    std::array::from_fn(|k|
-        requires { (k < 16) × (T.WIDTH * 16 ≤ length s.now) }
-        ensures { result ≡ T.found (drop (T.WIDTH * k) s.entry.now) }
-    {
-        T::get(&s[T::WIDTH * k..])
-    })
+    std::array::from_fn(
+        |k|
+            requires { (k < 16) × (T.WIDTH * 16 ≤ length s.now) }
+            ensures { result ≡ T.found (drop (T.WIDTH * k) s.entry.now) }
+        { T::get(&s[T::WIDTH * k..]) },
+    )
 }
 
 // R81: sixteen from the buffer's start on.

@@ -1,8 +1,3 @@
-use mathlib.Core.Path.{ap, ◌∙◌}
-use Prim.Native.Nat.{ℕ}
-use Rattle.std.specs.Bool.{then_some}
-use mathlib.Core.Bool.{not}
-use lib.Dec.{eqb}
 use Rattle.image.proofs.Judging.{length_tested}
 use Rattle.image.proofs.judge.length_wrong.Goals as goal
 
