@@ -9,7 +9,6 @@ use Rattle.line.specs.declared.Held.{Held}
 use Rattle.line.specs.declared.Slot.{Slot}
 use Rattle.table.specs.declared.Table.{Table}
 use Rattle.table.specs.declared.Request.{Request}
-use Rattle.table.specs.declared.Refusal.{Refusal}
 use Rattle.table.specs.declared.Acted.{Acted}
 use Rattle.line.proofs.Search.{lowest_below}
 use Rattle.line.specs.Slots.{at, holding, is_nothing, lowest_of}

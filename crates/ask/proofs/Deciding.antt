@@ -1,14 +1,12 @@
 -- Which case of `ask_of` holds, by the tests 1 to 6 that the code makes, and what they leave of the table and the request.
 use Rattle.std.specs.Prelude.{None, Some, Ok, Err, Option, is_some, is_none}
 use Rattle.table.specs.Words.{Said}
-use Prim.Native.Nat.{ℕ, ◌+◌, ◌-◌, ◌^◌, ◌≤◌, ◌<◌}
+use Prim.Native.Nat.{ℕ, ◌-◌, ◌^◌, ◌≤◌, ◌<◌}
 use mathlib.Core.Path.{◌≡◌, refl, sym, ◌∙◌}
 use mathlib.Core.Bool.{Bool, true, false, not}
-use native.Mathlib.Omega.{arith}
 use lib.Dec.{leb}
-use lib.ListN.{length, get_or}
-use borrow.Author.Tests.{lt-ltb, le-ltb, not-true, not-false}
-use Rattle.line.specs.declared.Slot.{Slot}
+use lib.ListN.{length}
+use borrow.Author.Tests.{lt-ltb, le-ltb, not-false}
 use Rattle.table.specs.declared.Table.{Table}
 use Rattle.table.specs.declared.Request.{Request}
 use Rattle.table.specs.declared.Refusal.{Refusal}
@@ -20,8 +18,7 @@ use Rattle.line.specs.Sound.{sound}
 use Rattle.table.specs.Grounds.{entry}
 use Rattle.line.specs.Stretch.{barred}
 use Rattle.table.specs.Ask.{refused_at, ask_of}
-use Rattle.line.proofs.Read.{seen}
-use Rattle.line.proofs.Search.{lowest_none, Looking, look_start, look_on, look_stop, look_end}
+use Rattle.line.proofs.Search.{lowest_none}
 use Rattle.ask.specs.Asked.{Within}
 use Rattle.ask.specs.Gathered.{AllAllowed, past_five, unless_found}
 
@@ -37,11 +34,11 @@ refused_within clock e = rw e tt
 -- one test that is passed finds no slot
 found_none : (o : Option ℕ) (n : ℕ) {u : Unit {0}} → Ok u ≡ unless_found o n → o ≡ None
 found_none None n e = refl
-found_none (Some k) n e = let z : ◌≡◌ {A = ℕ} 0 1 = cc in absurd (omega arith)
+found_none (Some k) n e = cc
 
 -- one test that is not passed is the answer
 found_some : (o : Option ℕ) (n : ℕ) {x : Refusal} (a : Said ℕ) → Err x ≡ unless_found o n → Err x ≡ refused_at o n a
-found_some None n a e = let z : ◌≡◌ {A = ℕ} 0 1 = cc in absurd (omega arith)
+found_some None n a e = cc
 found_some (Some k) n a e = cc
 
 -- what std says of a search that found nothing
@@ -88,8 +85,18 @@ module _ (t : Table) (q : Request) where
             unfolding ask_of
             ask_misfit e6 g6 =
                 rw (
-                  le-ltb (2 ^ 48 - 65536) t.clock h, ← e2, ← none_said w b f2, g2, ← e3, found_none v 3 g3, ← e4, found_none u 4 g4, ← e5,
-                  found_none s 5 g5, ← e6, g6,
+                  le-ltb (2 ^ 48 - 65536) t.clock h,
+                  ← e2,
+                  ← none_said w b f2,
+                  g2,
+                  ← e3,
+                  found_none v 3 g3,
+                  ← e4,
+                  found_none u 4 g4,
+                  ← e5,
+                  found_none s 5 g5,
+                  ← e6,
+                  g6,
                 )
 
             -- R18: past the first five grounds
@@ -97,7 +104,15 @@ module _ (t : Table) (q : Request) where
             unfolding ask_of past_five
             ask_past a =
                 rw (
-                  le-ltb (2 ^ 48 - 65536) t.clock h, ← e2, ← none_said w b f2, g2, ← e3, found_none v 3 g3, ← e4, found_none u 4 g4, ← e5,
+                  le-ltb (2 ^ 48 - 65536) t.clock h,
+                  ← e2,
+                  ← none_said w b f2,
+                  g2,
+                  ← e3,
+                  found_none v 3 g3,
+                  ← e4,
+                  found_none u 4 g4,
+                  ← e5,
                   found_none s 5 g5,
                 ) a
 

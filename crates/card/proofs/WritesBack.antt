@@ -176,7 +176,7 @@ records_back n l b m e = go (both (leb clock_length (length l)) (marked CK l)) r
             period = r.period;
           },
         )
-    go false h q = let z : ◌≡◌ {A = ℕ} 0 1 = cc in absurd (omega arith)
+    go false h q = cc
 
 -- a card that reads
 module _ (n : ℕ) (l : List ℕ) (b : Bytes l) (c : Card) (e : read_with n l ≡ Ok c) where
@@ -186,7 +186,7 @@ module _ (n : ℕ) (l : List ℕ) (b : Bytes l) (c : Card) (e : read_with n l �
     where
       go : (s : Said Records) → ((m : Records) → s ≡ Ok m → Back n l (card_for m) (turned_in (Ok m))) → meaning s ≡ Ok c → Back n l c (turned_in s)
       go (Ok m) h q = let p : card_for m ≡ c = cc in subst (λ (x : Card). Back n l x (turned_in (Ok m))) p (h m refl)
-      go (Err r) h q = let z : ◌≡◌ {A = ℕ} 0 1 = cc in absurd (omega arith)
+      go (Err r) h q = cc
 
   -- R72: its table and request are written as its twin
   pub writes_twin : card_of c.table c.request ≡ twin_with n l

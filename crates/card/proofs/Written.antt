@@ -4,7 +4,6 @@ use mathlib.Core.Path.{◌≡◌, sym, ap, ◌∙◌}
 use mathlib.Core.Bool.{Bool, true, false}
 use mathlib.Core.List.{List}
 use Prim.Native.Nat.{ℕ}
-use native.Mathlib.Omega.{arith}
 use lib.ListN.{length, take, drop}
 use lib.Seq.{take_at}
 use lib.Dec.{leb}
@@ -23,9 +22,9 @@ unfolding length_of
 length_written t q room n e = go (lowest_of is_waiting t.slots) (leb (length (card_of t q)) room) e
   where
     go : (o : Option ℕ) (b : Bool) → unless_waiting o (pick b (Ok (length (card_of t q))) (Err (refusal 13 0))) ≡ Ok n → n ≡ length (card_of t q)
-    go (Some k) b p = let z : ◌≡◌ {A = ℕ} 0 1 = cc in absurd (omega arith)
+    go (Some k) b p = cc
     go None true p = cc
-    go None false p = let z : ◌≡◌ {A = ℕ} 0 1 = cc in absurd (omega arith)
+    go None false p = cc
 
 -- R72: what stands in the buffer after writing reads back, but for the counts and who ran last
 pub written_reads : (n : ℕ) (t : Table) (q : Request) → Fits n t q → (l : List ℕ) (m : ℕ) → write_of t q (length l) ≡ Ok m

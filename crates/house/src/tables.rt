@@ -44,9 +44,7 @@ pub extern "C" fn trimthuel_admit(
     ensures { (result ≡ ask_for (load_of table.old) (request_of need period stretched.now)) × (table.new ≡ after_admit (load_of table.old) (request_of need period stretched.now) table.old) }
 {
     match image::try_load(table) {
-        Ok(t) => {
-            calls::tables::admit(t, Request::new(*stretched, need, period), table)
-        }
+        Ok(t) => { calls::tables::admit(t, Request::new(*stretched, need, period), table) }
         Err(x) => Returned::from(x),
     }
 }

@@ -63,10 +63,10 @@ zero_right l i e = rw (le-ltb 0 (byte l i) (omega arith), both_false (leb (blank
 -- the byte in front, as the code looks at it
 pub no_first : (l : List ℕ) → None ≡ slice_get l 0 → length l ≤ 0
 no_first [] e = omega arith
-no_first (x ∷ l) e = let z : ◌≡◌ {A = ℕ} 0 1 = cc in absurd (omega arith)
+no_first (x ∷ l) e = cc
 
 pub first_is : (l : List ℕ) {b : ℕ} → Some b ≡ slice_get l 0 → b ≡ byte l 0
-first_is [] e = let z : ◌≡◌ {A = ℕ} 0 1 = cc in absurd (omega arith)
+first_is [] e = cc
 first_is (x ∷ l) e = cc
 
 -- R83: where no byte is there, none is wrong

@@ -233,7 +233,7 @@ module _ (n : ℕ) (l : List ℕ) where
     where
       go : (o : Option ℕ) → Least (Wrong n l) o → unless_wrong o (table_in n l) ≡ Err x
           → (p : ℕ) × (x ≡ refusal 11 p) × Wrong n l p × ((q : ℕ) → Wrong n l q → p ≤ q)
-      go None v e = let z : ◌≡◌ {A = ℕ} 0 1 = cc in absurd (omega arith)
+      go None v e = cc
       go (Some p) v e = (p, cc, v.0, v.1)
 
   -- R83: and that offset is the one refused

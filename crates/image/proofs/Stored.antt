@@ -74,7 +74,7 @@ room_is room n e = go (leb 298 room) refl e
   where
     go : (b : Bool) → leb 298 room ≡ b → pick b (Ok 298) (Err (refusal 13 0)) ≡ Ok n → (298 ≤ room) × (n ≡ 298)
     go true h q = (leb-true 298 room h, cc)
-    go false h q = let z : ◌≡◌ {A = ℕ} 0 1 = cc in absurd (omega arith)
+    go false h q = cc
 
 module _ (t : Table) (l : List ℕ) where
   -- R84: the image at the start

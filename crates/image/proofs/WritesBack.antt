@@ -26,16 +26,16 @@ use Rattle.image.proofs.Series.{next_drop, length_found, series_stand}
 -- where a first and a second find none, neither finds one
 pub or_none : (o p : Option ℕ) → or_else o p ≡ None → (o ≡ None) × (p ≡ None)
 or_none None p e = (refl, e)
-or_none (Some k) p e = let z : ◌≡◌ {A = ℕ} 0 1 = cc in absurd (omega arith)
+or_none (Some k) p e = cc
 
 on_none : (k : ℕ) (o : Option ℕ) → on_by k o ≡ None → o ≡ None
 on_none k None e = refl
-on_none k (Some i) e = let z : ◌≡◌ {A = ℕ} 0 1 = cc in absurd (omega arith)
+on_none k (Some i) e = cc
 
 -- a ground that a failed test gives is not given where the test holds
 pub pick_none : (o : Bool) (k : ℕ) → pick o None (Some k) ≡ None → o ≡ true
 pick_none true k e = refl
-pick_none false k e = let z : ◌≡◌ {A = ℕ} 0 1 = cc in absurd (omega arith)
+pick_none false k e = cc
 
 -- R81: any nine bytes are a kind and four numbers
 nine_is : (l : List ℕ) → Bytes l → 9 ≤ length l
@@ -136,7 +136,7 @@ loads_says n l t e = go (wrong_in n l) e
   where
     go : (o : Option ℕ) → unless_wrong o (table_in n l) ≡ Ok t → (o ≡ None) × (table_in n l ≡ t)
     go None e = (refl, cc)
-    go (Some at) e = let z : ◌≡◌ {A = ℕ} 0 1 = cc in absurd (omega arith)
+    go (Some at) e = cc
 
 -- R81, R83: bytes that load have an image's length
 pub loaded_length : (n : ℕ) (l : List ℕ) (t : Table) → load_with n l ≡ Ok t → length l ≡ size n

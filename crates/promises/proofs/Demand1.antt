@@ -4,7 +4,6 @@ use mathlib.Core.Path.{◌≡◌, refl, sym, ap, ◌∙◌, subst}
 use mathlib.Core.Bool.{Bool, true, false}
 use mathlib.Core.List.{List}
 use Prim.Native.Nat.{ℕ}
-use native.Mathlib.Omega.{arith}
 use lib.ListN.{length}
 use Rattle.table.specs.declared.Table.{Table}
 use Rattle.table.specs.declared.Request.{Request}
@@ -103,12 +102,12 @@ admit_keeps : (t : Table) (q : Request) (m : Acted ℕ) (x : Refusal) → m ≡ 
 admit_keeps t q m x e f = ap (λ (n : Acted ℕ). n.table) e ∙ go (ask_of t q) (ap (λ (n : Acted ℕ). n.answer) (sym e) ∙ f)
   where
     go : (a : Said ℕ) → (admit_with t q a).answer ≡ Err x → (admit_with t q a).table ≡ t
-    go (Ok r) h = let z : ◌≡◌ {A = ℕ} 0 1 = cc in absurd (omega arith)
+    go (Ok r) h = cc
     go (Err y) h = refl
 
 -- a step's answer that says a refusal is that refusal
 step_refused : (o : Said (Option ℕ)) (x : Refusal) → o ≡ Err x → o ≡ Err x
-step_refused (Ok w) x e = let z : ◌≡◌ {A = ℕ} 0 1 = cc in absurd (omega arith)
+step_refused (Ok w) x e = cc
 step_refused (Err y) x e = let z : y ≡ x = cc in ap Err z
 
 step_keeps : (t : Table) (s : Acted (Option ℕ)) (x : Refusal) → s ≡ step_of t → s.answer ≡ Err x → s.table ≡ t
@@ -117,7 +116,7 @@ step_keeps t s x e f =
 
 -- a leave's answer that says a refusal is that refusal
 leave_refused : (a : Said ℕ) (x : Refusal) → a ≡ Err x → a ≡ Err x
-leave_refused (Ok k) x e = let z : ◌≡◌ {A = ℕ} 0 1 = cc in absurd (omega arith)
+leave_refused (Ok k) x e = cc
 leave_refused (Err y) x e = let z : y ≡ x = cc in ap Err z
 
 left_keeps : (t : Table) (n : ℕ) (r : Acted ℕ) (x : Refusal) → r ≡ leave_of t n → r.answer ≡ Err x → r.table ≡ t
@@ -129,7 +128,7 @@ drive_keeps t o u x h e = h.1 ∙ refused_drive_keeps t x (step_refused (step_of
 
 -- whether the line fits, a number that is not 0 or the missing length says that it does not
 put_kept : (b : Bool) (line l : List ℕ) → pick b (Some (length line)) None ≡ None → pick b (laid line l) l ≡ l
-put_kept true line l e = let z : ◌≡◌ {A = ℕ} 0 1 = cc in absurd (omega arith)
+put_kept true line l e = cc
 put_kept false line l e = refl
 
 line_kept : (b : Bool) (line l : List ℕ) → ((result_of (said_put (pick b (Some (length line)) None))).number ≡ 0 → ⊥) → pick b (laid line l) l ≡ l

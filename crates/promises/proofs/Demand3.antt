@@ -34,7 +34,7 @@ unfailing t g = record {
   only_fifteen = λ x e.
       split (2 ^ 48) t.clock
       (λ h. let p = says_last t h in let z : x ≡ refusal 15 0 = cc in (z, omega (arith, g.clock_in)))
-      (λ h. let p = says_choice t g h in let z : ◌≡◌ {A = ℕ} 0 1 = cc in absurd (omega arith));
+      (λ h. let p = says_choice t g h in cc);
   at_the_last = λ e. says_last t (omega arith);
 }
 

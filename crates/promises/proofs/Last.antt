@@ -120,7 +120,7 @@ kept_last (admitting q ∷ rest) t k g v = kept_last rest (after (admitting q) t
 kept_last (stepping ∷ rest) t k g v =
     split (2 ^ 48) t.clock
     (λ l. by_last (λ u ran. ran ≡ [] → RanLast k (run rest u)) rest t l (kept_last rest t k g v))
-    (λ l. by_tick (λ u ran. ran ≡ [] → RanLast k (run rest u)) rest t g l (λ e. let z : ◌≡◌ {A = ℕ} 0 1 = cc in absurd (omega arith)))
+    (λ l. by_tick (λ u ran. ran ≡ [] → RanLast k (run rest u)) rest t g l (λ e. cc))
 kept_last (leaving n ∷ rest) t k g v = kept_last rest (after (leaving n) t) k (good_after (leaving n) t g) (left_last t n k v)
 
 -- ---- who ran goes on
@@ -130,7 +130,7 @@ chose : (t : Table) (k : ℕ) → Good t → (step_of t).answer ≡ Ok (Some k) 
 chose t k g e =
     split (2 ^ 48) t.clock
     (λ h. let p = says_last t h in
-    let z : ◌≡◌ {A = ℕ} 0 1 = cc in absurd (omega arith))
+    cc)
     (λ h. let p = says_choice t g h in
     let z : choose t ≡ Some k = cc in
     (z, step_table t g h ∙ ap (λ (o : Option ℕ). ticked o t) z))

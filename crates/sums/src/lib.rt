@@ -48,13 +48,6 @@ fn line_fits(end: u32, remaining: u32, need: u32, span: u32) -> bool
     remaining <= need && end <= span && need <= span && (1..=LONGEST).contains(&span)
 }
 
-// R26: the new line's need lies from 1 to its period
-pub fn fits_period(need: u16, period: u16) -> bool
-    ensures { result ≡ both (leb 1 need) (leb need period) }
-{
-    (1..=period).contains(&need)
-}
-
 // R28, R29: shares, claims and whole needs, of one line or of all, times the frame.
 #[derive(Clone, Copy)]
 struct Weights {
@@ -170,7 +163,7 @@ impl<'a> Lines<'a> {
         if !self.fits() {
             return Err(Ground::Unfit);
         }
-        if !fits_period(need, period) {
+        if !line::need_fits(need, period) {
             return Err(Ground::Misfit);
         }
         let (need, period) = (u32::from(need), u32::from(period));

@@ -1,9 +1,7 @@
 -- `answer` meets its contract: each way out is one case of `ask_of`, over the values that the calls gave.
 use Rattle.std.specs.Prelude.{Err}
 use Rattle.std.proofs.Common.{rules}
-use Prim.Native.Nat.{ℕ}
-use mathlib.Core.Path.{◌≡◌, refl, sym, ap, ◌∙◌}
-use mathlib.Core.Bool.{not}
+use mathlib.Core.Path.{◌≡◌, ap, ◌∙◌}
 use lib.ListN.{length}
 use Rattle.line.specs.Slots.{lowest, lowest_of, is_nothing, is_waiting}
 use Rattle.line.specs.Stretch.{barred}
@@ -34,8 +32,7 @@ returns-in_err-none_found-2 c =
     let x = c.args in
     let e2 : c.lowest.result ≡ lowest_of is_nothing x.t.slots = c.lowest.ensures (λ i. is_nothing) (λ i b h k. search rules) in
     let e3 : c.lowest-2.result ≡ lowest_of is_waiting x.t.slots = c.lowest-2.ensures (λ i. is_waiting) (λ i b h k. search rules) in
-    let e : c.from_residual-in_err-none_found-2.result ≡ Err c.in_err-none_found-2.field-0.0 = search rules in
-    (
+    let e : c.from_residual-in_err-none_found-2.result ≡ Err c.in_err-none_found-2.field-0.0 = search rules in (
       e ∙ ask_unsound x.t x.q c.if-t-gt-LATEST.false e2 c.is_none.ensures c.if-is_none.false e3 c.in_ok-none_found.ensures c.fault.ensures c.in_err-none_found-2.ensures,
       refused_within _ e,
     )
@@ -46,8 +43,7 @@ returns-in_err-none_found-3 c =
     let e2 : c.lowest.result ≡ lowest_of is_nothing x.t.slots = c.lowest.ensures (λ i. is_nothing) (λ i b h k. search rules) in
     let e3 : c.lowest-2.result ≡ lowest_of is_waiting x.t.slots = c.lowest-2.ensures (λ i. is_waiting) (λ i b h k. search rules) in
     let e5 : c.lowest-3.result ≡ lowest (bars x.t x.q) (length x.t.slots) = c.lowest-3.ensures (λ i. barred (entry x.q i)) (λ i b h k. search rules) in
-    let e : c.from_residual-in_err-none_found-3.result ≡ Err c.in_err-none_found-3.field-0.0 = search rules in
-    (
+    let e : c.from_residual-in_err-none_found-3.result ≡ Err c.in_err-none_found-3.field-0.0 = search rules in (
       e ∙ ask_barred x.t x.q c.if-t-gt-LATEST.false e2 c.is_none.ensures c.if-is_none.false e3 c.in_ok-none_found.ensures c.fault.ensures c.in_ok-none_found-2.ensures
           e5 c.in_err-none_found-3.ensures,
       refused_within _ e,
@@ -58,10 +54,9 @@ returns-then-not-need_fits c =
     let x = c.args in
     let e2 : c.lowest.result ≡ lowest_of is_nothing x.t.slots = c.lowest.ensures (λ i. is_nothing) (λ i b h k. search rules) in
     let e3 : c.lowest-2.result ≡ lowest_of is_waiting x.t.slots = c.lowest-2.ensures (λ i. is_waiting) (λ i b h k. search rules) in
-    let e5 : c.lowest-3.result ≡ lowest (bars x.t x.q) (length x.t.slots) = c.lowest-3.ensures (λ i. barred (entry x.q i)) (λ i b h k. search rules) in
-    (
+    let e5 : c.lowest-3.result ≡ lowest (bars x.t x.q) (length x.t.slots) = c.lowest-3.ensures (λ i. barred (entry x.q i)) (λ i b h k. search rules) in (
       ap Err c.new-then-not-need_fits.ensures
-      ∙ ask_misfit x.t x.q c.if-t-gt-LATEST.false e2 c.is_none.ensures c.if-is_none.false e3 c.in_ok-none_found.ensures c.fault.ensures c.in_ok-none_found-2.ensures
+          ∙ ask_misfit x.t x.q c.if-t-gt-LATEST.false e2 c.is_none.ensures c.if-is_none.false e3 c.in_ok-none_found.ensures c.fault.ensures c.in_ok-none_found-2.ensures
           e5 c.in_ok-none_found-3.ensures c.need_fits.ensures c.if-not-need_fits.true,
       tt,
     )
@@ -73,8 +68,7 @@ returns c =
     let e3 : c.lowest-2.result ≡ lowest_of is_waiting x.t.slots = c.lowest-2.ensures (λ i. is_waiting) (λ i b h k. search rules) in
     let e5 : c.lowest-3.result ≡ lowest (bars x.t x.q) (length x.t.slots) = c.lowest-3.ensures (λ i. barred (entry x.q i)) (λ i b h k. search rules) in
     let all = allowed_all x.t x.q c.if-t-gt-LATEST.false e2 c.is_none.ensures c.if-is_none.false e3 c.in_ok-none_found.ensures c.fault.ensures c.in_ok-none_found-2.ensures
-        e5 c.in_ok-none_found-3.ensures in
-    (
+    e5 c.in_ok-none_found-3.ensures in (
       ask_past x.t x.q c.if-t-gt-LATEST.false e2 c.is_none.ensures c.if-is_none.false e3 c.in_ok-none_found.ensures c.fault.ensures c.in_ok-none_found-2.ensures
           e5 c.in_ok-none_found-3.ensures (gathered_decide x.t x.q c.gather.result c.gather.ensures all c.by_lines.ensures.0),
       c.by_lines.ensures.1,

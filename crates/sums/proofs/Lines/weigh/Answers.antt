@@ -5,8 +5,8 @@ use Rattle.sums.proofs.Lines.weigh.Goals as goal
 pub returns-then-not-fits : goal.returns-then-not-fits
 returns-then-not-fits c = search weigh_4
 
-pub returns-then-not-fits_period : goal.returns-then-not-fits_period
-returns-then-not-fits_period c = search weigh_6
+pub returns-then-not-need_fits : goal.returns-then-not-need_fits
+returns-then-not-need_fits c = search weigh_6
 
 pub returns-then-ticks-gt-LIMIT : goal.returns-then-ticks-gt-LIMIT
 returns-then-ticks-gt-LIMIT c = search weigh_7
