@@ -12,7 +12,7 @@ use table::{Refusal, Request, Table};
 pub fn answer(card: &[u8]) -> Result<u64, Refusal>
     ensures { result ≡ answer_of card.now }
 {
-    let card = reader::card(card)?.card;
+    let card = reader::try_read(card)?.card;
     ask::ask(card.table, card.request)
 }
 
@@ -27,7 +27,7 @@ pub fn put_line(a: Result<u64, Refusal>, out: &mut [u8]) -> Returned
 pub fn rewrite(card: &[u8], out: &mut [u8]) -> Returned
     ensures { (result ≡ rewrite_as card.now (length out.old)) × (out.new ≡ rewritten_of card.now out.old) }
 {
-    match reader::card(card) {
+    match reader::try_read(card) {
         Ok(read) => crate::written(u64::from(read.turned), writer::write(&read.card, out)),
         Err(x) => Returned::from(x),
     }

@@ -27,7 +27,7 @@ pub extern "C" fn trimthuel_rewrite(card: &[u8], out: &mut [u8]) -> Returned
 pub extern "C" fn trimthuel_run(card: &[u8], ticks: u16) -> Returned
     ensures { result ≡ result_of (run_of card.now ticks) }
 {
-    match reader::card(card) {
+    match reader::try_read(card) {
         Ok(read) => calls::cards::run(read.card.table, read.card.request, ticks),
         Err(x) => Returned::from(x),
     }

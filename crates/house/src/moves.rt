@@ -39,7 +39,7 @@ pub extern "C" fn trimthuel_read_card(
 ) -> Returned
     ensures { (result ≡ result_of (read_card_for (read_of card.now) (length table.old))) × (table.new ≡ image_after (read_of card.now) table.old) × (numbers.new ≡ numbers_after (read_of card.now) (length table.old) numbers.old) }
 {
-    match reader::card(card) {
+    match reader::try_read(card) {
         Ok(read) => calls::moves::move_in(read.card.table, read.card.request, table, numbers),
         Err(x) => Returned::from(x),
     }

@@ -123,6 +123,7 @@ fn in_order(lines: Lines, dues: &mut [Due], new: New, first: u32) -> Result<u32,
     let mut sum: u32 = 0;
     let mut start: u32 = 0;
     let mut d = first;
+    // From tick to tick, and not one by one: the lines say which comes next.
     while d < new.last {
         let taken = take_ends(lines, dues, d, new.last);
         sum += taken.added;

@@ -163,7 +163,7 @@ fn records(bytes: &[u8]) -> Result<Reading, Refusal>
 }
 
 // R31, R56, R57: any bytes of any length: the card and the slots that were TA, or the refusal.
-pub fn card(bytes: &[u8]) -> Result<Reading, Refusal>
+pub fn try_read(bytes: &[u8]) -> Result<Reading, Refusal>
     ensures { result ≡ reading_with (turned_of bytes.now) (read_of bytes.now) }
 {
     if bytes.len() < layout::CLOCK_LENGTH || !opens(bytes, &layout::CK) {
@@ -176,5 +176,5 @@ pub fn card(bytes: &[u8]) -> Result<Reading, Refusal>
 pub fn read(card: &[u8]) -> ReadCard
     ensures { result ≡ handed (turned_of card.now) (read_of card.now) }
 {
-    self::card(card).into()
+    try_read(card).into()
 }

@@ -31,6 +31,7 @@ fn rewrite(rt: &(impl Print + Eprint), card: &[u8]) {
 }
 
 // R94: one byte more is read than the longest card has: no byte after it changes what is written (the theorem `rewrite_by_209` of calls).
+// With the main function of `answer` it shares the call of `take` alone: what is said differs, and how the line ends.
 fn main(rt: HostRuntime) {
     let mut card = [0u8; 209];
     match input::take(&mut rt.stdin(), &mut card) {

@@ -4,8 +4,8 @@ use Rattle.card.specs.Twin.{turned_of}
 use Rattle.card.specs.Answers.{reading_with}
 use Rattle.card.proofs.Refusals.{no_clock, cut_clock}
 use Rattle.reader.proofs.Loop.{read_clock}
-use Rattle.reader.proofs.card.Goals as goal
-use Rattle.reader.proofs.card.Goals.{then-bytes-lt-CLOCK_LENGTH-via-then-bytes-lt-CLOCK_LENGTH, then-bytes-lt-CLOCK_LENGTH-via-else-bytes-lt-CLOCK_LENGTH+then-not-opens}
+use Rattle.reader.proofs.try_read.Goals as goal
+use Rattle.reader.proofs.try_read.Goals.{then-bytes-lt-CLOCK_LENGTH-via-then-bytes-lt-CLOCK_LENGTH, then-bytes-lt-CLOCK_LENGTH-via-else-bytes-lt-CLOCK_LENGTH+then-not-opens}
 
 pub returns-then-bytes-lt-CLOCK_LENGTH : goal.returns-then-bytes-lt-CLOCK_LENGTH
 returns-then-bytes-lt-CLOCK_LENGTH c =
