@@ -1,5 +1,4 @@
 -- The rules of docs/RULES.md on images, as definitions.
 pub mod Image
 pub mod Loading
-pub mod Kinds
 pub mod Answers

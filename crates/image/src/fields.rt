@@ -7,10 +7,10 @@ ghost use Rattle.image.specs.Loading.{held_in};
 ghost use Rattle.line.specs.declared.Held.TheVariants.{Nothing, Running, Waiting};
 ghost use Rattle.line.specs.declared.Slot.{Slot};
 
-use crate::kinds::SlotKind;
+use crate::kinds::{LEAVING, NOTHING, RUNNING, WAITING, run_kind};
 use crate::numbers::{eight_at, put_eight};
 use crate::pieces::Piece;
-use line::{Held, Slot};
+use line::{Follows, Held, Slot};
 
 // The lowest two bytes of a number.
 fn lowest(v: u64) -> u16
@@ -54,26 +54,24 @@ impl Piece for Slot {
         let second = lowest(v / 65536);
         let third = lowest(v / 4294967296);
         let fourth = lowest(v / 281474976710656);
-        match SlotKind::try_from(s[0]) {
-            Ok(SlotKind::Running(follows)) => {
-                Slot::holding(Held::running(first, second, third, fourth, follows))
-            }
-            Ok(SlotKind::Waiting) => Slot::holding(Held::waiting(first, second, third)),
-            Ok(SlotKind::Nothing) => Slot::empty(),
-            Err(()) => Slot::empty(), // R83 refuses it, and it is not read
+        match s[0] {
+            RUNNING => Slot::holding(Held::running(first, second, third, fourth, Follows::Renews)),
+            WAITING => Slot::holding(Held::waiting(first, second, third)),
+            LEAVING => Slot::holding(Held::running(first, second, third, fourth, Follows::Leaves)),
+            _ => Slot::empty(),
         }
     }
 
     fn put(self, out: &mut [u8]) {
         match self.held {
-            Held::Nothing => put_nine(out, u8::from(SlotKind::Nothing), 0),
+            Held::Nothing => put_nine(out, NOTHING, 0),
             Held::Running(r) => {
                 let numbers = four(r.need, r.period, r.age, r.remaining);
-                put_nine(out, u8::from(SlotKind::Running(r.follows)), numbers)
+                put_nine(out, run_kind(r.follows), numbers)
             }
             Held::Waiting(w) => {
                 let numbers = four(w.need, w.period, w.wait, 0);
-                put_nine(out, u8::from(SlotKind::Waiting), numbers)
+                put_nine(out, WAITING, numbers)
             }
         }
     }

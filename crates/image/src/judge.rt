@@ -2,7 +2,7 @@
 ghost use Rattle.std.specs.Prelude.{◌≡◌, ◌+◌, ◌≤◌, length, drop, true, None};
 ghost use Rattle.image.specs.Loading.{blank_from, slot_wrong, slots_wrong, version_wrong, length_wrong, wrong_in};
 
-use crate::kinds::SlotKind;
+use crate::kinds::{LEAVING, NOTHING, RUNNING, WAITING};
 use crate::numbers::eight_at;
 use crate::{COUNTS, SIZE, SLOTS, VERSION};
 
@@ -10,11 +10,11 @@ use crate::{COUNTS, SIZE, SLOTS, VERSION};
 fn blank_from(kind: u8) -> usize
     ensures { (result ≡ blank_from kind) × (result ≤ 9) }
 {
-    match SlotKind::try_from(kind) {
-        Ok(SlotKind::Nothing) => 1,
-        Ok(SlotKind::Running(_)) => 9,
-        Ok(SlotKind::Waiting) => 7,
-        Err(()) => 0,
+    match kind {
+        NOTHING => 1,
+        RUNNING | LEAVING => 9,
+        WAITING => 7,
+        _ => 0,
     }
 }
 
@@ -59,11 +59,11 @@ fn slot_right(s: &[u8]) -> bool
     ensures { result ≡ true → slot_wrong s.now ≡ None }
 {
     let v = eight_at(s, 1);
-    match SlotKind::try_from(s[0]) {
-        Ok(SlotKind::Nothing) => v == 0,
-        Ok(SlotKind::Running(_)) => true,
-        Ok(SlotKind::Waiting) => v < 281474976710656,
-        Err(()) => false,
+    match s[0] {
+        NOTHING => v == 0,
+        RUNNING | LEAVING => true,
+        WAITING => v < 281474976710656,
+        _ => false,
     }
 }
 

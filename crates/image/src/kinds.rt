@@ -1,44 +1,27 @@
-// What a slot's first byte says that it holds.
-ghost use Rattle.std.specs.Prelude.{◌≡◌, ◌<◌, MatchResult};
-ghost use Rattle.image.specs.Kinds.{kind_byte};
+// The kinds of a slot, as its first byte. They are bytes and no enum, for speed: with an enum's `TryFrom<u8>` an image took a tenth longer to load.
+ghost use Rattle.std.specs.Prelude.{◌≡◌};
+ghost use Rattle.image.specs.Image.{run_kind};
 
 use line::Follows;
 
-// R81: the kinds of a slot.
-#[derive(Clone, Copy)]
-pub(crate) enum SlotKind {
-    Nothing,
-    Running(Follows),
-    Waiting,
-}
+// R81: a slot that holds nothing.
+pub(crate) const NOTHING: u8 = 0;
 
-impl TryFrom<u8> for SlotKind {
-    type Error = ();
+// R81: one that holds a running line; R99: the next period follows this one.
+pub(crate) const RUNNING: u8 = 1;
 
-    // R81, R83: no byte above 3 is a kind.
-    fn try_from(byte: u8) -> Result<SlotKind, ()>
-        ensures { MatchResult result (λ kind. byte ≡ kind_byte kind) (λ _. 3 < byte) }
-    {
-        match byte {
-            0 => Ok(SlotKind::Nothing),
-            1 => Ok(SlotKind::Running(Follows::Renews)),
-            2 => Ok(SlotKind::Waiting),
-            3 => Ok(SlotKind::Running(Follows::Leaves)),
-            _ => Err(()),
-        }
-    }
-}
+// R81: one that holds a waiting line.
+pub(crate) const WAITING: u8 = 2;
 
-impl From<SlotKind> for u8 {
-    // R81: the byte of a kind.
-    fn from(kind: SlotKind) -> u8
-        ensures { result ≡ kind_byte kind }
-    {
-        match kind {
-            SlotKind::Nothing => 0,
-            SlotKind::Running(Follows::Renews) => 1,
-            SlotKind::Waiting => 2,
-            SlotKind::Running(Follows::Leaves) => 3,
-        }
+// R81, R99: one that holds a running line which leaves.
+pub(crate) const LEAVING: u8 = 3;
+
+// R81: the kind of a running line.
+pub(crate) fn run_kind(follows: Follows) -> u8
+    ensures { result ≡ run_kind follows }
+{
+    match follows {
+        Follows::Renews => RUNNING,
+        Follows::Leaves => LEAVING,
     }
 }

@@ -12,7 +12,7 @@ use table::{Refusal, Table};
 
 mod fields; // the numbers in a slot's bytes
 mod judge; // which byte is wrong
-mod kinds; // what a slot holds, as a byte
+mod kinds; // the kinds of a slot
 mod numbers; // numbers of eight bytes
 mod pieces; // the slots and the counts in an image
 

@@ -1,18 +1,18 @@
--- `blank_from`: each kind has its law.
-use mathlib.Core.Path.{ap, ◌∙◌}
+-- `blank_from`: the match is a ladder of tests, and each arm has its law.
+use mathlib.Core.Logic.{⊎_elim}
+use Rattle.line.specs.declared.Follows.TheVariants.{Renews, Leaves}
 use native.Mathlib.Omega.{arith}
-use Rattle.image.specs.Kinds.{kind_byte}
 use Rattle.image.proofs.Judging.{blank_nothing, blank_running, blank_waiting, blank_other}
 use Rattle.image.proofs.judge.blank_from.Goals as goal
 
-pub returns-in-Ok-Nothing : goal.returns-in-Ok-Nothing
-returns-in-Ok-Nothing c = let k = c.in-Ok-Nothing in blank_nothing _ (k.ensures ∙ ap kind_byte k.field-0-is)
+pub returns-in-0 : goal.returns-in-0
+returns-in-0 c = search blank_nothing
 
-pub returns-in-Ok-Running : goal.returns-in-Ok-Running
-returns-in-Ok-Running c = let k = c.in-Ok-Running in blank_running _ _ (k.ensures ∙ ap kind_byte k.field-0-is)
+pub returns-in-1 : goal.returns-in-1
+returns-in-1 c = ⊎_elim (blank_running _ Renews) (blank_running _ Leaves) c.in-1.is
 
-pub returns-in-Ok-Waiting : goal.returns-in-Ok-Waiting
-returns-in-Ok-Waiting c = let k = c.in-Ok-Waiting in blank_waiting _ (k.ensures ∙ ap kind_byte k.field-0-is)
+pub returns-in-2 : goal.returns-in-2
+returns-in-2 c = search blank_waiting
 
-pub returns-in-Err : goal.returns-in-Err
-returns-in-Err c = blank_other _ (omega arith)
+pub returns-in_default : goal.returns-in_default
+returns-in_default c = blank_other c.args.kind (grind arith)
