@@ -39,13 +39,6 @@ module _ {A : Type 0} (g : A → List ℕ) where
   length_series w h (x ∷ xs) = let i = length_series w h xs in omega (arith, length-append (g x) (series g xs), h x)
 
 module _ {A : Type 0} (w : ℕ) (f : List ℕ → A) where
-  -- one more found at the end
-  pub found_next : (k : ℕ) (l : List ℕ) → series_in w f (suc k) l ≡ series_in w f k l ++ (f (drop (w * k) l) ∷ [])
-  found_next zero l = ap (λ (j : ℕ). f (drop j l) ∷ []) (sym (mul-zero w))
-  found_next (suc k) l =
-      ap {B = List A} (λ (s : List A). f l ∷ s) (found_next k (drop w l)
-      ∙ ap (λ (y : List ℕ). series_in w f k (drop w l) ++ (f y ∷ [])) (next_drop w k l))
-
   -- so many are found
   pub length_found : (n : ℕ) (l : List ℕ) → length (series_in w f n l) ≡ n
   length_found zero l = refl
