@@ -1,4 +1,5 @@
--- The laws of the calls: the run; what follows for bytes; the edges.
+-- The laws of the calls: what is read and loaded, the run; what follows for bytes; the edges.
+pub mod Said
 pub mod Run
 pub mod Theorems
 pub mod CaseA
