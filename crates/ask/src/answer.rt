@@ -7,12 +7,12 @@ ghost use Rattle.ask.specs.Gathered.{gathered_lines, Room, answer_from, unless_f
 
 use crate::gather::Gathered;
 use decide::NoStart;
-use table::{Refusal, Request, Table};
+use table::{Refusal, Request, Table, ground};
 
 // R7, R21: the last clock that may ask, 2^48 − 65,536
 const LATEST: u64 = 281_474_976_645_120;
 
-// R17, R18: one test: the refusal of this number at the slot found, if one was
+// R17, R18: one test, and the refusal of this number at the slot found, if one was
 fn none_found(slot: Option<usize>, number: u16) -> Result<(), Refusal>
     ensures { result ≡ unless_found slot number }
 {
@@ -29,7 +29,7 @@ fn answered(clock: u64, decided: Result<u32, NoStart>) -> Result<u64, Refusal>
 {
     match decided {
         Ok(after) => Ok(clock + u64::from(after)),
-        Err(NoStart::Ground(ground)) => Err(Refusal::new(ground.into(), 0)),
+        Err(NoStart::Ground(found)) => Err(Refusal::new(found.into(), 0)),
         Err(NoStart::Short(x)) => Err(Refusal::short(clock + u64::from(x.after), x.excess)),
     }
 }
@@ -47,16 +47,16 @@ pub(crate) fn answer(t: Table, q: Request) -> Result<u64, Refusal>
     ensures { (result ≡ ask_of t q) × Within t.clock result }
 {
     if t.clock > LATEST {
-        return Err(Refusal::new(1, 0));
+        return Err(Refusal::new(ground::LATE, 0));
     }
     if t.lowest(|_, s| s.is_empty()).is_none() {
-        return Err(Refusal::new(2, 0));
+        return Err(Refusal::new(ground::FULL, 0));
     }
-    none_found(t.lowest(|_, s| s.waits()), 3)?;
-    none_found(t.fault(), 4)?;
-    none_found(t.lowest(|i, s| s.bars(q.stretched[i])), 5)?;
+    none_found(t.lowest(|_, s| s.waits()), ground::WAITING)?;
+    none_found(t.fault(), ground::UNSOUND)?;
+    none_found(t.lowest(|i, s| s.bars(q.stretched[i])), ground::MISSTRETCHED)?;
     if !line::need_fits(q.need, q.period) {
-        return Err(Refusal::new(6, 0));
+        return Err(Refusal::new(ground::MISFIT, 0));
     }
     by_lines(t.clock, &crate::gather::gather(t, q), q.need, q.period)
 }

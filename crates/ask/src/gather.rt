@@ -8,7 +8,8 @@ use sums::Lines;
 use table::{Request, Table};
 
 // R9: line k, for k below `count`: its first end, counted from the clock; what remains of its need, its need, its T', and the gap from one of
-// its ends to the next. Numbers beside each other and no array of lines: what decides takes slices of numbers, and refuses those of unequal length.
+// its ends to the next. Numbers beside each other and no array of lines, since `decide` takes slices of numbers and has an answer for unequal ones
+// (`decided_in`); a count beside them and no Vec, since the memory is fixed.
 #[derive(Clone, Copy)]
 pub(crate) struct Gathered {
     count: usize,

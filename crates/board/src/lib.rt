@@ -17,7 +17,7 @@ pub fn ready_word(t: table::Table) -> u16
     w
 }
 
-// R50: the blinks for a refusal's number: every number of sixteen bits has an answer, so it is no enum.
+// R50: the blinks for a refusal's number. It is no enum: the contract has an answer for every number of sixteen bits (`blinks`).
 #[tactic(auto, unfolding(crate::specs::Board::blinks))]
 pub fn lamp(number: u16) -> u8
     ensures { result ≡ blinks number }

@@ -12,7 +12,7 @@ pub mod cards; // a card's answer and its line, and the run of its table
 pub mod moves; // a card's table and request, into lent bytes and numbers
 pub mod tables; // a table asked, admitted to and stepped
 
-// R63: what a call returns. Number 0: what was asked for is granted, and is the value. R103: refusal 10 has a tick and an excess, all else 0 for both.
+// R63: what a call returns, to C as to Rust, and so as numbers. Number 0: what was asked for is granted, and is the value. R103: refusal 10 has a tick and an excess, all else 0 for both.
 #[repr(C)]
 #[derive(Clone, Copy)]
 pub struct Returned {
@@ -76,7 +76,7 @@ fn slot_number(slot: Option<usize>) -> u64
     }
 }
 
-// R59, R84: the length that was written, with the place that a grant has, or the refusal.
+// R59, R62, R84: the length that was written, with the place that a grant has, or the refusal.
 pub fn written(place: u64, said: Result<usize, Refusal>) -> Returned
     ensures { result ≡ result_at place said }
 {

@@ -54,7 +54,7 @@ pub struct Reading {
     pub turned: u16,
 }
 
-// R56: what the reader hands out. The card stands beside the answer, as it is there with a refusal too.
+// R56: what the reader hands out. The card stands beside the answer, since a refusal hands one out too (the theorem `refusal_keeps`).
 #[derive(Clone, Copy)]
 pub struct ReadCard {
     pub card: Card,

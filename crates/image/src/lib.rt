@@ -8,7 +8,7 @@ ghost use Rattle.image.specs.Answers.{handed_out, store_of, stored_in};
 
 use numbers::{eight_at, put_eight};
 use pieces::{pieces_in, put_pieces};
-use table::{Refusal, Table};
+use table::{Refusal, Table, ground};
 
 mod fields; // the numbers in a slot's bytes
 mod judge; // which byte is wrong
@@ -32,7 +32,7 @@ const LAST: usize = DEPARTED + 8;
 
 const SIZE: usize = LAST + 1;
 
-// R84: what loading hands out. The table stands beside the answer, since R84 hands one out with a refusal too: the empty one.
+// R84: what loading hands out. The table stands beside the answer, since a refusal hands one out too, the empty one (the theorem `refusal_keeps`).
 #[derive(Clone, Copy)]
 pub struct Loaded {
     pub table: Table,
@@ -62,7 +62,7 @@ fn judged(image: &[u8]) -> Result<(), Refusal>
     ensures { MatchResult result (λ _. wrong_in 16 image.now ≡ None) (λ x. Err x ≡ load_of image.now) }
 {
     match judge::wrong_in(image) {
-        Some(at) => Err(Refusal::new(11, at as u64)),
+        Some(at) => Err(Refusal::new(ground::BROKEN, at as u64)),
         None => Ok(()),
     }
 }
@@ -114,7 +114,7 @@ pub fn store(t: Table, out: &mut [u8]) -> Result<usize, Refusal>
     ensures { (result ≡ store_of (length out.old)) × (out.new ≡ stored_in t out.old) }
 {
     if out.len() < SIZE {
-        return Err(Refusal::new(13, 0));
+        return Err(Refusal::new(ground::NO_ROOM, 0));
     }
     put_image(t, out);
     Ok(SIZE)

@@ -1,7 +1,8 @@
 // A line in an array.
 ghost use Rattle.std.specs.Prelude.{◌≡◌, ◌≤◌};
 
-// R61: a line in an array that is long enough for every answer: its first `len` bytes are the line, and the rest are 0.
+// R61: a line in an array that is long enough for every answer: its first `len` bytes are the line, and the rest are 0 (`Replied`).
+// An array with its length, since the memory is fixed.
 #[derive(Clone, Copy)]
 pub struct Reply {
     pub bytes: [u8; 72],

@@ -4,8 +4,8 @@
 ghost use Rattle.std.specs.Prelude.{◌≡◌, ◌+◌, ◌≤◌, length};
 ghost use Rattle.reply.specs.Line.{carries, lateness_of, answer_line, laid, Grown, Replied, length_for, held_after};
 
-mod array;
-mod text;
+mod array; // a line in an array
+mod text; // a line that grows in a lent buffer
 
 pub use array::Reply;
 use table::Refusal;

@@ -2,7 +2,7 @@
 ghost use Rattle.std.specs.Prelude.{◌≡◌, ◌+◌, ◌≤◌, length};
 ghost use Rattle.reply.specs.Line.{digits, Grown};
 
-// A line that is being put at the start of a lent buffer: its first `at` bytes.
+// R61: a line that is being put at the start of a lent buffer: its first `at` bytes.
 #[derive(Drop)]
 pub(crate) struct Line<'a> {
     pub(crate) out: &'a mut [u8],
@@ -10,7 +10,7 @@ pub(crate) struct Line<'a> {
 }
 
 impl Line<'_> {
-    // Puts the bytes s behind the line.
+    // R61: puts the bytes s behind the line.
     pub(crate) fn text(&mut self, s: &[u8])
         requires { self.old.at + length s.now ≤ length self.old.out.now }
         ensures { Grown s.now self.old self.new }

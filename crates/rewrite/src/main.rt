@@ -31,7 +31,7 @@ fn rewrite(rt: &(impl Print + Eprint), card: &[u8]) {
 }
 
 // R94: one byte more is read than the longest card has: no byte after it changes what is written (the theorem `rewrite_by_209` of calls).
-// With the main function of `answer` it shares the call of `take` alone: what is said differs, and how the line ends.
+// It is the main function of `answer` but for the name and what is called: a closure would put more words around them than they share.
 fn main(rt: HostRuntime) {
     let mut card = [0u8; 209];
     match input::take(&mut rt.stdin(), &mut card) {

@@ -97,8 +97,8 @@ impl Part {
 }
 
 // R9: lines gathered, counted from the clock: line k has the k-th number of each slice: its first end, what remains of its need, its need, and its
-// span, the ticks from one end to the next as the reader takes them: its T' for the sums, its gap for the ends.
-// No slice of structs: the slices may differ in length, and then they are not fit (R24).
+// span, the ticks from one end to the next: its T' for the sums, its gap for the ends (so `decide` is lent the gaps beside the lines).
+// No slice of structs: `fits` and `weigh` have an answer for slices that differ in length (`fitting_in`, `weighed_in`): they are not fit.
 #[derive(Clone, Copy)]
 pub struct Lines<'a> {
     pub ends: &'a [u32],

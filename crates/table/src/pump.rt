@@ -4,7 +4,7 @@ ghost use Rattle.table.specs.Counts.{Inside, accounted};
 ghost use Rattle.table.specs.Turn.{Turns};
 ghost use Rattle.table.specs.Step.{served_at, advance, step_of};
 
-use crate::{Acted, Table};
+use crate::{Acted, Table, ground};
 
 // R45: slot `i`, which held `s`, after the slot named, or none, has got the tick.
 fn served(turn: Option<usize>, i: usize, s: line::Slot) -> line::Slot
@@ -25,10 +25,10 @@ impl Table {
         let last = self.last as usize;
         let going = match self.slots.get(last) {
             Some(s) => s.key(),
-            None => 65536,
+            None => line::NOT_OWED,
         };
         let mut best = 0;
-        let mut least = 65536;
+        let mut least = line::NOT_OWED;
         for (i, &s) in self.slots.iter().enumerate() {
             if !s.sound() {
                 return Err(i);
@@ -40,7 +40,7 @@ impl Table {
             }
         }
         let turn = if going <= least { last } else { best };
-        Ok((least < 65536).then_some(turn))
+        Ok((least < line::NOT_OWED).then_some(turn))
     }
 
     // R45 to R48: a tick in which the slot named, or none, is served: what each slot holds then, or 14 at the lowest whose period ends short (R34).
@@ -53,7 +53,7 @@ impl Table {
         for (i, &old) in self.slots.iter().enumerate() {
             let s = served(w, i, old);
             if s.short() {
-                return self.refused(14, i as u64);
+                return self.refused(ground::MISSED, i as u64);
             }
             next.slots[i] = s.passed();
             if s.departs() {
@@ -73,13 +73,13 @@ impl Table {
         ensures { result ≡ step_of self }
     {
         if 281474976710656 <= self.clock {
-            return self.refused(15, 0);
+            return self.refused(ground::LAST_TICK, 0);
         }
         match self.choose() {
-            Err(k) => self.refused(4, k as u64),
+            Err(k) => self.refused(ground::UNSOUND, k as u64),
             Ok(w) => {
                 if self.overcounted() {
-                    return self.refused(4, 0);
+                    return self.refused(ground::UNSOUND, 0);
                 }
                 self.advance(w)
             }

@@ -11,7 +11,7 @@ ghost use Rattle.writer.specs.Laid.{Laid};
 ghost use Rattle.writer.specs.Measured.{MeasuredRecords};
 
 use card::{Card, Mark, SlotRecord, layout};
-use table::{Refusal, Request};
+use table::{Refusal, Request, ground};
 
 // R55: how many slots have a record on the card, and how long these records are.
 #[derive(Clone, Copy)]
@@ -20,7 +20,7 @@ struct Used {
     length: usize,
 }
 
-// Bytes from `at` on. What is put ends where the next byte goes, and that place is answered, here and below.
+// R59: puts bytes from `at` on, and answers where the next byte goes, as the functions below do.
 fn put(out: &mut [u8], at: usize, bytes: &[u8]) -> usize
     requires { at + length bytes.now ≤ length out.old }
     ensures { Laid out.old out.new at result bytes.now }
@@ -96,7 +96,7 @@ fn put_request(out: &mut [u8], at: usize, request: Request) -> usize
     put16(out, at, request.period)
 }
 
-// R23, R53, R55: one loop for all of it. The slots so far have `all` bytes; what is used goes up to the last that holds something.
+// R23, R53, R55: one loop for all of it. The records so far have `all` bytes; what is used goes up to the last that holds something.
 fn measure(card: &Card) -> Result<Used, Refusal>
     ensures { MeasuredRecords card.now.table.slots card.now.request.stretched result }
 {
@@ -107,7 +107,7 @@ fn measure(card: &Card) -> Result<Used, Refusal>
     };
     for (i, slot) in card.table.slots.iter().enumerate() {
         let Some(r) = SlotRecord::of(*slot, card.request.stretched[i]) else {
-            return Err(Refusal::new(3, i as u64));
+            return Err(Refusal::new(ground::WAITING, i as u64));
         };
         all += r.length();
         if !r.is_free() {
@@ -127,7 +127,7 @@ pub fn write(card: &Card, out: &mut [u8]) -> Result<usize, Refusal>
 {
     let used = measure(card)?;
     if out.len() < layout::CLOCK_LENGTH + used.length + layout::LAST_LENGTH {
-        return Err(Refusal::new(13, 0));
+        return Err(Refusal::new(ground::NO_ROOM, 0));
     }
     let at = put_clock(out, 0, card.table.clock);
     let at = put_records(out, at, card, used.slots);
