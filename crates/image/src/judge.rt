@@ -53,7 +53,7 @@ fn version_wrong(image: &[u8]) -> Option<usize>
     (image.first() != Some(&VERSION)).then_some(0)
 }
 
-// The nine bytes in front, at one look: whether it finds nothing wrong with them.
+// R83: the nine bytes in front, at one look: whether it finds nothing wrong with them. It says whether, and `slot_wrong` where.
 fn slot_right(s: &[u8]) -> bool
     requires { 9 ≤ length s.now }
     ensures { result ≡ true → slot_wrong s.now ≡ None }
@@ -67,7 +67,7 @@ fn slot_right(s: &[u8]) -> bool
     }
 }
 
-// Every slot at one look each.
+// R83: every slot at one look each.
 fn slots_right(image: &[u8]) -> bool
     requires { 153 ≤ length image.now }
     ensures { result ≡ true → slots_wrong 16 9 (drop 9 image.now) ≡ None }

@@ -20,7 +20,8 @@ struct Used {
     length: usize,
 }
 
-// R59: puts bytes from `at` on, and answers where the next byte goes, as the functions below do.
+// R59: puts bytes from `at` on, and answers where the next byte goes, as the functions below do. The two are no struct: the contracts would speak of a
+// reference within one, and each call has the place from the one before it as it is.
 fn put(out: &mut [u8], at: usize, bytes: &[u8]) -> usize
     requires { at + length bytes.now ≤ length out.old }
     ensures { Laid out.old out.new at result bytes.now }
