@@ -12,14 +12,15 @@ use crate::numbers::{eight_at, put_eight};
 use crate::pieces::Piece;
 use line::{Follows, Held, Slot};
 
-// The lowest two bytes of a number.
+// R81: the lowest two bytes of a number. No From narrows, and `try_from` would answer for what cannot be.
 fn lowest(v: u64) -> u16
     ensures { result ≡ v % 65536 }
 {
     (v % 65536) as u16
 }
 
-// R81: four numbers of two bytes as one of eight, the first lowest.
+// R81: four numbers of two bytes as one of eight, the first lowest. std makes bytes of a number, and no number of four; by its bytes they would be moved
+// one by one.
 fn four(a: u16, b: u16, c: u16, d: u16) -> u64
     ensures { le 8 result ≡ le 2 a ++ (le 2 b ++ (le 2 c ++ le 2 d)) }
 {
