@@ -54,7 +54,10 @@ pub(crate) fn answer(t: Table, q: Request) -> Result<u64, Refusal>
     }
     none_found(t.lowest(|_, s| s.waits()), ground::WAITING)?;
     none_found(t.fault(), ground::UNSOUND)?;
-    none_found(t.lowest(|i, s| s.bars(q.stretched[i])), ground::MISSTRETCHED)?;
+    none_found(
+        t.lowest(|i, s| s.bars(q.stretched[i])),
+        ground::MISSTRETCHED,
+    )?;
     if !line::need_fits(q.need, q.period) {
         return Err(Refusal::new(ground::MISFIT, 0));
     }

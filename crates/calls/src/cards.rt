@@ -20,7 +20,10 @@ pub fn answer(card: &[u8]) -> Result<u64, Refusal>
 pub fn put_line(a: Result<u64, Refusal>, out: &mut [u8]) -> Returned
     ensures { (result ≡ result_of (put_of (answer_line a) out.old)) × (out.new ≡ held_after (answer_line a) out.old) }
 {
-    crate::written(0, reply::put_reply(a, out).ok_or(Refusal::new(ground::NO_ROOM, 0)))
+    crate::written(
+        0,
+        reply::put_reply(a, out).ok_or(Refusal::new(ground::NO_ROOM, 0)),
+    )
 }
 
 // R65: the card's twin goes into the lent buffer, or the card is refused, or the buffer is too short, and then every byte of it stays.
