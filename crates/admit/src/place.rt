@@ -4,7 +4,7 @@ ghost use Rattle.table.specs.Words.{with_slots};
 ghost use Rattle.table.specs.Grounds.{asked};
 ghost use Rattle.table.specs.Admit.{new_line, admitted_at};
 
-use line::{Held, Slot};
+use line::{Held, Kind, Slot};
 use table::{Request, Table};
 
 // R42: every running line at its T'.
@@ -36,7 +36,7 @@ pub(crate) fn admitted(t: Table, q: Request, start: u64) -> Table
 {
     let new = new_line(q.need, q.period, (start - t.clock) as u16);
     let mut next = stretch_all(t, q);
-    if let Some(k) = t.lowest(|_, s| s.is_empty()) {
+    if let Some(k) = t.lowest(Kind::Free) {
         next.slots[k] = Slot::holding(new);
         next.had[k] = 0;
     }

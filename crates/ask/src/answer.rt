@@ -7,6 +7,7 @@ ghost use Rattle.ask.specs.Gathered.{gathered_lines, Room, answer_from, unless_f
 
 use crate::gather::Gathered;
 use decide::NoStart;
+use line::Kind;
 use table::{Refusal, Request, Table, ground};
 
 // R7, R21: the last clock that may ask, 2^48 − 65,536
@@ -49,15 +50,12 @@ pub(crate) fn answer(t: Table, q: Request) -> Result<u64, Refusal>
     if t.clock > LATEST {
         return Err(Refusal::new(ground::LATE, 0));
     }
-    if t.lowest(|_, s| s.is_empty()).is_none() {
+    if t.lowest(Kind::Free).is_none() {
         return Err(Refusal::new(ground::FULL, 0));
     }
-    none_found(t.lowest(|_, s| s.waits()), ground::WAITING)?;
+    none_found(t.lowest(Kind::Unstarted), ground::WAITING)?;
     none_found(t.fault(), ground::UNSOUND)?;
-    none_found(
-        t.lowest(|i, s| s.bars(q.stretched[i])),
-        ground::MISSTRETCHED,
-    )?;
+    none_found(t.lowest_barred(q), ground::MISSTRETCHED)?;
     if !line::need_fits(q.need, q.period) {
         return Err(Refusal::new(ground::MISFIT, 0));
     }

@@ -6,6 +6,7 @@ ghost use Rattle.calls.specs.Results.{granted_as};
 ghost use Rattle.calls.specs.Tables.{changed, asked_as, admitted_in, stepped_as, stepped_in, left_as, left_in, ReadyFor, all_counts};
 
 use crate::{Returned, slot_number};
+use line::Kind;
 use table::{Acted, Refusal, Request, Table};
 
 // R86: the start and the new line's slot, or the refusal.
@@ -13,7 +14,7 @@ fn asked(t: Table, a: Result<u64, Refusal>) -> Returned
     ensures { result ≡ asked_as t a }
 {
     match a {
-        Ok(start) => Returned::granted(slot_number(t.lowest(|_, s| s.is_empty())), start),
+        Ok(start) => Returned::granted(slot_number(t.lowest(Kind::Free)), start),
         Err(x) => Returned::from(x),
     }
 }

@@ -28,7 +28,7 @@ use Rattle.card.specs.declared.Card.{Card}
 use Rattle.card.specs.Card.{card_of}
 use Rattle.card.specs.Reading.{read_of}
 use Rattle.card.specs.Twin.{turned_of}
-use Rattle.card.specs.Answers.{handed, said_read, write_of, filled}
+use Rattle.card.specs.Answers.{handed, reading_with, said_read, write_of, filled}
 use Rattle.card.proofs.Answers.{said_handed, one_reading, one_writing}
 use Rattle.driver.proofs.Keeps.{refused_drive_keeps, drive_determined}
 use Rattle.reply.specs.Line.{answer_line, laid, fits}
@@ -72,6 +72,7 @@ fixed_answer = record {
   drive = λ t x y m n p q. drive_determined t x y m n p q;
   ready_word = λ t. word_unique t.slots;
   lamp = λ n. by_equation _;
+  try_read = λ card. by_equation _;
   read = one_reading;
   write = one_writing;
   reply_to = λ a. reply_settled (answer_line a);
@@ -79,6 +80,7 @@ fixed_answer = record {
   answer_card = λ card l. by_equations _ _;
   rewrite_card = λ card l. by_equations _ _;
   run_card = λ card ticks. by_equation _;
+  try_load = λ l. by_equation _;
   load = λ l. by_equation _;
   store = λ t l x y m n p q. (p.0 ∙ sym q.0, p.1 ∙ sym q.1);
   empty_image = λ l. by_equations _ _;
@@ -122,6 +124,11 @@ leave_refused (Err y) x e = let z : y ≡ x = cc in ap Err z
 left_keeps : (t : Table) (n : ℕ) (r : Acted ℕ) (x : Refusal) → r ≡ leave_of t n → r.answer ≡ Err x → r.table ≡ t
 left_keeps t n r x e f =
     ap (λ (s : Acted ℕ). s.table) e ∙ leave_keeps t x n (leave_refused (leave_of t n).answer x (ap (λ (s : Acted ℕ). s.answer) (sym e) ∙ f))
+
+-- what is read with its word is refused by the reader's refusal
+read_refused : (w : ℕ) (s : Said Card) (x : Refusal) → reading_with w s ≡ Err x → s ≡ Err x
+read_refused w (Ok c) x e = cc
+read_refused w (Err y) x e = let z : y ≡ x = cc in ap Err z
 
 drive_keeps : (t : Table) (o : Said (Option ℕ)) (u : Table) (x : Refusal) → Drives t o u → o ≡ Err x → u ≡ t
 drive_keeps t o u x h e = h.1 ∙ refused_drive_keeps t x (step_refused (step_of t).answer x ((sym h.0) ∙ e))
@@ -194,12 +201,14 @@ refusal_keeps = record {
   step = step_keeps;
   leave = left_keeps;
   drive = drive_keeps;
+  try_read = λ card s x h e. read_refused (turned_of card) (read_of card) x (sym h ∙ e);
   read = λ card c x h e.
       let f : read_of card ≡ Err x = sym (said_handed (turned_of card) (read_of card)) ∙ ap said_read (sym h) ∙ e in
       let g : c ≡ handed 0 (Err x) = h ∙ ap (handed (turned_of card)) f in
       (f, ap (λ (y : ReadCard). y.card.table) g, ap (λ (y : ReadCard). y.card.request) g, ap (λ (y : ReadCard). y.turned) g);
   write = λ t q l a m x h e. h.1 ∙ ap (filled (card_of t q) l) (sym h.0 ∙ e);
   put_reply = λ a l w m h e. h.1 ∙ put_kept (fits (answer_line a) l) (answer_line a) l (sym h.0 ∙ e);
+  try_load = λ l s x h e. sym h ∙ e;
   load = λ l y x h e.
       let f : load_of l ≡ Err x = sym (said_loaded_lem (load_of l)) ∙ ap said_loaded (sym h) ∙ e in
       (f, rw h (ap (λ (s : Said Table). (handed_out s).table) f));

@@ -23,15 +23,16 @@ use Rattle.table.specs.Cases.{Case, cases, case_a, case_b, case_c, case_d, case_
 use Rattle.table.specs.Faults.{closed_start, floor_start, QuietAtEnds}
 use Rattle.table.proofs.Faults.{closed_formula_b, floor_d, only_ends_m}
 use Rattle.card.specs.declared.ReadCard.{ReadCard}
+use Rattle.card.specs.declared.Reading.{Reading}
 use Rattle.card.specs.Bytes.{marked}
 use Rattle.card.specs.declared.Card.{Card}
 use Rattle.card.specs.Card.{card_of, carrying}
 use Rattle.card.specs.Reading.{record_of, records_of, read_with, read_of}
 use Rattle.card.specs.Twin.{turned_of}
-use Rattle.card.specs.Answers.{handed, length_of, buffer_of}
+use Rattle.card.specs.Answers.{handed, reading_with, length_of, buffer_of}
 use Rattle.theory.proofs.Cases.{cases_answer}
 use Rattle.theory.proofs.Unique.{answers_unique}
-use Rattle.promises.specs.Excluded.{MeetsAsk, MeetsStep, MeetsLeave, RefusesEverything, SaysTheClock, LeavesTheTable, OnlyMovesTheClock, OnlySaysSo, DropsAtOnce, MeetsRead, MeetsWrite, OneRequest, WritesNothing}
+use Rattle.promises.specs.Excluded.{MeetsAsk, MeetsStep, MeetsLeave, RefusesEverything, SaysTheClock, LeavesTheTable, OnlyMovesTheClock, OnlySaysSo, DropsAtOnce, MeetsRead, MeetsTryRead, MeetsWrite, OneRequest, OneReading, WritesNothing}
 
 -- whatever meets ask's contract gives each case its answer
 pub right_in : (f : Table → Request → Said ℕ) → MeetsAsk f → (c : Case) → Answers c.table c.request c.answer
@@ -146,6 +147,15 @@ no_reader_gives_one_request f m r =
     let x : (f a).card.request.need ≡ 1 = ap (λ (c : ReadCard). c.card.request.need) (m a) ∙ ap (need (turned_of a)) reads_a in
     let y : (f b).card.request.need ≡ 3 = ap (λ (c : ReadCard). c.card.request.need) (m b) ∙ ap (need (turned_of b)) reads_c in
     let z : (f a).card.request.need ≡ (f b).card.request.need = ap (λ (q : Request). q.need) (r a b _ _ reads_a reads_c) in
+    omega arith
+
+-- R56: the same of try_read
+pub no_try_read_gives_one_request : (f : List ℕ → Said Reading) → MeetsTryRead f → OneReading f → ⊥
+no_try_read_gives_one_request f m r =
+    let a : List ℕ = card_of case_a.table case_a.request in
+    let b : List ℕ = card_of case_c.table case_c.request in
+    let z = r a b _ _ (m a ∙ ap (reading_with (turned_of a)) reads_a) (m b ∙ ap (reading_with (turned_of b)) reads_c) in
+    let e : ◌≡◌ {A = ℕ} 1 3 = ap (λ (q : Request). q.need) z in
     omega arith
 
 -- the card of an empty table fits sixteen bytes, and its first is not 0

@@ -14,6 +14,7 @@ use Rattle.board.specs.Board.{ReadyWord, blinks}
 use Rattle.ask.specs.Asked.{Asked}
 use Rattle.admit.specs.Admits.{Admits}
 use Rattle.card.specs.declared.ReadCard.{ReadCard}
+use Rattle.card.specs.declared.Reading.{Reading}
 use Rattle.card.specs.Reading.{read_of}
 use Rattle.card.specs.Answers.{said_read, zero_request}
 use Rattle.reply.specs.Line.{answer_line, Replied}
@@ -24,7 +25,7 @@ use Rattle.calls.specs.declared.Returned.{Returned}
 use Rattle.calls.specs.Cards.{line_for, put_of, rewrite_of, run_of}
 use Rattle.calls.specs.Tables.{all_counts}
 use Rattle.calls.specs.Moves.{write_card_for, read_card_for}
-use Rattle.promises.specs.Operations.{Steps, LetsGo, Drives, Reads, Writes, Puts, Loads, Stores, AnswersCard, Rewrites, RunsCard, Empties, AsksImage, AdmitsImage, StepsImage, LetsGoImage, ReadiesImage, CountsImage, WritesImage, ReadsImage}
+use Rattle.promises.specs.Operations.{Steps, LetsGo, Drives, TriesRead, Reads, Writes, Puts, TriesLoad, Loads, Stores, AnswersCard, Rewrites, RunsCard, Empties, AsksImage, AdmitsImage, StepsImage, LetsGoImage, ReadiesImage, CountsImage, WritesImage, ReadsImage}
 
 -- ---- one fixed answer
 
@@ -51,6 +52,7 @@ pub record FixedAnswer : Type 0 where
   pub drive : (t : Table) → Both (Drives t)
   pub ready_word : (t : Table) → One (ReadyWord t.slots)
   pub lamp : (n : ℕ) → One (λ (b : ℕ). b ≡ blinks n)
+  pub try_read : (card : List ℕ) → One (TriesRead card)
   pub read : (card : List ℕ) → One (Reads card)
   pub write : (t : Table) (q : Request) (l : List ℕ) → Both (Writes t q l)
   pub reply_to : (a : Said ℕ) → One (Replied (answer_line a))
@@ -58,6 +60,7 @@ pub record FixedAnswer : Type 0 where
   pub answer_card : (card l : List ℕ) → Both (AnswersCard card l)
   pub rewrite_card : (card l : List ℕ) → Both (Rewrites card l)
   pub run_card : (card : List ℕ) (ticks : ℕ) → One (RunsCard card ticks)
+  pub try_load : (l : List ℕ) → One (TriesLoad l)
   pub load : (l : List ℕ) → One (Loads l)
   pub store : (t : Table) (l : List ℕ) → Both (Stores t l)
   pub empty_image : (l : List ℕ) → Both (Empties l)
@@ -82,12 +85,14 @@ pub record RefusalKeeps : Type 0 where
   pub step : (t : Table) (s : Acted (Option ℕ)) (x : Refusal) → Steps t s → s.answer ≡ Err x → s.table ≡ t
   pub leave : (t : Table) (n : ℕ) (r : Acted ℕ) (x : Refusal) → LetsGo t n r → r.answer ≡ Err x → r.table ≡ t
   pub drive : (t : Table) (o : Said (Option ℕ)) (u : Table) (x : Refusal) → Drives t o u → o ≡ Err x → u ≡ t
-  -- the reader is lent nothing to change: it hands out the empty table, zeros and no slot, with the refusal
+  -- the reader is lent nothing to change: it hands out nothing beside the refusal, or the empty table, zeros and no slot
+  pub try_read : (card : List ℕ) (s : Said Reading) (x : Refusal) → TriesRead card s → s ≡ Err x → read_of card ≡ Err x
   pub read : (card : List ℕ) (c : ReadCard) (x : Refusal) → Reads card c → said_read c ≡ Err x
       → (read_of card ≡ Err x) × (c.card.table ≡ empty_table) × (c.card.request ≡ zero_request) × (c.turned ≡ 0)
   pub write : (t : Table) (q : Request) (l : List ℕ) (a : Said ℕ) (m : List ℕ) (x : Refusal) → Writes t q l a m → a ≡ Err x → m ≡ l
   pub put_reply : (a : Said ℕ) (l : List ℕ) (w : Option ℕ) (m : List ℕ) → Puts a l w m → w ≡ None → m ≡ l
   -- loading is lent nothing to change either
+  pub try_load : (l : List ℕ) (s : Said Table) (x : Refusal) → TriesLoad l s → s ≡ Err x → load_of l ≡ Err x
   pub load : (l : List ℕ) (y : Loaded) (x : Refusal) → Loads l y → said_loaded y ≡ Err x → (load_of l ≡ Err x) × (y.table ≡ empty_table)
   pub store : (t : Table) (l : List ℕ) (a : Said ℕ) (m : List ℕ) (x : Refusal) → Stores t l a m → a ≡ Err x → m ≡ l
   pub answer_card : (card l : List ℕ) (r : Returned) (m : List ℕ) → AnswersCard card l r m → (r.number ≡ 0 → ⊥) → m ≡ l

@@ -15,10 +15,11 @@ use Rattle.table.specs.Grounds.{asked, Answers}
 use Rattle.table.specs.Step.{step_of}
 use Rattle.table.specs.Leave.{leave_of}
 use Rattle.card.specs.declared.ReadCard.{ReadCard}
+use Rattle.card.specs.declared.Reading.{Reading}
 use Rattle.card.specs.declared.Card.{Card}
 use Rattle.card.specs.Reading.{read_of}
 use Rattle.card.specs.Twin.{turned_of}
-use Rattle.card.specs.Answers.{handed, buffer_of}
+use Rattle.card.specs.Answers.{handed, reading_with, buffer_of}
 
 -- R41: what ask's contract says of a function
 abbrev pub MeetsAsk : (Table → Request → Said ℕ) → Type 0
@@ -35,6 +36,10 @@ MeetsLeave f = (t : Table) (n : ℕ) → f t n ≡ leave_of t n
 -- R56: what the reader's says
 abbrev pub MeetsRead : (List ℕ → ReadCard) → Type 0
 MeetsRead f = (l : List ℕ) → f l ≡ handed (turned_of l) (read_of l)
+
+-- R56: what try_read's says
+abbrev pub MeetsTryRead : (List ℕ → Said Reading) → Type 0
+MeetsTryRead f = (l : List ℕ) → f l ≡ reading_with (turned_of l) (read_of l)
 
 -- R59: what the writer's says of the lent buffer
 abbrev pub MeetsWrite : (Table → Request → List ℕ → List ℕ) → Type 0
@@ -96,6 +101,10 @@ DropsAtOnce f = (t : Table) (n k : ℕ) → (f t n).answer ≡ Ok k → at (f t 
 -- R56: it hands out one and the same request for all cards that read
 abbrev pub OneRequest : (List ℕ → ReadCard) → Type 0
 OneRequest f = (l m : List ℕ) (c d : Card) → read_of l ≡ Ok c → read_of m ≡ Ok d → (f l).card.request ≡ (f m).card.request
+
+-- R56: it reads one and the same request from all cards that read
+abbrev pub OneReading : (List ℕ → Said Reading) → Type 0
+OneReading f = (l m : List ℕ) (x y : Reading) → f l ≡ Ok x → f m ≡ Ok y → x.card.request ≡ y.card.request
 
 -- R59: it leaves every buffer as it was
 abbrev pub WritesNothing : (Table → Request → List ℕ → List ℕ) → Type 0

@@ -8,9 +8,10 @@ use Rattle.table.specs.Words.{empty_table}
 use Rattle.table.specs.Step.{step_of}
 use Rattle.table.specs.Leave.{leave_of}
 use Rattle.card.specs.declared.ReadCard.{ReadCard}
+use Rattle.card.specs.declared.Reading.{Reading}
 use Rattle.card.specs.Reading.{read_of}
 use Rattle.card.specs.Twin.{turned_of}
-use Rattle.card.specs.Answers.{handed, write_of, buffer_of}
+use Rattle.card.specs.Answers.{handed, reading_with, write_of, buffer_of}
 use Rattle.driver.specs.Driven.{driven_of}
 use Rattle.reply.specs.Line.{answer_line, length_for, held_after}
 use Rattle.image.specs.declared.Loaded.{Loaded}
@@ -34,6 +35,10 @@ LetsGo t n r = r ≡ leave_of t n
 abbrev pub Drives : Table → Said (Option ℕ) → Table → Type 0
 Drives t o u = (o ≡ (step_of t).answer) × (u ≡ driven_of t)
 
+-- R56: try_read, by which every program and every call over the boundary reads a card
+abbrev pub TriesRead : List ℕ → Said Reading → Type 0
+TriesRead card s = s ≡ reading_with (turned_of card) (read_of card)
+
 -- R56: read
 abbrev pub Reads : List ℕ → ReadCard → Type 0
 Reads card c = c ≡ handed (turned_of card) (read_of card)
@@ -45,6 +50,10 @@ Writes t q l a m = (a ≡ write_of t q (length l)) × (m ≡ buffer_of t q l)
 -- R62: put_reply answers w and leaves the bytes m in the buffer
 abbrev pub Puts : Said ℕ → (buffer : List ℕ) → Option ℕ → List ℕ → Type 0
 Puts a l w m = (w ≡ length_for (answer_line a) l) × (m ≡ held_after (answer_line a) l)
+
+-- R83: try_load, by which every call over the boundary loads an image
+abbrev pub TriesLoad : List ℕ → Said Table → Type 0
+TriesLoad l s = s ≡ load_of l
 
 -- R83: load
 abbrev pub Loads : List ℕ → Loaded → Type 0
