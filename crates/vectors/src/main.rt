@@ -2,12 +2,13 @@
 // A card is its length in two bytes, low byte first, and that many bytes; the length 65,535 ends the set.
 #![tactic(auto)]
 
-ghost use Rattle.std.specs.Prelude.{◌≤◌};
+ghost use Rattle.std.specs.Prelude.{◌≡◌, ◌+◌, ◌≤◌};
 
 use std::io::Read;
 
 // The lines that have not been written yet, gathered in fixed memory: with a write for each line a run took a quarter more time to a file, and near twice
 // as long to a pipe.
+#[derive(Drop)]
 struct Lines {
     bytes: [u8; 4096],
     len: usize,
@@ -15,11 +16,18 @@ struct Lines {
 }
 
 impl Lines {
-    // The line of a card's answer, behind those before it. Where the longest line would not fit any more, they are written first.
-    fn add(&mut self, to: &impl Print, reply: reply::Reply) {
+    // Where the longest line would not fit any more, the lines are written.
+    fn make_room(&mut self, to: &impl Print)
+        ensures { self.new.len + 72 ≤ 4096 }
+    {
         if self.bytes.len() - self.len < 72 {
             self.write(to);
         }
+    }
+
+    // The line of a card's answer, behind those before it.
+    fn add(&mut self, to: &impl Print, reply: reply::Reply) {
+        self.make_room(to);
         let line = reply.line();
         let end = self.len + line.len();
         self.bytes[self.len..end].copy_from_slice(line);
@@ -27,7 +35,9 @@ impl Lines {
     }
 
     // Writes them all.
-    fn write(&mut self, to: &impl Print) {
+    fn write(&mut self, to: &impl Print)
+        ensures { self.new.len ≡ 0 }
+    {
         let _ = to.write_all(&self.bytes[..self.len]);
         self.len = 0;
     }
