@@ -1,5 +1,5 @@
 -- `admitted` meets its contract: the new line stands in the slot that the search named.
-use mathlib.Core.Path.{◌≡◌, refl, sym, ◌∙◌}
+use mathlib.Core.Path.{refl, sym, ◌∙◌}
 use native.Mathlib.Omega.{arith}
 use Rattle.admit.proofs.Placing.{put_nowhere, put_at_lem, found_inside}
 use Rattle.admit.proofs.place.admitted.Goals as goal

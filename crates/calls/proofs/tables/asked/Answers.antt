@@ -1,6 +1,6 @@
 -- A start has the lowest empty slot beside it.
 use Prim.Native.Nat.{ℕ}
-use mathlib.Core.Path.{◌≡◌, sym, ap, ◌∙◌}
+use mathlib.Core.Path.{sym, ap, ◌∙◌}
 use Rattle.table.specs.Words.{Said, slot_number}
 use Rattle.calls.specs.Results.{granted_as}
 use Rattle.calls.specs.Tables.{asked_as}
