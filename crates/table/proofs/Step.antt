@@ -6,9 +6,9 @@ use mathlib.Core.Bool.{Bool, true, false}
 use mathlib.Core.List.{List, [], ◌∷◌, map}
 use native.Mathlib.Omega.{arith}
 use native.Mathlib.Nat.{suc_inj}
-use borrow.Author.Tests.{eqb-true, eqb-false}
+use borrow.Author.Tests.{le-leb, lt-leb, eqb-true, eqb-false, eq-eqb, ne_eqb}
 use lib.Dec.{leb, eqb}
-use lib.ListN.{length, set, length-set}
+use lib.ListN.{length, get_or, set, length-set}
 use lib.Seq.{get_or-set_same, get_or-set_other}
 use Rattle.line.specs.declared.Slot.{Slot}
 use Rattle.table.specs.declared.Table.{Table}
@@ -20,6 +20,7 @@ use Rattle.table.specs.Counts.{accounted, fault, counting, settle, settling}
 use Rattle.table.proofs.Acts.{Keeps, keeps_granted, keeps_refused, keeps_either, keeps_unless}
 use Rattle.table.specs.Step.{choose, serve, served_at, pass, departs_in, ticked, advance, step_of}
 use Rattle.line.specs.Tick.{served_slot, passed_slot, short, departs}
+use Rattle.line.proofs.Read.{read_any}
 use Rattle.line.proofs.Loops.{Mapping, map_start, map_on, map_end}
 use Rattle.line.proofs.Search.{Looking, look_start, look_on, look_stop, look_end}
 use Rattle.table.proofs.Counts.{settling_stay, settling_go, settling_accounted, tick_within}
@@ -57,6 +58,16 @@ clocked k t = record { clock = k; slots = t.slots; had = t.had; idle = t.idle; d
 pub length_serve : (o : Option ℕ) (l : List Slot) → length (serve o l) ≡ length l
 length_serve None l = refl
 length_serve (Some k) l = length-set l k (served_slot (slot_at l k))
+
+-- slot i, which holds s, and the slot that the code names
+module _ {w : Option ℕ} {k i : ℕ} (s : Slot) (e : w ≡ Some k) where
+  -- R45: it is named
+  pub served_here : k ≡ i → served_slot s ≡ served_at w i s
+  served_here z = rw (e, eq-eqb k i z)
+
+  -- R45: another is named
+  pub served_other : (k ≡ i → ⊥) → s ≡ served_at w i s
+  served_other n = rw (e, ne_eqb k i n)
 
 -- R45: slot i of those among which one is served
 at_serve : (o : Option ℕ) (l : List Slot) (i : ℕ) → i < length l → slot_at (serve o l) i ≡ served_at o i (slot_at l i)
@@ -96,9 +107,11 @@ module _ {o : Option ℕ} {t v : Table} {i : ℕ} (x : Ticking o t v i) where
   inside h = omega (arith, x.later.long, length_serve o t.slots)
 
   -- what slot i holds after the slot named got the tick, s, with b for the test's answer
-  module _ {s : Slot} {b : Bool} (h : i < 16) (g : s ≡ served_at o i (slot_at t.slots i)) (e : b ≡ short s.held) where
+  module _ (d : Slot) {s : Slot} {b : Bool} (h : i < 16) (g : s ≡ served_at o i (get_or t.slots i d)) (e : b ≡ short s.held) where
     tick_here : s ≡ slot_at (serve o t.slots) i
-    tick_here = g ∙ sym (at_serve o t.slots i (omega (arith, x.later.long)))
+    tick_here =
+        let n : i < length t.slots = omega (arith, x.later.long) in
+        g ∙ ap (served_at o i) (read_any t.slots i d n) ∙ sym (at_serve o t.slots i n)
 
     tick_sees : short (at (serve o t.slots) i) ≡ b
     tick_sees = sym (e ∙ ap (λ (y : Slot). short y.held) tick_here)
@@ -113,7 +126,7 @@ module _ {o : Option ℕ} {t v : Table} {i : ℕ} (x : Ticking o t v i) where
       put = with_slots v (set v.slots i r)
 
       later_on : Mapping (λ k s. passed_slot (slot_at (serve o t.slots) k)) 16 t.slots (set v.slots i r) (i + 1)
-      later_on = map_on x.later empty h (f ∙ ap passed_slot tick_here)
+      later_on = map_on x.later d h (f ∙ ap passed_slot tick_here)
 
       fine_on : Looking (λ k. short (at (serve o t.slots) k)) (length (serve o t.slots)) (i + 1)
       fine_on = look_on x.fine (inside h) (tick_sees ∙ z)
@@ -167,6 +180,25 @@ module _ (t : Table) (w : Option ℕ) where
   pub advance_fine : {next : Table} → (lowest_of short (serve w t.slots) ≡ None) × (next ≡ (ticked w t).table)
       → ◌≡◌ {A = Acted (Option ℕ)} (record { table = next; answer = Ok w }) (advance w t)
   advance_fine e = ap (λ (x : Table). let s : Acted (Option ℕ) = record { table = x; answer = Ok w } in s) e.1 ∙ advance_by None e.0
+
+module _ (t : Table) where
+  -- R35: at the last tick the step is refused with 15
+  pub step_late : 2 ^ 48 ≤ t.clock → refused_act t 15 0 ≡ step_of t
+  unfolding step_of
+  step_late h = rw (le-leb (2 ^ 48) t.clock h)
+
+  module _ (early : t.clock < 2 ^ 48) where
+    step_by : (o : Option ℕ) → fault t ≡ o → act_unless o 4 t (advance (choose t) t) ≡ step_of t
+    unfolding step_of
+    step_by o e = rw (lt-leb (2 ^ 48) t.clock early) (ap (λ (p : Option ℕ). act_unless p 4 t (advance (choose t) t)) (sym e))
+
+    -- R24: with an unsound line, or too many counts, it is refused with 4 there
+    pub step_faulty : {k : ℕ} → fault t ≡ Some k → refused_act t 4 k ≡ step_of t
+    step_faulty {k} e = step_by (Some k) e
+
+    -- R44: else the tick goes to the choice
+    pub step_fine : (w : Option ℕ) → fault t ≡ None → w ≡ choose t → advance w t ≡ step_of t
+    step_fine w e g = ap (λ (o : Option ℕ). advance o t) g ∙ step_by None e
 
 module _ (t : Table) (x : Refusal) where
   advance_keeps : (o : Option ℕ) → Keeps t x (advance o t)

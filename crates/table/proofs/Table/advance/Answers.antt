@@ -11,7 +11,7 @@ pub returns-then-short : goal.returns-then-short
 returns-then-short c =
     let a = c.args in
     c.refused.ensures
-    ∙ advance_short a.self a.w (tick_short c.loop-i.invariant c.loop-i-test.true c.served-s.ensures c.short.ensures c.if-short.true)
+    ∙ advance_short a.self a.w (tick_short c.loop-i.invariant _ c.loop-i-test.true c.served-s.ensures c.short.ensures c.if-short.true)
 
 pub settled-next-requires : goal.settled-next-requires
 settled-next-requires c =
@@ -21,8 +21,8 @@ settled-next-requires c =
 pub loop-i-preserved : goal.loop-i-preserved
 loop-i-preserved c =
     elim c.if-departs.branch [
-      | then-departs w ↦ rw w.next-is (tick_off c.loop-i.invariant c.loop-i-test.true c.served-s.ensures c.short.ensures c.if-short.false c.passed.ensures c.departs.ensures w.if-departs.true w.settled-next.ensures)
-      | else-departs w ↦ rw w.next-is (tick_on c.loop-i.invariant c.loop-i-test.true c.served-s.ensures c.short.ensures c.if-short.false c.passed.ensures c.departs.ensures w.if-departs.false)
+      | then-departs w ↦ rw w.next-is (tick_off c.loop-i.invariant _ c.loop-i-test.true c.served-s.ensures c.short.ensures c.if-short.false c.passed.ensures c.departs.ensures w.if-departs.true w.settled-next.ensures)
+      | else-departs w ↦ rw w.next-is (tick_on c.loop-i.invariant _ c.loop-i-test.true c.served-s.ensures c.short.ensures c.if-short.false c.passed.ensures c.departs.ensures w.if-departs.false)
     ]
 
 pub returns : goal.returns
