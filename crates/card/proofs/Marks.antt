@@ -5,7 +5,7 @@ use mathlib.Core.Bool.{Bool, true, false, ◌&&◌}
 use Prim.Native.Nat.{ℕ, ◌≤◌, ◌<◌}
 use native.Mathlib.Omega.{arith}
 use native.Mathlib.Nat.{le_of_suc-le-suc}
-use lib.ListN.{length, drop}
+use lib.ListN.{length, drop, get_or}
 use lib.Dec.{eqb}
 use borrow.Author.Tests.{eqb-true, eqb-false, eq-eqb, ne_eqb}
 use Rattle.std.specs.List.{starts_with}
@@ -42,6 +42,20 @@ unfolding marked
 marked_short [] l h = absurd (omega arith)
 marked_short (a ∷ m) [] h = refl
 marked_short (a ∷ m) (b ∷ l) h = ap (both (eqb b a)) (marked_short m l (le_of_suc-le-suc h)) ∙ both_false (eqb b a)
+
+-- R52: another first byte is no such mark
+pub marked_not : (m l : List ℕ) → 0 < length m → (get_or l 0 0 ≡ get_or m 0 0 → ⊥) → marked m l ≡ false
+unfolding marked
+marked_not [] l h n = absurd (omega arith)
+marked_not (a ∷ m) [] h n = refl
+marked_not (a ∷ m) (b ∷ l) h n = ap (λ (t : Bool). both t (marked m l)) (ne_eqb b a n)
+
+-- where the first of two bytes is right, the second decides
+pub marked_first : (a b : ℕ) (l : List ℕ) → 2 ≤ length l → get_or l 0 0 ≡ a → marked (a ∷ b ∷ []) l ≡ eqb (get_or l 1 0) b
+unfolding marked
+marked_first a b [] h n = absurd (omega arith)
+marked_first a b (x ∷ []) h n = absurd (omega arith)
+marked_first a b (x ∷ y ∷ l) h n = rw (eq-eqb x a n) (grind arith)
 
 same_test : (a b : ℕ) → eqb a b ≡ eqb b a
 same_test a b = go (eqb b a) refl

@@ -4,6 +4,7 @@ use mathlib.Core.List.{List, ◌∷◌, ◌++◌}
 use Prim.Native.Nat.{ℕ, zero, suc, ◌+◌, ◌*◌, ◌/◌, ◌%◌, ◌^◌, ◌≤◌, ◌<◌}
 use native.Mathlib.Omega.{arith}
 use native.Mathlib.Nat.{add-zero, pow-succ', pow-suc, mul-add-mod_self_left, div-div-eq-div-mul}
+use native.Mathlib.Numerals.{add-one}
 use lib.ListN.{length, drop, get_or}
 use lib.Seq.{drop-cons, get_or-drop}
 use Rattle.std.specs.Int.{w64, bytes_low_first, to_le_bytes}
@@ -51,6 +52,10 @@ more b v m w h k e = omega arith
 pub value_lt : (n : ℕ) (l : List ℕ) (at : ℕ) → Bytes l → value n l at < 256 ^ n
 value_lt zero l at b = omega arith
 value_lt (suc n) l at b = more (get_or l at 0) (value n l (suc at)) (256 ^ n) (256 ^ suc n) (b at) (value_lt n l (suc at) b) (pow-succ' 256 n)
+
+-- two bytes, as the reader adds them
+pub value_two : (l : List ℕ) (at : ℕ) → get_or l at 0 + get_or l (at + 1) 0 * 256 ≡ value 2 l at
+value_two l at = let e : get_or l (at + 1) 0 ≡ get_or l (suc at) 0 = ap (λ (i : ℕ). get_or l i 0) (add-one at) in omega arith
 
 -- R52: the bytes as std makes them
 bytes_low : (k i n v : ℕ) → v ≡ n / 256 ^ i → bytes_low_first i k n ≡ le k v

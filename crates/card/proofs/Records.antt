@@ -206,6 +206,16 @@ sees_last left c n x hc hn =
     let en : value 2 l period_at ≡ n = value_le 2 n [] hn in
     at_last left l (marked_here RQ (drop mark_length l)) ∙ last_whole l (omega arith) ∙ ap₂ (λ (c n : ℕ). Some (Last c n)) ec en
 
+-- a record made of numbers that were got
+pub line_of : (m : Mark) (l : List ℕ) → line_length ≤ length l → (C T t x y : ℕ)
+    → C ≡ value 2 l need_at → T ≡ value 2 l period_at → t ≡ value 2 l stretched_at → x ≡ value 2 l fourth_at → y ≡ value 2 l fifth_at
+    → Some (Slot (record_with m C T t x y)) ≡ line_record_of m l
+line_of m l h C T t x y e1 e2 e3 e4 e5 = rw (e1, e2, e3, e4, e5) (sym (line_whole m l h))
+
+-- the same of the new line
+pub last_of_lem : (l : List ℕ) → last_length ≤ length l → (c n : ℕ) → c ≡ value 2 l need_at → n ≡ value 2 l period_at → Some (Last c n) ≡ last_of l
+last_of_lem l h c n e1 e2 = rw (e1, e2) (sym (last_whole l h))
+
 -- R53: how long a slot's record is
 pub bytes_length : (r : SlotRecord) → length (record_bytes r) ≡ record_length r.mark
 bytes_length r = go r.mark r

@@ -1,6 +1,6 @@
 -- A slot and its record: what a card carries of a slot, and which slots are used.
 use Rattle.std.specs.Prelude.{Some}
-use mathlib.Core.Path.{◌≡◌, refl, ap₂}
+use mathlib.Core.Path.{◌≡◌, refl, sym, ap, ap₂, ◌∙◌}
 use mathlib.Core.Bool.{Bool, true, false}
 use mathlib.Core.List.{List, [], ◌∷◌, map}
 use Prim.Native.Nat.{ℕ, zero, suc, ◌+◌, ◌*◌}
@@ -77,6 +77,10 @@ free_holds r = go r.mark
     go Mark.TB = refl
     go Mark.TF = refl
     go Mark.TL = refl
+
+-- R53, R58: the slot that a record stands for, by what its mark says that the slot holds
+pub slot_under : (r : SlotRecord) (m : Mark) → r.mark ≡ m → {s : Slot} → s ≡ holding (held_under m r) → s ≡ slot_for r
+slot_under r m e f = f ∙ sym (ap (λ (x : Mark). holding (held_under x r)) e)
 
 -- ---- used slots, by the test alone
 
