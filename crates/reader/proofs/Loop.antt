@@ -10,6 +10,7 @@ use lib.ListN.{length, take, drop, set, replicate, length-drop, length-map, leng
 use lib.Seq.{take-suc-set, drop-set-lt, drop-drop}
 use lib.Dec.{eqb}
 use lib.Bits.{bit_or, or_shifted_r}
+use borrow.Author.Tests.{eq-eqb, ne_eqb}
 use mir.Val.{bool_byte}
 use Rattle.line.specs.Slots.{pick, empty}
 use Rattle.line.proofs.Bits.{or_bit}
@@ -61,6 +62,22 @@ rest_next : (n : ℕ) (rs : List SlotRecord) (i : ℕ) → 0 < n - i → drop i 
 rest_next n rs i h e =
     let p : n - i ≡ suc (n - (i + 1)) = omega arith in
     sym (drop-drop 1 i rs) ∙ ap (drop 1) (e ∙ ap (λ (k : ℕ). replicate k free) p)
+
+-- RQ at an offset of a card that is len bytes long
+module _ {A : Type 0} (gap : Bool) (at len : ℕ) (c : A) where
+  -- R57: TF stands before RQ
+  pub closing_gap : gap ≡ true → closing gap at (len - at) c ≡ broken at
+  closing_gap g = ap (λ (o : Bool). closing o at (len - at) c) g
+
+  -- R57: RQ is not the end of the card
+  pub closing_more : gap ≡ false → (len ≡ at + last_length → ⊥) → closing gap at (len - at) c ≡ broken (at + last_length)
+  closing_more g h =
+      ap₂ (λ (o u : Bool). pick o (broken at) (pick u (Ok c) (broken (at + last_length)))) g (ne_eqb (len - at) last_length (λ e. h (omega arith)))
+
+  -- R57: RQ ends the card
+  pub closing_good : gap ≡ false → len ≡ at + last_length → closing gap at (len - at) c ≡ Ok c
+  closing_good g h =
+      ap₂ (λ (o u : Bool). pick o (broken at) (pick u (Ok c) (broken (at + last_length)))) g (eq-eqb (len - at) last_length (omega arith))
 
 -- what was tested, and then c
 abbrev pub then_gives : {A : Type 0} → Said (Unit {0}) → A → Said A
