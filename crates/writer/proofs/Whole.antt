@@ -1,15 +1,15 @@
 -- The answer and the buffer of the whole writer.
-use Rattle.std.proofs.Common.{◌≡◌, ℕ, ◌+◌, ◌≤◌, ◌<◌, Bool, true, false, leb, List, ◌++◌, length, drop, refl, ap, ap₂, ◌∙◌, arith}
-use Rattle.std.specs.Prelude.{Ok, Err}
+use Rattle.std.proofs.Common.{◌≡◌, ℕ, ◌+◌, ◌≤◌, ◌<◌, Bool, true, false, leb, List, ◌++◌, length, drop, refl, sym, ap, ap₂, ◌∙◌, arith}
+use Rattle.std.specs.Prelude.{Ok, Err, None}
 use borrow.Author.Tests.{le-leb, lt-leb}
 use Rattle.table.specs.declared.Table.{Table}
 use Rattle.table.specs.declared.Request.{Request}
 use Rattle.table.specs.declared.Refusal.{Refusal}
-use Rattle.line.specs.Slots.{pick}
+use Rattle.line.specs.Slots.{pick, is_waiting, lowest_of}
 use Rattle.table.specs.Words.{refusal, Said}
 use Rattle.card.specs.Layout.{clock_length, last_length}
-use Rattle.card.specs.Card.{clock_record, slot_records, request_record, card_of}
-use Rattle.card.specs.Answers.{length_of, write_of, buffer_of}
+use Rattle.card.specs.Card.{clock_record, slot_records, request_record, used, card_of}
+use Rattle.card.specs.Answers.{length_of, filled, write_of, buffer_of}
 use Rattle.card.proofs.Length.{length_card}
 use Rattle.writer.specs.declared.Used.{Used}
 use Rattle.writer.specs.Laid.{Laid}
@@ -18,6 +18,28 @@ use Rattle.writer.specs.Measured.{MeasuredRecords}
 -- the answer and the buffer m that the contract allows for the buffer l
 abbrev pub Writes : Table → Request → (l m : List ℕ) → Said ℕ → Type 0
 Writes t q l m s = (s ≡ write_of t q (length l)) × (m ≡ buffer_of t q l)
+
+module _ (t : Table) (q : Request) where
+  -- R33: there is no room
+  too_short_lem : (room : ℕ) → room < length (card_of t q) → length_of t q room ≡ Err (refusal 13 0)
+  unfolding length_of
+  too_short_lem room h = ap (λ (o : Bool). pick o (Ok (length (card_of t q))) (Err (refusal 13 0))) (lt-leb (length (card_of t q)) room h)
+
+  -- n slots, where n are used
+  module _ (n : ℕ) (e : n ≡ used t.slots) where
+    -- R53: CK and RQ, and the slots' records
+    parts_length : clock_length + last_length + length (slot_records n t.slots q.stretched) ≡ length (card_of t q)
+    parts_length = ap (λ (j : ℕ). clock_length + last_length + length (slot_records j t.slots q.stretched)) e ∙ sym (length_card t q)
+
+    -- R33: the length that the code works out
+    pub card_length : (m : ℕ) → m ≡ length (slot_records n t.slots q.stretched) → clock_length + last_length + m ≡ length (card_of t q)
+    card_length m f = ap (λ (x : ℕ). clock_length + last_length + x) f ∙ parts_length
+
+  -- R59: where none waits the room decides
+  pub other_writing : lowest_of is_waiting t.slots ≡ None → (l m : List ℕ) (s : Said ℕ)
+      → (s ≡ length_of t q (length l)) × (m ≡ filled (card_of t q) l (length_of t q (length l)))
+      → (s ≡ write_of t q (length l)) × (m ≡ buffer_of t q l)
+  other_writing w l m s p = rw w p
 
 module _ (t : Table) (q : Request) (l : List ℕ) where
   -- R33: the room decides
@@ -32,12 +54,12 @@ module _ (t : Table) (q : Request) (l : List ℕ) where
   -- where none waits
   module _ (u : Used) (w : MeasuredRecords t.slots q.stretched (Ok u)) where
     -- R53: CK and RQ, and the slots' records
-    card_length : clock_length + u.length + last_length ≡ length (card_of t q)
-    card_length = omega (arith, length_card t q, w.3, ap (λ (j : ℕ). length (slot_records j t.slots q.stretched)) w.1)
+    whole_length : clock_length + u.length + last_length ≡ length (card_of t q)
+    whole_length = omega (arith, card_length t q u.slots w.1 u.length w.3)
 
     -- R17, R33: there is no room, and a refusal leaves the buffer
     pub short_writing : length l < clock_length + u.length + last_length → (r : Refusal) → r ≡ refusal 13 0 → Writes t q l l (Err r)
-    short_writing h r e = rw (w.0, e, by_room false (lt-leb (length (card_of t q)) (length l) (omega (arith, card_length)))) (refl, refl)
+    short_writing h r e = rw (w.0, e, by_room false (lt-leb (length (card_of t q)) (length l) (omega (arith, whole_length)))) (refl, refl)
 
     -- R54: the parts are the card
     parts_card : clock_record t.clock ++ (slot_records u.slots t.slots q.stretched ++ request_record q.need q.period) ≡ card_of t q
@@ -49,5 +71,5 @@ module _ (t : Table) (q : Request) (l : List ℕ) where
         → Laid l m 0 n (clock_record t.clock ++ (slot_records u.slots t.slots q.stretched ++ request_record q.need q.period)) → Writes t q l m (Ok n)
     whole_writing h m n p =
         let e : n ≡ length (card_of t q) = omega (arith, p.end, ap length parts_card) in
-        rw (w.0, by_room true (le-leb (length (card_of t q)) (length l) (omega (arith, card_length))))
+        rw (w.0, by_room true (le-leb (length (card_of t q)) (length l) (omega (arith, whole_length))))
         (ap Ok e, p.laid ∙ ap₂ (λ (x : List ℕ) (j : ℕ). x ++ drop j l) parts_card e)
