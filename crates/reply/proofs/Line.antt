@@ -2,13 +2,13 @@
 use Rattle.std.specs.Prelude.{Option, Ok, Err}
 use Prim.Native.Nat.{ℕ, ◌+◌, ◌≤◌, ◌<◌}
 use mathlib.Core.Path.{◌≡◌, refl, ap, sym, subst, ◌∙◌}
-use mathlib.Core.Bool.{Bool, true, false}
+use mathlib.Core.Bool.{Bool, true, false, not}
 use mathlib.Core.List.{List, [], ◌∷◌, ◌++◌, append_assoc}
 use native.Mathlib.Omega.{arith}
 use Rattle.std.proofs.Math.Bridge.{le_prop}
 use lib.Dec.{ltb}
 use lib.ListN.{length, take, drop, get_or, length-append, take-append-drop}
-use borrow.Author.Tests.{ltb-false}
+use borrow.Author.Tests.{ltb-false, not-true, not-false}
 use Rattle.line.specs.Slots.{pick}
 use Rattle.line.proofs.Search.{true_false}
 use Rattle.table.specs.declared.Refusal.{Refusal}
@@ -141,6 +141,13 @@ refuses_length x = simp length-append (omega arith)
 -- R103: a refusal that the test finds to say a tick and an excess, or not
 pub late_is : (x : Refusal) {b : Bool} → b ≡ carries x → (c : Bool) → b ≡ c → lateness_of x ≡ lateness c x.tick x.excess
 late_is x e c f = ap (λ (b : Bool). lateness b x.tick x.excess) (sym e ∙ f)
+
+-- R103: a refusal that the test finds to say no tick and no excess, and one that it finds to say them
+pub none_said : {b : Bool} (x : Refusal) → b ≡ carries x → not b ≡ true → lateness_of x ≡ []
+none_said {b} x e h = late_is x e false (not-true b h)
+
+pub some_said : {b : Bool} (x : Refusal) → b ≡ carries x → not b ≡ false → lateness_of x ≡ lateness true x.tick x.excess
+some_said {b} x e h = late_is x e true (not-false b h)
 
 -- R103: how many bytes they take of it
 pub late_length : (x : Refusal) (b : Bool) → b ≡ carries x → length (lateness_of x) ≡ pick b (2 + length (digits x.tick) + length (digits x.excess)) 0
