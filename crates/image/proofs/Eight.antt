@@ -1,6 +1,6 @@
 -- Numbers of eight bytes (R81): at an offset, and four numbers of two bytes as one and back.
 use mathlib.Core.Path.{◌≡◌, refl, sym, ap, ap₂, ◌∙◌}
-use mathlib.Core.List.{List, ◌++◌}
+use mathlib.Core.List.{List, ◌∷◌, ◌++◌}
 use Prim.Native.Nat.{ℕ, zero, suc, ◌+◌, ◌*◌, ◌/◌, ◌%◌, ◌<◌}
 use native.Mathlib.Omega.{arith}
 use native.Mathlib.Nat.{add-zero}
@@ -8,11 +8,14 @@ use lib.ListN.{drop}
 use lib.Seq.{get_or-drop}
 use borrow.Author.Tests.{ne_eqb}
 use Rattle.line.specs.declared.Follows.{Follows}
-use Rattle.line.specs.declared.Held.TheVariants.{Running, Waiting}
+use Rattle.line.specs.declared.Run.{Run}
+use Rattle.line.specs.declared.Wait.{Wait}
+use Rattle.line.specs.declared.Held.{Held}
+use Rattle.line.specs.declared.Held.TheVariants.{Nothing, Running, Waiting}
 use Rattle.line.specs.Slots.{run_then, wait_with, holding, empty}
 use Rattle.card.specs.Bytes.{Bytes, le, value}
 use Rattle.card.proofs.Numbers.{value_lt, two_of}
-use Rattle.image.specs.Image.{run_kind}
+use Rattle.image.specs.Image.{run_kind, slot_bytes}
 use Rattle.image.specs.Loading.{byte, held_in}
 use Rattle.image.proofs.RunKinds.{run_in_lem}
 
@@ -83,3 +86,20 @@ module _ (l : List ℕ) (b : Bytes l) {v : ℕ} (e : v ≡ value 8 l 1) where
 pub nothing_in : (l : List ℕ) → (byte l 0 ≡ 1 → ⊥) → (byte l 0 ≡ 2 → ⊥) → (byte l 0 ≡ 3 → ⊥) → empty ≡ holding (held_in l)
 unfolding held_in
 nothing_in l p q r = rw (ne_eqb (byte l 0) 1 p, ne_eqb (byte l 0) 2 q, ne_eqb (byte l 0) 3 r)
+
+-- nine bytes were put into a buffer that held l before
+module _ (h : Held) (l y : List ℕ) where
+  -- R81: for a slot that holds nothing
+  pub put_nothing : h ≡ Nothing → y ≡ (0 ∷ le 8 0) ++ drop 9 l → y ≡ slot_bytes h ++ drop 9 l
+  put_nothing e q = q ∙ ap (λ (g : Held). slot_bytes g ++ drop 9 l) (sym e)
+
+  -- R81: for a running line
+  pub put_running : (r : Run) (k v : ℕ) → h ≡ Running r → k ≡ run_kind r.follows
+      → le 8 v ≡ le 2 r.need ++ (le 2 r.period ++ (le 2 r.age ++ le 2 r.remaining))
+      → y ≡ (k ∷ le 8 v) ++ drop 9 l → y ≡ slot_bytes h ++ drop 9 l
+  put_running r k v e d f q = q ∙ ap₂ (λ (j : ℕ) (x : List ℕ). (j ∷ x) ++ drop 9 l) d f ∙ ap (λ (g : Held). slot_bytes g ++ drop 9 l) (sym e)
+
+  -- R81: for a waiting line
+  pub put_waiting : (w : Wait) (v : ℕ) → h ≡ Waiting w → le 8 v ≡ le 2 w.need ++ (le 2 w.period ++ (le 2 w.wait ++ le 2 0))
+      → y ≡ (2 ∷ le 8 v) ++ drop 9 l → y ≡ slot_bytes h ++ drop 9 l
+  put_waiting w v e f q = q ∙ ap (λ (x : List ℕ). (2 ∷ x) ++ drop 9 l) f ∙ ap (λ (g : Held). slot_bytes g ++ drop 9 l) (sym e)

@@ -6,10 +6,11 @@ use mathlib.Core.Path.{◌≡◌, refl, sym, ap, ap₂, ◌∙◌}
 use mathlib.Core.List.{List, [], ◌∷◌, ◌++◌}
 use Prim.Native.Nat.{ℕ, zero, suc, ◌+◌, ◌*◌, ◌-◌, ◌≤◌, ◌<◌}
 use native.Mathlib.Omega.{arith}
+use native.Mathlib.Numerals.{add-one}
 use native.Mathlib.Nat.{mul-zero}
 use borrow.Rule.Slice.PartMut.{put_mid, same_len_mid}
-use lib.ListN.{length, take, drop, set, get_or, length-append, length-drop}
-use lib.Seq.{take_all, length-take-le, take_at, drop_at, drop-drop, sets-eq}
+use lib.ListN.{length, take, drop, set, get_or, length-append, length-drop, length-set}
+use lib.Seq.{take_all, take-suc-set, length-take-le, take_at, drop_at, drop-drop, sets-eq}
 use Rattle.table.specs.declared.Table.{Table}
 use Rattle.table.specs.declared.Refusal.{Refusal}
 use Rattle.table.specs.Words.{refusal}
@@ -17,8 +18,25 @@ use Rattle.card.proofs.Parts.{put_at_lem}
 use Rattle.image.specs.Image.{series, image_of}
 use Rattle.image.specs.Loading.{series_in}
 use Rattle.image.specs.Answers.{store_of, stored_in}
-use Rattle.image.proofs.Series.{next_drop, series_next, length_series}
+use Rattle.image.proofs.Series.{next_drop, series_next, length_series, found_next}
 use Rattle.image.proofs.Stored.{has_room, no_room, stored_is, stored_not}
+
+-- the first k of n, each found in w bytes, the first at offset o
+module _ {A : Type 0} (w : ℕ) (f : List ℕ → A) (o n : ℕ) (l : List ℕ) (xs : List A) (k : ℕ) (long : length xs ≡ n) (same : take k xs ≡ series_in w f k (drop o l)) where
+  -- R81: the one at its offset is one more
+  pub fill_on : k < n → {x : A} → x ≡ f (drop (o + w * k) l) → (length (set xs k x) ≡ n) × (take (k + 1) (set xs k x) ≡ series_in w f (k + 1) (drop o l))
+  fill_on h {x} e = (
+    length-set xs k x ∙ long,
+    ap (λ (j : ℕ). take j (set xs k x)) (add-one k) ∙ take-suc-set xs k x (omega arith)
+        ∙ ap₂ (λ (p : List A) (z : A). p ++ (z ∷ [])) same (e ∙ ap f (sym (drop-drop (w * k) o l)))
+        ∙ sym (found_next w f k (drop o l)) ∙ ap (λ (j : ℕ). series_in w f j (drop o l)) (sym (add-one k)),
+  )
+
+  -- R81: all are read
+  pub fill_end : k ≤ n → n ≤ k → xs ≡ series_in w f n (drop o l)
+  fill_end few h =
+      let e : k ≡ n = omega arith in
+      sym (take_all k xs (omega arith)) ∙ same ∙ ap (λ (j : ℕ). series_in w f j (drop o l)) e
 
 -- R81: n that are each found at their offset are the series that stands there
 pub filled : {A : Type 0} (w n : ℕ) (f : List ℕ → A) (l : List ℕ) (xs : List A) → length xs ≡ n

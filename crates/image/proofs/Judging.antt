@@ -13,11 +13,11 @@ use native.Mathlib.Nat.{sub-zero}
 use lib.ListN.{length, take, drop, get_or, drop_of_length-le}
 use lib.Seq.{drop-drop}
 use lib.Dec.{eqb, leb, ltb}
-use borrow.Author.Tests.{ltb-true, eqb-true, eq-eqb, ne_eqb, le-leb, lt-leb, lt-ltb, le-ltb}
+use borrow.Author.Tests.{ltb-true, eqb-true, not-true, not-false, eq-eqb, ne_eqb, le-leb, lt-leb, lt-ltb, le-ltb}
 use Rattle.line.specs.declared.Follows.{Follows}
 use Rattle.line.specs.Slots.{or_else}
 use Rattle.line.proofs.Sound.{both_false}
-use Rattle.line.proofs.Search.{lowest_found, lowest_below, none_found}
+use Rattle.line.proofs.Search.{Looking, look_stop, look_end, lowest_found, lowest_below, none_found}
 use Rattle.table.specs.declared.Table.{Table}
 use Rattle.table.specs.declared.Refusal.{Refusal}
 use Rattle.table.specs.Words.{refusal}
@@ -25,7 +25,7 @@ use Rattle.image.proofs.RunKinds.{run_blank}
 use Rattle.image.proofs.Eight.{fourth}
 use Rattle.image.proofs.Series.{next_drop}
 use Rattle.image.proofs.WritesBack.{nothing_wrong}
-use Rattle.image.specs.Image.{size, run_kind}
+use Rattle.image.specs.Image.{version, size, run_kind}
 use Rattle.card.specs.Bytes.{Bytes, value}
 use Rattle.card.proofs.Parts.{part_all}
 use Rattle.image.specs.Loading.{byte, blank_from, is_wrong, slot_wrong, on_by, slots_wrong, version_wrong, length_wrong, wrong_in, table_in, unless_wrong, load_with}
@@ -72,6 +72,28 @@ first_is (x ∷ l) e = cc
 -- R83: where no byte is there, none is wrong
 pub none_there : (l : List ℕ) → length l ≤ 0 → None ≡ slot_wrong l
 none_there l h = sym (none_found (is_wrong l) 9 (λ k p. zero_right l k (past l k (omega arith))))
+
+-- R83: before the first byte that must be 0 none is wrong
+pub pass_start : (l : List ℕ) {i : ℕ} → i ≡ blank_from (byte l 0) → i ≤ 9 → (blank_from (byte l 0) ≤ i) × Looking (is_wrong l) 9 i
+pass_start l e h = (omega arith, record { upto = h; passed = λ k p. rw (lt-leb (blank_from (byte l 0)) k (omega arith)) })
+
+-- a search among the bytes of the slot in front that has passed those below i
+module _ (l : List ℕ) {i : ℕ} (from : blank_from (byte l 0) ≤ i) (looking : Looking (is_wrong l) 9 i) where
+  -- R83: the first that is not 0 is the lowest wrong one
+  pub pass_stop : i < 9 → (byte l i ≡ 0 → ⊥) → Some i ≡ slot_wrong l
+  pass_stop h e = sym (look_stop looking h (rw (le-leb (blank_from (byte l 0)) i from, lt-ltb 0 (byte l i) (omega arith))))
+
+  -- R83: after the nine bytes none is wrong
+  pub pass_end : 9 ≤ i → None ≡ slot_wrong l
+  pass_end h = sym (look_end looking h)
+
+  -- R83: nor where the image ends
+  pub pass_cut : length l ≤ i → None ≡ slot_wrong l
+  pass_cut h =
+      sym (none_found (is_wrong l) 9 (λ k p. elim (dec_lt k i) [
+        | yes q ↦ looking.passed k q
+        | no q ↦ zero_right l k (past l k (omega arith))
+      ]))
 
 -- R83: a search from the first byte that must be 0 to the last that is there finds the lowest wrong one
 pub searched : (l : List ℕ) {a b : ℕ} (r : Option ℕ) → a ≡ blank_from (byte l 0) → b ≡ min (length l) 9
@@ -205,6 +227,22 @@ all_right n l X e m =
     let j : get_or (range_with_len 0 n) i 0 ≡ i = omega (arith, get_or-range_with_len 0 n i 0 h) in
     rw (drop-drop (9 * i) 9 l) (rw j at (v i 0 (omega arith) (omega (arith, length-range_with_len 0 n)))))
 
+module _ (m n : ℕ) where
+  -- R83: the length that is wanted
+  pub length_right : n ≡ m → None ≡ length_wrong m n
+  unfolding length_wrong
+  length_right e = rw (eq-eqb n m e)
+
+  -- R83: less than that
+  pub length_short : (n ≡ m → ⊥) → n < m → Some n ≡ length_wrong m n
+  unfolding length_wrong
+  length_short d h = rw (ne_eqb n m d, lt-ltb n m h)
+
+  -- R83: more than that
+  pub length_long : (n ≡ m → ⊥) → m ≤ n → Some m ≡ length_wrong m n
+  unfolding length_wrong
+  length_long d h = rw (ne_eqb n m d, le-ltb n m h)
+
 -- R83: any other length than the one that is wanted, at the lesser of the two
 pub length_tested : (m n : ℕ) → then_some (not (eqb n m)) (min n m) ≡ length_wrong m n
 unfolding length_wrong
@@ -216,6 +254,10 @@ length_tested m n =
         | no h ↦ let e : min n m ≡ m = omega arith in rw (ne_eqb n m d, le-ltb n m (omega arith), e)
       ]
     ]
+
+-- R83: an image without a byte has no version
+pub no_version : (l : List ℕ) → length l < 1 → true ≡ not (eqb (byte l 0) version)
+no_version l h = rw (past l 0 (omega arith))
 
 -- what stands where nothing was found is looked for
 pub or_found : (o p : Option ℕ) {r : Option ℕ} (X : Type 0) → MatchOption o X (λ k. r ≡ Some k) → (X → r ≡ p) → r ≡ or_else o p
@@ -233,6 +275,24 @@ module _ (n : ℕ) (l : List ℕ) where
   in_turn a b c =
       c ∙ ap (λ (x : Option ℕ). or_else x (length_wrong (size n) (length l))) (b ∙ ap (λ (x : Option ℕ). or_else x (slots_wrong n 9 (drop 9 l))) a)
       ∙ or_assoc (version_wrong l) (slots_wrong n 9 (drop 9 l)) (length_wrong (size n) (length l))
+
+  -- the version was tested
+  module _ {b : Bool} (v : b ≡ not (eqb (byte l 0) version)) where
+    -- R83: the version is looked at first
+    pub version_first : b ≡ true → Some 0 ≡ wrong_in n l
+    unfolding wrong_in
+    version_first h = rw (not-true (eqb (byte l 0) version) (sym v ∙ h))
+
+    module _ (h : b ≡ false) {w : Option ℕ} (e : w ≡ slots_wrong n 9 (drop 9 l)) where
+      -- R83: then the slots
+      pub slots_then : (p : ℕ) → w ≡ Some p → w ≡ wrong_in n l
+      unfolding wrong_in
+      slots_then p q = rw (not-false (eqb (byte l 0) version) (sym v ∙ h), sym e, q)
+
+      -- R83: and last the length
+      pub length_last : w ≡ None → {o : Option ℕ} → o ≡ length_wrong (size n) (length l) → o ≡ wrong_in n l
+      unfolding wrong_in
+      length_last q k = k ∙ rw (not-false (eqb (byte l 0) version) (sym v ∙ h), sym e, q)
 
   -- R31, R83: what is wrong is refused at its offset
   pub load_broken : {w : Option ℕ} → w ≡ wrong_in n l → (p : ℕ) (r : Refusal) → w ≡ Some p → r ≡ refusal 11 p → Err r ≡ load_with n l

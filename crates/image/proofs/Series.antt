@@ -44,6 +44,13 @@ module _ {A : Type 0} (w : ℕ) (f : List ℕ → A) where
   length_found zero l = refl
   length_found (suc n) l = ap suc (length_found n (drop w l))
 
+  -- one more found at the end
+  pub found_next : (k : ℕ) (l : List ℕ) → series_in w f (suc k) l ≡ series_in w f k l ++ (f (drop (w * k) l) ∷ [])
+  found_next zero l = ap (λ (j : ℕ). f (drop j l) ∷ []) (sym (mul-zero w))
+  found_next (suc k) l =
+      ap {B = List A} (λ (s : List A). f l ∷ s) (found_next k (drop w l)
+      ∙ ap (λ (y : List ℕ). series_in w f k (drop w l) ++ (f y ∷ [])) (next_drop w k l))
+
   module _ (g : A → List ℕ) (P : A → Type 0) where
     -- what was put is found, and what follows it is not looked at
     pub series_back : ((x : A) (y : List ℕ) → P x → (f (g x ++ y) ≡ x) × (drop w (g x ++ y) ≡ y))
