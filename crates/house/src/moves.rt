@@ -21,12 +21,12 @@ pub extern "C" fn trimthuel_write_card(
 ) -> Returned
     ensures { (result ≡ result_of (write_card_for (load_of table.now) (request_of need period stretched.now) (length card.old))) × (card.new ≡ card_after (load_of table.now) (request_of need period stretched.now) card.old) }
 {
-    match image::try_load(table) {
+    match &image::try_load(table) {
         Ok(t) => {
             let request = Request::new(*stretched, need, period);
-            calls::written(0, writer::write(&Card { table: t, request }, card))
+            calls::written(0, writer::write(&Card { table: *t, request }, card))
         }
-        Err(x) => Returned::from(x),
+        Err(x) => Returned::from(*x),
     }
 }
 
