@@ -1,11 +1,11 @@
 -- Sums over the lines, term by term, and what keeps them small.
-use Prim.Native.Nat.{ℕ, zero, suc, ◌+◌, ◌-◌, ◌*◌, ◌≤◌, ◌<◌}
+use Prim.Native.Nat.{ℕ, zero, suc, ◌+◌, ◌-◌, ◌*◌, ◌/◌, ◌≤◌, ◌<◌}
 use mathlib.Core.Path.{◌≡◌, refl, ap, ◌∙◌}
 use mathlib.Core.List.{List, []}
 use lib.ListN.{length, get_or}
 use Rattle.sums.proofs.Zipped.{line_of_four, zip_four, four_length, four_at}
 use native.Mathlib.Omega.{arith}
-use Rattle.line.specs.Streams.{share_of, claim_of, full_of}
+use Rattle.line.specs.Streams.{stream, share_of, claim_of, full_of}
 use Rattle.sums.specs.declared.Weights.{Weights}
 use Rattle.sums.specs.Lines.{along, sum_of, line_at, lines_of, Packed}
 use Rattle.sums.specs.Weighed.{Weighs, AddedUp}
@@ -92,3 +92,15 @@ module _ (e c n p : List ℕ) (F : ℕ) where
           claims = sum_end u.claims h;
           needs = sum_end u.needs h;
         }
+
+-- R28, R29: the weights of a line, over the code's values: its share, what remains, what the age should have brought, and its need, each times the frame
+pub line_weighs : (F e c n p : ℕ) {s x y z : ℕ} → (s ≡ n * (F / p)) × (s ≤ 1000000) → (x ≡ F * c) × (x ≤ 65536000000) → (y ≡ s * (p - e)) × (y ≤ 65536000000)
+    → (z ≡ F * n) × (z ≤ 65536000000) → Weighs F (stream e c n p) (record { shares = s; claims = x + y; needs = z })
+line_weighs F e c n p es ex ey ez = record {
+  shares = es.0;
+  claims = omega (arith, ex.0, ey.0 ∙ ap (λ (w : ℕ). w * (p - e)) es.0);
+  needs = ez.0;
+  few = es.1;
+  great = omega arith;
+  more = ez.1;
+}

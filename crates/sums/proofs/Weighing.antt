@@ -135,22 +135,26 @@ module _ (e c n p : List ℕ) where
 -- ---- R27 to R29
 
 module _ (l : List Stream) (F Cn Tn : ℕ) where
-  in_7 : 1000000 < F → 7 ≡ weighed_fit l F Cn Tn
+  -- R27: the frame is too long
+  pub in_7 : 1000000 < F → 7 ≡ weighed_fit l F Cn Tn
   unfolding weighed_fit
   in_7 h = rw (lt-ltb 1000000 F h)
 
   module _ (h : F ≤ 1000000) where
-    in_8 : F < sum_of (share_of F) l + Cn * (F / Tn) → 8 ≡ weighed_fit l F Cn Tn
+    -- R28: the shares are above the whole
+    pub in_8 : F < sum_of (share_of F) l + Cn * (F / Tn) → 8 ≡ weighed_fit l F Cn Tn
     unfolding weighed_fit
     in_8 k = rw (le-ltb 1000000 F h, lt-ltb F (sum_of (share_of F) l + Cn * (F / Tn)) k)
 
     module _ (k : sum_of (share_of F) l + Cn * (F / Tn) ≤ F) where
-      in_9 : sum_of (full_of F) l < sum_of (claim_of F) l → 9 ≡ weighed_fit l F Cn Tn
+      -- R29: the claims are above the needs
+      pub in_9 : sum_of (full_of F) l < sum_of (claim_of F) l → 9 ≡ weighed_fit l F Cn Tn
       unfolding weighed_fit
       in_9 j =
           rw (le-ltb 1000000 F h, le-ltb F (sum_of (share_of F) l + Cn * (F / Tn)) k, lt-ltb (sum_of (full_of F) l) (sum_of (claim_of F) l) j)
 
-      in_0 : sum_of (claim_of F) l ≤ sum_of (full_of F) l → 0 ≡ weighed_fit l F Cn Tn
+      -- none of the three holds
+      pub in_0 : sum_of (claim_of F) l ≤ sum_of (full_of F) l → 0 ≡ weighed_fit l F Cn Tn
       unfolding weighed_fit
       in_0 j =
           rw (le-ltb 1000000 F h, le-ltb F (sum_of (share_of F) l + Cn * (F / Tn)) k, le-ltb (sum_of (full_of F) l) (sum_of (claim_of F) l) j)
@@ -196,24 +200,24 @@ module _ (e c n p : List ℕ) (Cn Tn : ℕ) {b : Bool} (eb : b ≡ fitting_in e 
         pub weigh_fits : (1 ≤ Cn) × (Cn ≤ Tn)
         weigh_fits = let s = both_says _ _ (sym eq ∙ h) in (leb-true _ _ s.0, leb-true _ _ s.1)
 
+        -- R18: past both, the first of the others
+        pub weigh_on : {r : ℕ} → r ≡ weighed_fit (lines_of e c n p) (frame_of (Tn ∷ p)) Cn Tn → r ≡ weighed_in e c n p Cn Tn
+        weigh_on s = past_4 (rw (sym eq ∙ h, periods_are e c n p weigh_known.same_p) s)
+
         module _ {x t f : ℕ} (ex : x ≡ Cn) (et : t ≡ Tn) (ef : CappedFrame (t ∷ p) f) where
           abbrev F : ℕ
           F = frame_of (Tn ∷ p)
-
-          -- R18: past both, the first of the others
-          past_6 : {r : ℕ} → r ≡ weighed_fit (lines_of e c n p) F Cn Tn → r ≡ weighed_in e c n p Cn Tn
-          past_6 s = past_4 (rw (sym eq ∙ h, periods_are e c n p weigh_known.same_p) s)
 
           frame_is : f ≡ capped F
           frame_is = rw et at ef.value
 
           -- R27: the frame is too long
           pub weigh_7 : 1000000 < f → 7 ≡ weighed_in e c n p Cn Tn
-          weigh_7 g = past_6 (in_7 (lines_of e c n p) F Cn Tn (omega (arith, frame_is)))
+          weigh_7 g = weigh_on (in_7 (lines_of e c n p) F Cn Tn (omega (arith, frame_is)))
 
           module _ (g : f ≤ 1000000) {w : Weights} {new : ℕ} (a : AddedUp (lines_of e c n p) f w) (en : new ≡ x * (f / t)) where
             within : {r : ℕ} → r ≡ weighed_fit (lines_of e c n p) f Cn Tn → r ≡ weighed_in e c n p Cn Tn
-            within s = let z : f ≡ F = omega (arith, frame_is) in past_6 (rw z at s)
+            within s = let z : f ≡ F = omega (arith, frame_is) in weigh_on (rw z at s)
 
             new_is : new ≡ Cn * (f / Tn)
             new_is = rw (ex, et) at en
