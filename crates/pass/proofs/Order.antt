@@ -1,6 +1,6 @@
 -- The pass in time order: from one tick to the next the list of the ends before it gains that tick and nothing else, and the demand carried is the demand at it.
 use Prim.Native.Nat.{ℕ, zero, suc, ◌+◌, ◌-◌, ◌*◌, ◌≤◌, ◌<◌, max}
-use mathlib.Core.Path.{◌≡◌, refl, sym, ap, subst, ◌∙◌}
+use mathlib.Core.Path.{◌≡◌, refl, sym, ap, ap₂, subst, ◌∙◌}
 use mathlib.Core.Bool.{Bool, true, false}
 use mathlib.Core.Logic.{⊎_elim}
 use mathlib.Core.List.{List}
@@ -18,12 +18,12 @@ use Rattle.line.proofs.Search.{true_false}
 use Rattle.line.proofs.Due.{due_before_lem}
 use Rattle.line.proofs.Ends.{before_all, all_before, soonest_none, none_soonest, soonest_here, soonest_first, greatest_above, greatest_least}
 use Rattle.line.proofs.Excess.{excess_short, excess_fine, ticks_short_lem}
-use Rattle.sums.specs.Lines.{along, sum_of, longest}
+use Rattle.sums.specs.Lines.{along, sum_of, longest, Fit}
 use Rattle.sums.proofs.Adding.{sums_plus, sums_none}
 use Rattle.pass.specs.declared.Due.{Due}
 use Rattle.pass.specs.declared.NoPass.TheVariants.{Short}
 use Rattle.pass.specs.Pass.{due_by, demand_of, ends_by, pass_over, excess_by, short_by, bound_by, pass_to}
-use Rattle.pass.specs.Order.{nth, due_at, due_of, next_of, owed_of, Soonest, due_now, added_at, Moved, Places, line_from, lines_from, FitFrom}
+use Rattle.pass.specs.Order.{nth, due_at, due_of, next_of, owed_of, Soonest, due_now, added_at, due_past, Places}
 use Rattle.pass.proofs.TakingEnds.{ends_now, ends_later}
 use Rattle.pass.proofs.NextEnd.{due_before, before_suc, NextEnd, next_start, next_end, next_least, next_small, next_on, before_on, due_none, due_taken, next_taken}
 
@@ -54,16 +54,9 @@ module _ (Q : ℕ → Type 0) (last : ℕ) (a : ℕ → Stream) where
 
 -- ---- from tick to tick
 
--- the lines stand at their first ends in `first`
-module _ (first : List Due) (needs gaps : List ℕ) (Cn Tn last : ℕ) where
-  abbrev a : ℕ → Stream
-  a k = line_from first needs gaps k
-
-  abbrev n : ℕ
-  n = length gaps
-
+module _ (a : ℕ → Stream) (n Cn Tn last : ℕ) where
   abbrev lines : List Stream
-  lines = lines_from first needs gaps
+  lines = along a 0 n
 
   abbrev short : ℕ → Bool
   short d = short_by (demand_of lines) d
@@ -73,7 +66,6 @@ module _ (first : List Due) (needs gaps : List ℕ) (Cn Tn last : ℕ) where
 
   -- the ends before the tick d are passed: the lines stand there, `sum` was due before it, no end was short, and `start` is the greatest bound
   pub record Visited (dues : List Due) (sum start d : ℕ) : Type 0 where
-    pub long : length dues ≡ length first
     pub soon : Soonest (next_of dues) n last d
     pub stands : (k : ℕ) → k < n → NextEnd (a k) d (next_of dues k) (owed_of dues k)
     pub before : sum ≡ sum_of (due_before d) lines
@@ -81,23 +73,24 @@ module _ (first : List Due) (needs gaps : List ℕ) (Cn Tn last : ℕ) where
     pub fine : All (λ u. short u ≡ false) (ends_by d lines)
     pub best : start ≡ greatest bounds 0 (ends_by d lines)
 
-  module _ (fit : FitFrom first needs gaps) where
+  module _ (p : (k : ℕ) → k < n → 1 ≤ (a k).period) where
     -- what holds of every end before a tick holds of the list, and the other way round
     ends_all : (Q : ℕ → Type 0) (u : ℕ) → ((k : ℕ) → k < n → (j : ℕ) → (a k).end + j * (a k).period < u → Q ((a k).end + j * (a k).period)) → All Q (ends_by u lines)
-    ends_all Q u f = lines_all Q u a 0 n (λ k x y. (fit k (omega arith)).some) (λ k x y. f k (omega arith))
+    ends_all Q u f = lines_all Q u a 0 n (λ k x y. p k (omega arith)) (λ k x y. f k (omega arith))
 
     all_ends : (Q : ℕ → Type 0) (u : ℕ) → All Q (ends_by u lines) → (k : ℕ) → k < n → (j : ℕ) → (a k).end + j * (a k).period < u → Q ((a k).end + j * (a k).period)
-    all_ends Q u all k l = all_lines Q u a 0 n (λ k x y. (fit k (omega arith)).some) all k (omega arith) (omega arith)
+    all_ends Q u all k l = all_lines Q u a 0 n (λ k x y. p k (omega arith)) all k (omega arith) (omega arith)
 
     -- R9: up to the first tick there is no end
-    pub order_start : {d : ℕ} → Soonest (next_of first) n last d → Visited first 0 0 d
-    order_start {d} s =
-        let none' : (Q : ℕ → Type 0) → All Q (ends_by d lines) = λ Q. ends_all Q d (λ k h j b. absurd (omega (arith, s.below k h))) in
+    pub order_start : {dues : List Due} {d : ℕ} → ((k : ℕ) → k < n → next_of dues k ≡ (a k).end) → ((k : ℕ) → k < n → owed_of dues k ≡ (a k).remaining)
+        → Soonest (next_of dues) n last d → Visited dues 0 0 d
+    order_start {dues} {d} e o s =
+        let first : (k : ℕ) → k < n → d ≤ (a k).end = λ k h. omega (arith, s.below k h, e k h) in
+        let none' : (Q : ℕ → Type 0) → All Q (ends_by d lines) = λ Q. ends_all Q d (λ k h j b. absurd (omega (arith, first k h))) in
         record {
-          long = refl;
           soon = s;
-          stands = λ k h. next_on (next_start (a k)) d (omega arith) (s.below k h);
-          before = sym (sums_none (due_before d) a 0 n (λ k x y. due_before_lem (1 + (a k).end) (a k).remaining (a k).need (a k).period d (omega (arith, s.below k (omega arith)))));
+          stands = λ k h. rw (e k h, o k h) (next_on (next_start (a k)) d (omega arith) (first k h));
+          before = sym (sums_none (due_before d) a 0 n (λ k x y. due_before_lem (1 + (a k).end) (a k).remaining (a k).need (a k).period d (omega (arith, first k (omega arith)))));
           small = omega arith;
           fine = none' (λ u. short u ≡ false);
           best = omega (arith, greatest_least bounds 0 0 (ends_by d lines) (omega arith) (none' (λ u. bounds u ≤ 0)));
@@ -105,12 +98,13 @@ module _ (first : List Due) (needs gaps : List ℕ) (Cn Tn last : ℕ) where
 
     module _ {dues : List Due} {sum start d : ℕ} (v : Visited dues sum start d) where
       -- the numbers fit: what falls due is what remains of a line, or its need
-      pub order_places : Places first needs gaps → Places dues needs gaps
-      order_places w = record {
+      pub order_places : {first : List Due} {needs gaps : List ℕ} → Places first needs gaps → n ≡ length gaps → length dues ≡ length first → ((k : ℕ) → k < n → Fit (a k))
+          → Places dues needs gaps
+      order_places w e x f = record {
         few = w.few;
         needy = w.needy;
-        room = omega (arith, w.room, v.long);
-        small = λ k h. let g = fit k h in next_small (v.stands k h) longest (omega (arith, g.rest, g.less, g.wide)) (omega (arith, g.less, g.wide));
+        room = omega (arith, w.room);
+        small = λ k h. let g = f k (omega arith) in next_small (v.stands k (omega arith)) longest (omega (arith, g.rest, g.less, g.wide)) (omega (arith, g.less, g.wide));
         near = w.near;
       }
 
@@ -121,7 +115,8 @@ module _ (first : List Due) (needs gaps : List ℕ) (Cn Tn last : ℕ) where
             ⊎_elim (λ e. absurd (omega arith))
             (λ w. let s = next_end (v.stands w.0 w.1) in (w.0, w.1, (s.0, sym w.2 ∙ s.1))) v.soon.there
 
-        module _ {dues' : List Due} (m : Moved dues needs gaps d dues') where
+        module _ (needs gaps : List ℕ) (dues' : List Due) (m : (k : ℕ) → k < n → due_of dues' k ≡ due_past dues needs gaps d k)
+            (same_n : (k : ℕ) → k < n → nth needs k ≡ (a k).need) (same_p : (k : ℕ) → k < n → nth gaps k ≡ (a k).period) where
           module _ (k : ℕ) (l : k < n) where
             after : (next_of dues k ≡ d → ⊥) → d < next_of dues k
             after g =
@@ -135,12 +130,12 @@ module _ (first : List Due) (needs gaps : List ℕ) (Cn Tn last : ℕ) where
             past =
                 elim (ℕ_discrete (next_of dues k) d) [
                   | yes g ↦
-                      subst (λ (y : Due). NextEnd (a k) (1 + d) y.at y.owed)
-                      (sym (m.moved k l ∙ ends_now d (due_of dues k) (due_at (d + nth gaps k) (nth needs k)) (due_of dues k) g))
-                      (next_taken (v.stands k l) (fit k l).some (sym g))
+                      let now = m k l ∙ ends_now d (due_of dues k) (due_at (d + nth gaps k) (nth needs k)) (due_of dues k) g in
+                      let same = ap₂ (λ (u r : ℕ). due_at (d + u) r) (same_p k l) (same_n k l) in
+                      subst (λ (y : Due). NextEnd (a k) (1 + d) y.at y.owed) (sym (now ∙ same)) (next_taken (v.stands k l) (p k l) (sym g))
                   | no g ↦
                       subst (λ (y : Due). NextEnd (a k) (1 + d) y.at y.owed)
-                      (sym (m.moved k l ∙ ends_later d (due_of dues k) (due_at (d + nth gaps k) (nth needs k)) (due_of dues k) g))
+                      (sym (m k l ∙ ends_later d (due_of dues k) (due_at (d + nth gaps k) (nth needs k)) (due_of dues k) g))
                       (next_on (v.stands k l) (1 + d) (omega arith) (let q = after g in omega arith))
                 ]
 
@@ -148,7 +143,7 @@ module _ (first : List Due) (needs gaps : List ℕ) (Cn Tn last : ℕ) where
             falls_due : due_by d (a k) ≡ due_before d (a k) + due_now dues d k
             falls_due =
                 elim (ℕ_discrete (next_of dues k) d) [
-                  | yes g ↦ omega (arith, due_taken (v.stands k l) (fit k l).some (sym g), ends_now d (due_of dues k) (owed_of dues k) 0 g)
+                  | yes g ↦ omega (arith, due_taken (v.stands k l) (p k l) (sym g), ends_now d (due_of dues k) (owed_of dues k) 0 g)
                   | no g ↦ omega (arith, due_none (v.stands k l) (after g), ends_later d (due_of dues k) (owed_of dues k) 0 g)
                 ]
 
@@ -236,10 +231,9 @@ module _ (first : List Due) (needs gaps : List ℕ) (Cn Tn last : ℕ) where
                 )
 
             -- the end d is passed
-            pub order_on : {x b start' : ℕ} → length dues' ≡ length dues → x ≡ added_at dues n d → sum + x ≤ d → d ≤ 65535 → b ≡ bound Cn Tn last d (d - (sum + x))
-                → start' ≡ max start b → Visited dues' (sum + x) start' d'
-            order_on g e f w b t = record {
-              long = g ∙ v.long;
+            pub order_on : {x b start' : ℕ} → x ≡ added_at dues n d → sum + x ≤ d → d ≤ 65535 → b ≡ bound Cn Tn last d (d - (sum + x)) → start' ≡ max start b
+                → Visited dues' (sum + x) start' d'
+            order_on e f w b t = record {
               soon = s;
               stands = λ k l. next_on (past k l) d' (let q = tick_later in omega arith) (s.below k l);
               before = omega (arith, e, v.before, sums_plus (due_before d') a (due_before d) a (due_now dues d) (λ k. k) 0 n (λ k x y. before_past k (omega arith)));

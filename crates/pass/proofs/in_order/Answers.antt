@@ -1,5 +1,5 @@
 use Prim.Native.Nat.{ℕ, ◌+◌, ◌-◌, ◌<◌}
-use mathlib.Core.Path.{◌≡◌, ap, ◌∙◌}
+use mathlib.Core.Path.{◌≡◌, refl, ap, ◌∙◌}
 use native.Mathlib.Omega.{arith}
 use lib.IntN.{nat_abs}
 use mir.Syntax.{w64}
@@ -11,7 +11,8 @@ use Rattle.pass.proofs.Order.{order_start, order_on, order_short, order_end, tic
 use Rattle.pass.proofs.in_order.Goals as goal
 
 pub loop-d-init : goal.loop-d-init
-loop-d-init c = search order_start
+loop-d-init c =
+    (refl, order_start _ _ _ _ _ (λ k h. (c.requires.places.1 k h).some) (λ k h. refl) (λ k h. refl) c.requires.soonest)
 
 pub returns-then-x-gt0 : goal.returns-then-x-gt0
 returns-then-x-gt0 c =
@@ -19,19 +20,22 @@ returns-then-x-gt0 c =
     let l : c.loop-d.d < c.loop-d.sum + c.take_ends-taken.result.added = omega (arith, ints) in
     let q = c.take_ends-taken.ensures in
     ap (λ (y : ℕ). Err (Short (record { after = c.loop-d.d; excess = y }))) over
-    ∙ order_short _ _ _ _ _ _ c.requires.places.1 c.loop-d.invariant c.loop-d-test.true q.moved q.added_value.0 l
+    ∙ order_short _ _ _ _ _ (λ k h. (c.requires.places.1 k h).some) c.loop-d.invariant.1 c.loop-d-test.true _ _ _ q.moved.moved (λ k h. refl) (λ k h. refl) q.added_value.0 l
 
 pub loop-d-smaller : goal.loop-d-smaller
 loop-d-smaller c =
     let q = c.take_ends-taken.ensures in
-    let z = tick_later _ _ _ _ _ _ c.requires.places.1 c.loop-d.invariant c.loop-d-test.true q.moved q.soonest in
+    let z = tick_later _ _ _ _ _ (λ k h. (c.requires.places.1 k h).some) c.loop-d.invariant.1 c.loop-d-test.true _ _ _ q.moved.moved (λ k h. refl) (λ k h. refl) q.soonest in
     omega arith
 
 pub loop-d-preserved : goal.loop-d-preserved
 loop-d-preserved c =
     let q = c.take_ends-taken.ensures in
-    order_on _ _ _ _ _ _ c.requires.places.1 c.loop-d.invariant c.loop-d-test.true q.moved q.soonest c.take_ends-taken.auto.dues q.added_value.0 (omega (arith, ints)) (omega arith)
-    c.bound_at-b.ensures c.max-start.ensures
+    let v = c.loop-d.invariant in (
+      c.take_ends-taken.auto.dues ∙ v.0,
+      order_on _ _ _ _ _ (λ k h. (c.requires.places.1 k h).some) v.1 c.loop-d-test.true _ _ _ q.moved.moved (λ k h. refl) (λ k h. refl) q.soonest q.added_value.0
+          (omega (arith, ints)) (omega arith) c.bound_at-b.ensures c.max-start.ensures,
+    )
 
 pub returns : goal.returns
-returns c = search order_end
+returns c = order_end _ _ _ _ _ (λ k h. (c.requires.places.1 k h).some) c.loop-d.invariant.1 c.loop-d-test.false
