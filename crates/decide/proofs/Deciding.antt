@@ -16,6 +16,7 @@ use Rattle.sums.proofs.Weighing.{none_weighs}
 use Rattle.std.specs.Prelude.{Result, Ok, Err}
 use Rattle.sums.specs.declared.Ground.{Ground}
 use Rattle.sums.specs.declared.Ground.TheVariants as sum
+use Rattle.pass.specs.declared.FirstExcess.{FirstExcess}
 use Rattle.pass.specs.declared.NoPass.{NoPass}
 use Rattle.pass.specs.declared.NoPass.TheVariants as pass
 use Rattle.pass.specs.Pass.{pass_of, passed_in}
@@ -23,7 +24,7 @@ use Rattle.pass.proofs.Passing.{start_near}
 use Rattle.decide.specs.declared.NoStart.{NoStart}
 use Rattle.decide.specs.declared.NoStart.TheVariants as no
 use Rattle.decide.specs.Lines.{by_period, by_gap, gathered_at, gathered, all_alike}
-use Rattle.decide.specs.Decided.{Decision, Start, Refused, said, no_start, refused_by, decided_by, decided, decided_in}
+use Rattle.decide.specs.Decided.{Decision, Start, Refused, Short, said, no_start, refused_by, decided_by, decided, decided_in}
 
 both_not : (a : Bool) → both a false ≡ false
 both_not true = refl
@@ -70,11 +71,15 @@ module _ (e c n p g : List ℕ) (Cn Tn : ℕ) where
     weighed_is es =
         es ∙ ap (λ (l : List Stream). pick (alike e c n p) (weighed l Cn Tn) 4) (sym (along_map (gathered_at e c n p g) by_period 0 (length e)))
 
+    -- R24, R26 to R29: the number that the sums refuse with
+    pub decide_number : {s : ℕ} → s ≡ weighed_in e c n p Cn Tn → 0 < s → Refused s ≡ decided_in e c n p g Cn Tn
+    unfolding decided_in decided
+    decide_number {s} es h =
+        rw (eq-eqb (length g) (length e) same) (some_number (alike e c n p) sums s _ (weighed_is es) h)
+
     -- R24, R26 to R29: the sums refuse
     pub decide_weighed : {r : Ground} {x : NoStart} → number r ≡ weighed_in e c n p Cn Tn → x ≡ no.Ground r → said (Err x) ≡ decided_in e c n p g Cn Tn
-    unfolding decided_in decided
-    decide_weighed {r} {x} es ex =
-        rw (ex, eq-eqb (length g) (length e) same) (some_number (alike e c n p) sums (number r) _ (weighed_is es) (a_number r))
+    decide_weighed {r} {x} es ex = rw ex (decide_number es (a_number r))
 
     module _ (es : 0 ≡ weighed_in e c n p Cn Tn) where
       none_is : (alike e c n p ≡ true) × (sums ≡ 0)
@@ -98,6 +103,14 @@ module _ (e c n p g : List ℕ) (Cn Tn : ℕ) where
         past_sums : decided_by x ≡ decided_in e c n p g Cn Tn
         unfolding decided_in decided
         past_sums = rw (alike_all, none_is.1, ← passed_is)
+
+        -- R30, R103: an end is short without the new line, and the first is named
+        pub decide_short : {y : FirstExcess} → x ≡ Err (pass.Short y) → Short y ≡ decided_in e c n p g Cn Tn
+        decide_short b = rw b at past_sums
+
+        -- R24: the gaps are not fit
+        pub decide_unfit : x ≡ Err pass.Unfit → Refused 4 ≡ decided_in e c n p g Cn Tn
+        decide_unfit b = rw b at past_sums
 
       -- R14, R18: no ground holds, and the start is given
       pub decide_starts : {r : ℕ} → Ok r ≡ passed_in e c n g Cn Tn → Start r ≡ decided_in e c n p g Cn Tn
