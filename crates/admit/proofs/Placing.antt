@@ -9,6 +9,7 @@ use Rattle.line.specs.declared.Held.{Held}
 use Rattle.line.specs.declared.Slot.{Slot}
 use Rattle.table.specs.declared.Table.{Table}
 use Rattle.table.specs.declared.Request.{Request}
+use Rattle.table.specs.declared.Refusal.{Refusal}
 use Rattle.table.specs.declared.Acted.{Acted}
 use Rattle.line.proofs.Search.{lowest_below}
 use Rattle.line.specs.Slots.{at, holding, is_nothing, lowest_of}
@@ -42,3 +43,13 @@ admit_says t q {a} h = ap (λ (x : Table). let y : Acted ℕ = record { table = 
     go : (b : Said ℕ) → ◌≡◌ {A = Acted ℕ} (record { table = (admit_with t q b).table; answer = b }) (admit_with t q b)
     go (Ok r) = refl
     go (Err x) = refl
+
+module _ (t : Table) (q : Request) {a : Said ℕ} where
+  -- R42: with a start, the table with the new line in it
+  pub admit_start : {r : ℕ} {u : Table} → a ≡ Ok r → u ≡ admitted_at t q r → ◌≡◌ {A = Acted ℕ} (record { table = u; answer = Ok r }) (admit_with t q a)
+  admit_start {r} g h =
+      ap (λ (x : Table). let y : Acted ℕ = record { table = x; answer = Ok r } in y) h ∙ ap (admit_with t q) (sym g)
+
+  -- R17, R42: with a refusal, the table as it was
+  pub admit_refused : {x : Refusal} → a ≡ Err x → ◌≡◌ {A = Acted ℕ} (record { table = t; answer = Err x }) (admit_with t q a)
+  admit_refused g = ap (admit_with t q) (sym g)
