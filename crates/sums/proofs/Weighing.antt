@@ -9,7 +9,7 @@ use lib.Dec.{leb}
 use lib.ListN.{length, get_or}
 use Rattle.std.specs.List.{list_all}
 use borrow.Author.Tests.{leb-false, lt-ltb, le-ltb, le-leb, lt-leb, leb-true, eqb-true}
-use Rattle.periods.specs.Multiples.{All, frame_of, capped, CappedFrame}
+use Rattle.periods.specs.Multiples.{All, frame_of, CappedFrame}
 use Rattle.line.specs.declared.Stream.{Stream}
 use Rattle.line.specs.Slots.{pick, both}
 use Rattle.line.specs.Streams.{share_of, claim_of, full_of}
@@ -159,6 +159,32 @@ module _ (l : List Stream) (F Cn Tn : ℕ) where
       in_0 j =
           rw (le-ltb 1000000 F h, le-ltb F (sum_of (share_of F) l + Cn * (F / Tn)) k, le-ltb (sum_of (full_of F) l) (sum_of (claim_of F) l) j)
 
+-- the same over the code's values: f is the capped frame, w what the lines add up to, and new the new line's share
+module _ (l : List Stream) (ps : List ℕ) (Cn Tn : ℕ) {f : ℕ} (ef : CappedFrame (Tn ∷ ps) f) where
+  abbrev F : ℕ
+  F = frame_of (Tn ∷ ps)
+
+  -- R27: the frame is too long
+  pub weigh_7 : 1000000 < f → 7 ≡ weighed_fit l F Cn Tn
+  weigh_7 h = in_7 l F Cn Tn (omega (arith, ef.value))
+
+  module _ (h : f ≤ 1000000) {w : Weights} {new : ℕ} (a : AddedUp l f w) (en : new ≡ Cn * (f / Tn)) where
+    to_frame : weighed_fit l f Cn Tn ≡ weighed_fit l F Cn Tn
+    to_frame = let z : f ≡ F = omega (arith, ef.value) in ap (λ (x : ℕ). weighed_fit l x Cn Tn) z
+
+    -- R28: the shares are above the whole
+    pub weigh_8 : f < w.shares + new → 8 ≡ weighed_fit l F Cn Tn
+    weigh_8 k = in_8 l f Cn Tn h (omega (arith, a.shares)) ∙ to_frame
+
+    module _ (k : w.shares + new ≤ f) where
+      -- R29: the claims are above the needs
+      pub weigh_9 : w.needs < w.claims → 9 ≡ weighed_fit l F Cn Tn
+      weigh_9 j = in_9 l f Cn Tn h (omega (arith, a.shares)) (omega (arith, a.needs, a.claims)) ∙ to_frame
+
+      -- none of the three holds
+      pub weigh_0 : w.claims ≤ w.needs → 0 ≡ weighed_fit l F Cn Tn
+      weigh_0 j = in_0 l f Cn Tn h (omega (arith, a.shares)) (omega (arith, a.needs, a.claims)) ∙ to_frame
+
 -- ---- the whole ladder
 
 -- what is said of slices that differ in length, or of lines that are not fit: z
@@ -181,8 +207,8 @@ module _ (e c n p : List ℕ) (Cn Tn : ℕ) {b : Bool} (eb : b ≡ fitting_in e 
 
   module _ (m : b ≡ true) where
     -- R24: what is then known of the lines
-    pub weigh_known : Packed e c n p
-    weigh_known = packed_says e c n p (sym eb ∙ m)
+    pub weigh_packed : Packed e c n p
+    weigh_packed = packed_says e c n p (sym eb ∙ m)
 
     past_4 : {r : ℕ} → r ≡ pick (not (both (leb 1 Cn) (leb Cn Tn))) 6 (weighed_fit (lines_of e c n p) (frame_of (Tn ∷ periods_of (lines_of e c n p))) Cn Tn)
         → r ≡ weighed_in e c n p Cn Tn
@@ -200,40 +226,38 @@ module _ (e c n p : List ℕ) (Cn Tn : ℕ) {b : Bool} (eb : b ≡ fitting_in e 
         pub weigh_fits : (1 ≤ Cn) × (Cn ≤ Tn)
         weigh_fits = let s = both_says _ _ (sym eq ∙ h) in (leb-true _ _ s.0, leb-true _ _ s.1)
 
+        -- R24, R26: what is then known of the lines and of the new one
+        pub weigh_known : Packed e c n p × (1 ≤ Cn) × (Cn ≤ Tn)
+        weigh_known = (weigh_packed, weigh_fits.0, weigh_fits.1)
+
         -- R18: past both, the first of the others
         pub weigh_on : {r : ℕ} → r ≡ weighed_fit (lines_of e c n p) (frame_of (Tn ∷ p)) Cn Tn → r ≡ weighed_in e c n p Cn Tn
-        weigh_on s = past_4 (rw (sym eq ∙ h, periods_are e c n p weigh_known.same_p) s)
+        weigh_on s = past_4 (rw (sym eq ∙ h, periods_are e c n p weigh_packed.same_p) s)
 
         module _ {x t f : ℕ} (ex : x ≡ Cn) (et : t ≡ Tn) (ef : CappedFrame (t ∷ p) f) where
-          abbrev F : ℕ
-          F = frame_of (Tn ∷ p)
-
-          frame_is : f ≡ capped F
-          frame_is = rw et at ef.value
+          frame_is : CappedFrame (Tn ∷ p) f
+          frame_is = rw et at ef
 
           -- R27: the frame is too long
-          pub weigh_7 : 1000000 < f → 7 ≡ weighed_in e c n p Cn Tn
-          weigh_7 g = weigh_on (in_7 (lines_of e c n p) F Cn Tn (omega (arith, frame_is)))
+          pub ladder_7 : 1000000 < f → 7 ≡ weighed_in e c n p Cn Tn
+          ladder_7 g = weigh_on (weigh_7 (lines_of e c n p) p Cn Tn frame_is g)
 
           module _ (g : f ≤ 1000000) {w : Weights} {new : ℕ} (a : AddedUp (lines_of e c n p) f w) (en : new ≡ x * (f / t)) where
-            within : {r : ℕ} → r ≡ weighed_fit (lines_of e c n p) f Cn Tn → r ≡ weighed_in e c n p Cn Tn
-            within s = let z : f ≡ F = omega (arith, frame_is) in weigh_on (rw z at s)
-
             new_is : new ≡ Cn * (f / Tn)
             new_is = rw (ex, et) at en
 
             -- R28: the shares are above the whole
-            pub weigh_8 : f < w.shares + new → 8 ≡ weighed_in e c n p Cn Tn
-            weigh_8 j = within (in_8 (lines_of e c n p) f Cn Tn g (omega (arith, a.shares, new_is)))
+            pub ladder_8 : f < w.shares + new → 8 ≡ weighed_in e c n p Cn Tn
+            ladder_8 j = weigh_on (weigh_8 (lines_of e c n p) p Cn Tn frame_is g a new_is j)
 
             module _ (j : w.shares + new ≤ f) where
               -- R29: the claims are above the needs
-              pub weigh_9 : w.needs < w.claims → 9 ≡ weighed_in e c n p Cn Tn
-              weigh_9 i = within (in_9 (lines_of e c n p) f Cn Tn g (omega (arith, a.shares, new_is)) (omega (arith, a.needs, a.claims)))
+              pub ladder_9 : w.needs < w.claims → 9 ≡ weighed_in e c n p Cn Tn
+              ladder_9 i = weigh_on (weigh_9 (lines_of e c n p) p Cn Tn frame_is g a new_is j i)
 
               -- none of them holds
-              pub weigh_0 : w.claims ≤ w.needs → 0 ≡ weighed_in e c n p Cn Tn
-              weigh_0 i = within (in_0 (lines_of e c n p) f Cn Tn g (omega (arith, a.shares, new_is)) (omega (arith, a.needs, a.claims)))
+              pub ladder_0 : w.claims ≤ w.needs → 0 ≡ weighed_in e c n p Cn Tn
+              ladder_0 i = weigh_on (weigh_0 (lines_of e c n p) p Cn Tn frame_is g a new_is j i)
 
 pick_none : (b m : Bool) (n : ℕ) → pick (not b) 4 (pick (not m) 6 n) ≡ 0 → m ≡ true
 pick_none true true n e = refl
