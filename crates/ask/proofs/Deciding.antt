@@ -32,7 +32,7 @@ pub refused_within : (clock : ℕ) {r : Said ℕ} {x : Refusal} → r ≡ Err x 
 refused_within clock e = rw e tt
 
 -- one test that is passed finds no slot
-found_none : (o : Option ℕ) (n : ℕ) {u : Unit {0}} → Ok u ≡ unless_found o n → o ≡ None
+pub found_none : (o : Option ℕ) (n : ℕ) {u : Unit {0}} → Ok u ≡ unless_found o n → o ≡ None
 found_none None n e = refl
 found_none (Some k) n e = cc
 
@@ -116,10 +116,11 @@ module _ (t : Table) (q : Request) where
                   found_none s 5 g5,
                 ) a
 
-            -- R23 to R25: what is known past the first five grounds
-            pub allowed_all : AllAllowed t q
-            allowed_all i k = (
-              lowest_none (λ j. is_waiting (at t.slots j)) (length t.slots) (sym e3 ∙ found_none v 3 g3) i k,
-              not-false _ (lowest_none (λ j. not (sound (at t.slots j))) (length t.slots) (faultless t (sym e4 ∙ found_none u 4 g4)).0 i k),
-              lowest_none (bars t q) (length t.slots) (sym e5 ∙ found_none s 5 g5) i k,
-            )
+-- R23 to R25: what is known past the first five grounds
+pub allowed_all : (t : Table) (q : Request) {w v u : Option ℕ} → w ≡ lowest_of is_waiting t.slots → w ≡ None → v ≡ fault t → v ≡ None
+    → u ≡ lowest (bars t q) (length t.slots) → u ≡ None → AllAllowed t q
+allowed_all t q e3 g3 e4 g4 e5 g5 i h = (
+  lowest_none (λ k. is_waiting (at t.slots k)) (length t.slots) (sym e3 ∙ g3) i h,
+  not-false _ (lowest_none (λ k. not (sound (at t.slots k))) (length t.slots) (faultless t (sym e4 ∙ g4)).0 i h),
+  lowest_none (bars t q) (length t.slots) (sym e5 ∙ g5) i h,
+)

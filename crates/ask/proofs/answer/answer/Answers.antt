@@ -3,7 +3,7 @@ use Rattle.std.specs.Prelude.{Err}
 use Rattle.std.proofs.Common.{rules}
 use mathlib.Core.Path.{◌≡◌, ap, ◌∙◌}
 use Rattle.ask.proofs.LastGrounds.{gathered_decide}
-use Rattle.ask.proofs.Deciding.{refused_within, ask_late, ask_full, ask_waits, ask_unsound, ask_barred, ask_misfit, ask_past, allowed_all}
+use Rattle.ask.proofs.Deciding.{refused_within, found_none, ask_late, ask_full, ask_waits, ask_unsound, ask_barred, ask_misfit, ask_past, allowed_all}
 use Rattle.ask.proofs.answer.answer.Goals as goal
 
 pub returns-then-t-gt-LATEST : goal.returns-then-t-gt-LATEST
@@ -63,8 +63,10 @@ returns c =
     let e2 = c.lowest.ensures in
     let e3 = c.lowest-2.ensures in
     let e5 = c.lowest_barred.ensures in
-    let all = allowed_all x.t x.q c.if-t-gt-LATEST.false e2 c.is_none.ensures c.if-is_none.false e3 c.in_ok-none_found.ensures c.fault.ensures c.in_ok-none_found-2.ensures
-    e5 c.in_ok-none_found-3.ensures in (
+    let g3 = found_none _ 3 c.in_ok-none_found.ensures in
+    let g4 = found_none _ 4 c.in_ok-none_found-2.ensures in
+    let g5 = found_none _ 5 c.in_ok-none_found-3.ensures in
+    let all = allowed_all x.t x.q e3 g3 c.fault.ensures g4 e5 g5 in (
       ask_past x.t x.q c.if-t-gt-LATEST.false e2 c.is_none.ensures c.if-is_none.false e3 c.in_ok-none_found.ensures c.fault.ensures c.in_ok-none_found-2.ensures
           e5 c.in_ok-none_found-3.ensures (gathered_decide x.t x.q c.gather.result c.gather.ensures all c.by_lines.ensures.0),
       c.by_lines.ensures.1,
