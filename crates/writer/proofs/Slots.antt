@@ -168,12 +168,13 @@ module _ {ss : List Slot} {ts : List ℕ} {i all : ℕ} {u : Used} (m : Counted 
   pub counted_stop : i < length ss → record_for (at ss i) (get_or ts i 0) ≡ None → lowest_of is_waiting ss ≡ Some i
   counted_stop h e = look_stop m.looked h (unrecorded_waits (at ss i) (get_or ts i 0) e)
 
+  -- R23, R53, R55: every slot is looked at, and no line waits
+  pub counted_end : length ss ≤ i → (lowest_of is_waiting ss ≡ None) × (u.slots ≡ used ss) × (u.length ≡ length (slot_records u.slots ss ts))
+  counted_end h = (look_end m.looked h, m.last ∙ ap used (take_all i ss h), m.count)
+
   -- R23, R53, R55: all sixteen slots are looked at, and no line waits
-  pub counted_end : length ss ≡ 16 → 16 ≤ i → MeasuredRecords ss ts (Ok u)
-  counted_end h k =
-      let p : length ss ≤ i = omega arith in
-      let e : u.slots ≡ used ss = m.last ∙ ap used (take_all i ss p) in
-      (look_end m.looked p, e, omega (arith, used_slots ss), m.count)
+  pub measured_end : length ss ≡ 16 → 16 ≤ i → MeasuredRecords ss ts (Ok u)
+  measured_end h k = let p = counted_end (omega arith) in (p.0, p.1, omega (arith, p.1, used_slots ss), p.2)
 
 -- i of n records stand in the buffer l, which was l₀, from a to b
 pub record Put (l₀ : List ℕ) (ss : List Slot) (ts : List ℕ) (n : ℕ) (l : List ℕ) (a b i : ℕ) : Type 0 where

@@ -1,6 +1,6 @@
 -- `measure`: each way through the loop is one law.
 use Rattle.std.proofs.Common.{◌≡◌, ◌<◌, length, sym, ◌∙◌, arith, rules}
-use Rattle.writer.proofs.Slots.{counted_small, counted_free, counted_line, counted_stop, counted_end}
+use Rattle.writer.proofs.Slots.{counted_small, counted_free, counted_line, counted_stop, measured_end}
 use Rattle.writer.proofs.measure.Goals as goal
 use Rattle.writer.proofs.measure.Goals.{then-not-is_free, else-not-is_free}
 
@@ -25,4 +25,4 @@ loop-i-preserved c =
     ]
 
 pub returns : goal.returns
-returns c = let m = c.loop-i.invariant in counted_end m.1 (m.0 (omega (arith, c.loop-i-test.false))) c.loop-i-test.false
+returns c = let m = c.loop-i.invariant in measured_end m.1 (m.0 (omega (arith, c.loop-i-test.false))) c.loop-i-test.false

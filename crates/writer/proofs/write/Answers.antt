@@ -3,7 +3,7 @@ use Rattle.std.proofs.Common.{arith}
 use Rattle.std.proofs.lemmas.Result.{err_from_is_err_and}
 use Rattle.card.proofs.Length.{used_slots, records_length}
 use Rattle.writer.proofs.Laid.{and_then}
-use Rattle.writer.proofs.Whole.{waiting_writing, short_writing, whole_writing}
+use Rattle.writer.proofs.Whole.{waiting_writing, measured_short, measured_whole}
 use Rattle.writer.proofs.write.Goals as goal
 
 pub returns-in_err-used : goal.returns-in_err-used
@@ -27,7 +27,7 @@ overflow_add-used-2 c =
 pub returns-then-out-used : goal.returns-then-out-used
 returns-then-out-used c =
     let a = c.args in
-    short_writing a.card.now.table a.card.now.request a.out.now c.in_ok-used.used c.in_ok-used.ensures c.if-out-used.true c.new.result c.new.ensures
+    measured_short a.card.now.table a.card.now.request a.out.now c.in_ok-used.used c.in_ok-used.ensures c.if-out-used.true c.new.result c.new.ensures
 
 pub put_records-at-requires : goal.put_records-at-requires
 put_records-at-requires c =
@@ -37,5 +37,5 @@ put_records-at-requires c =
 pub returns : goal.returns
 returns c =
     let a = c.args in
-    whole_writing a.card.now.table a.card.now.request a.out.now c.in_ok-used.used c.in_ok-used.ensures c.if-out-used.false _ _
+    measured_whole a.card.now.table a.card.now.request a.out.now c.in_ok-used.used c.in_ok-used.ensures c.if-out-used.false _ _
     (and_then c.put_clock-at.ensures (and_then c.put_records-at.ensures c.put_request.ensures))
