@@ -6,8 +6,8 @@ ghost use Rattle.std.specs.Prelude.{◌≡◌, ◌+◌, ◌≤◌};
 
 use std::io::Read;
 
-// The lines that have not been written yet, gathered in fixed memory: with a write for each line a run took a quarter more time to a file, and near twice
-// as long to a pipe.
+// The lines that have not been written yet, gathered in fixed memory: with a write for each line a run took a quarter more time to a file, and half as much
+// again to a pipe.
 #[derive(Drop)]
 struct Lines {
     bytes: [u8; 4096],
