@@ -65,8 +65,8 @@ pub fn ready(t: Table) -> Returned
     Returned::granted(0, u64::from(board::ready_word(t)))
 }
 
-// R98: the clock of a table, and its eighteen counts into the lent numbers. The counts are taken out of the table first: copied from where they stand in
-// it, the whole table was copied too, and a call took a third longer.
+// R98: the clock of a table, and its eighteen counts into the lent numbers. The counts are taken out of the table first: where they
+// were copied from it, the compiler copied the whole table, and a call took a third longer.
 pub fn counts(t: Table, out: &mut [u64; 18]) -> Returned
     ensures { (result ≡ granted_as 0 t.clock) × (out.new ≡ all_counts t) }
 {

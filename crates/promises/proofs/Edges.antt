@@ -1,5 +1,5 @@
 -- The edges of the promises: each strictness with an example on each side of it.
-use Rattle.std.specs.Prelude.{Ok, None, Some}
+use Rattle.std.specs.Prelude.{Ok, Err, None, Some}
 use Prim.Native.Nat.{ℕ, zero, suc, ◌+◌, ◌-◌, ◌^◌, ◌≤◌, ◌<◌}
 use mathlib.Core.Path.{◌≡◌, refl}
 use mathlib.Core.List.{List, [], ◌∷◌, ◌++◌, map}
@@ -15,22 +15,53 @@ use Rattle.line.specs.Demand.{last_end}
 use Rattle.line.specs.Shares.{periods_in}
 use Rattle.line.specs.Ends.{ends_of, slack, bound, greatest, soonest_of, first_short, start}
 use Rattle.line.proofs.Search.{true_false}
-use Rattle.table.specs.Words.{request_with, empty_table}
+use Rattle.table.specs.Words.{request_with, empty_table, refusal, Said}
 use Rattle.table.specs.Ask.{ask_in, ask_of}
 use Rattle.table.specs.Counts.{settling}
 use Rattle.table.specs.Step.{Earliest, chosen, advance, step_of}
 use Rattle.table.specs.Leave.{leave_of}
 use Rattle.table.specs.Runs.{Act, asking, admitting, stepping, leaving, run, trace, times, idles, since}
 use Rattle.table.specs.Cases.{running, table_of, case_a}
+use Rattle.card.specs.declared.Reading.{Reading}
+use Rattle.card.specs.Bytes.{marked}
+use Rattle.card.specs.Card.{card_of, carrying}
+use Rattle.card.specs.Reading.{record_of, records_of, read_with, read_of}
+use Rattle.card.specs.Twin.{turned_with}
+use Rattle.image.specs.Image.{image_of}
+use Rattle.image.specs.Loading.{blank_from, slots_wrong, length_wrong, wrong_in, held_in, load_with, load_of}
+use Rattle.promises.specs.Operations.{TriesRead, TriesLoad}
 use Rattle.promises.specs.Demand1.{OnlyTen}
 use Rattle.promises.specs.Demand3.{admitted_table, Unstretched, Unremoved, Misses, Sixteen}
 use Rattle.theory.proofs.Step.{choose_earliest}
 use Rattle.promises.specs.Last.{Got, ran_table}
 use Rattle.promises.specs.Counted.{Unplaced, Occupied}
 use Rattle.promises.specs.Example.{to_case_a, on_from_case_a}
+use Rattle.promises.proofs.Demand1.{fixed_answer, refusal_keeps}
 use Rattle.promises.proofs.Demand3.{has_all_its_need}
 use Rattle.promises.proofs.Example.{case_a_admitted}
 use Rattle.promises.proofs.Last.{who_ran_goes_on}
+
+-- ---- what is read and loaded
+
+-- R71, R56: whatever try_read answers to case A's card is that card, with no slot named
+pub tried_card : (s : Said Reading) → TriesRead (card_of case_a.table case_a.request) s → s ≡ Ok (record { card = carrying case_a.table case_a.request; turned = 0 })
+unfolding card_of marked record_of records_of read_with turned_with
+tried_card s h = fixed_answer.try_read (card_of case_a.table case_a.request) s _ h refl
+
+-- R71, R17, R57: whatever it answers to no bytes is refusal 11 at 0, and so they are refused
+pub untried_card : (s : Said Reading) → TriesRead [] s → (s ≡ Err (refusal 11 0)) × (read_of [] ≡ Err (refusal 11 0))
+unfolding marked record_of records_of read_with turned_with
+untried_card s h = let e = fixed_answer.try_read [] s (Err (refusal 11 0)) h refl in (e, refusal_keeps.try_read [] s (refusal 11 0) h e)
+
+-- R71, R83: whatever try_load answers to the empty table's image is the empty table
+pub tried_image : (s : Said Table) → TriesLoad (image_of empty_table) s → s ≡ Ok empty_table
+unfolding image_of blank_from slots_wrong length_wrong wrong_in held_in load_with lowest
+tried_image s h = fixed_answer.try_load (image_of empty_table) s (Ok empty_table) h refl
+
+-- R71, R17, R83: whatever it answers to no bytes is refusal 11 at 0, and so they are refused
+pub untried_image : (s : Said Table) → TriesLoad [] s → (s ≡ Err (refusal 11 0)) × (load_of [] ≡ Err (refusal 11 0))
+unfolding blank_from slots_wrong length_wrong wrong_in held_in load_with
+untried_image s h = let e = fixed_answer.try_load [] s (Err (refusal 11 0)) h refl in (e, refusal_keeps.try_load [] s (refusal 11 0) h e)
 
 -- ---- who ran goes on
 

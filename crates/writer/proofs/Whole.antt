@@ -84,7 +84,8 @@ module _ (t : Table) (q : Request) (l : List ℕ) where
     -- R54: the parts are the card
     measured_card : clock_record t.clock ++ (slot_records u.slots t.slots q.stretched ++ request_record q.need q.period) ≡ card_of t q
     unfolding card_of
-    measured_card = ap (λ (j : ℕ). clock_record t.clock ++ (slot_records j t.slots q.stretched ++ request_record q.need q.period)) w.1
+    measured_card =
+        sym (append_assoc (clock_record t.clock) (slot_records u.slots t.slots q.stretched) (request_record q.need q.period)) ∙ parts_card t q u.slots w.1
 
     -- R59: the buffer m holds the parts, and the card's length is answered
     pub measured_whole : clock_length + u.length + last_length ≤ length l → (m : List ℕ) (n : ℕ)
